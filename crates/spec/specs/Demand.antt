@@ -1,0 +1,85 @@
+-- "What demand 3 says of every history".
+use Rattle.spec.specs.Prelude.{ℕ, _+_, _%_, _≤_, _<_, _≡_, true, false, List, [], _∷_, length, getD}
+use lib.Bits.{bitAnd}
+use Rattle.spec.specs.Step.{Image, Step, program, erase, apply}
+use Rattle.spec.specs.Basics.{Each}
+use Rattle.spec.specs.Record.{name-ok}
+use Rattle.spec.specs.Answers.{format, mount, get, list, part-of, mount-plan}
+use Rattle.spec.specs.History.{Request, Call, outcome, replay, steps-of, steps-done, File, Ledger, has, ledger}
+
+-- ---- bytes only lose bits
+
+-- "the byte listed for it has no bit set that is clear in the byte it finds"
+abbrev pub Clears : ℕ → ℕ → Type 0
+Clears found listed = bitAnd listed found ≡ listed
+
+-- what may be asked of the step of a list: the byte that a program step finds is there, and loses bits only; an erase takes a sector of the image
+abbrev pub Sound : Image → Step → Type 0
+Sound image (program a b) = (a < length image) × Clears (getD image a 0) b
+Sound image (erase a) = (a % 4096 ≡ 0) × (a + 4096 ≤ length image)
+
+-- so of each step of a list
+abbrev pub Steps-sound : Image → List Step → Type 0
+Steps-sound image [] = Unit {0}
+Steps-sound image (s ∷ ss) = Sound image s × Steps-sound (apply image s) ss
+
+-- so of each call of a history; "each program step in it .. stands in one of the step lists above" by definition: the steps done are the first of its plan's
+abbrev pub Calls-sound : Image → List Call → Type 0
+Calls-sound image [] = Unit {0}
+Calls-sound image (c ∷ cs) = Steps-sound image (steps-done image c) × Calls-sound (outcome image c .image) cs
+
+-- ---- what mount shows
+
+-- list gives this name at this index
+abbrev pub Lists : Image → ℕ → List ℕ → Type 0
+Lists image i name = (list image i .numbers .answer ≡ 0) × (part-of image (list image i .numbers) ≡ name)
+
+-- "list gives each of these names once, with its content's length, at the indexes below that count"
+pub record Listed (image : Image) (count : ℕ) (f : File) : Type 0 where
+  pub index : ℕ
+  pub below : index < count
+  pub there : Lists image index (f .name)
+  pub size : list image index .numbers .third ≡ length (f .content)
+  pub once : (i : ℕ) → i < count → Lists image i (f .name) → i ≡ index
+
+-- "get gives each its content"
+pub record Got (image : Image) (f : File) : Type 0 where
+  pub answer : get image (f .name) .numbers .answer ≡ 0
+  pub content : part-of image (get image (f .name) .numbers) ≡ f .content
+
+-- an image that has exactly the ledger's files, on which mount counted so many;
+-- "get of any other name that passes the name check is 2"
+pub record Shows (image : Image) (count : ℕ) (l : Ledger) : Type 0 where
+  pub counted : count ≡ length l
+  pub listed : Each (Listed image count) l
+  pub got : Each (Got image) l
+  pub others : (name : List ℕ) → name-ok name ≡ true → has name l ≡ false → get image name .numbers .answer ≡ 2
+
+-- "That mount, with an allowance of at least its need, answers 0. Its count of live files is the number of names in the ledger. On the image that it leaves, .."
+pub record Mounted (image : Image) (k : ℕ) (l : Ledger) : Type 0 where
+  pub answer : mount image k .numbers .answer ≡ 0
+  pub shows : Shows (mount image k .image) (mount image k .numbers .third) l
+
+-- all of it, for a history that begins at `start`, leaves `image` and has the ledger `l`; a mount with a smaller allowance does the first of the same steps
+pub record Kept (start : Image) (calls : List Call) (image : Image) (l : Ledger) : Type 0 where
+  pub sound : Calls-sound start calls
+  pub sound-after : Steps-sound image (steps-of (mount-plan image))
+  pub mounted : (k : ℕ) → length (steps-of (mount-plan image)) ≤ k → Mounted image k l
+
+-- ---- the demand
+
+-- a call's content is bytes
+abbrev pub Bytes-put : Request → Type 0
+Bytes-put (Request.put name content) = Each (λ b. b < 256) content
+Bytes-put (Request.remove name) = Unit {0}
+Bytes-put Request.sweep = Unit {0}
+Bytes-put Request.mount = Unit {0}
+Bytes-put (Request.get name) = Unit {0}
+Bytes-put (Request.list index) = Unit {0}
+
+-- Demand 3, "a single claim about the whole history": "it starts from the image that a format with answer 0 left"; the ledger "starts empty"
+abbrev pub Demand-3 : Type 0
+Demand-3 =
+    (raw : Image) (k : ℕ) (calls : List Call) → format raw k .numbers .answer ≡ 0 → Each (λ c. Bytes-put (c .request)) calls →
+    let start = format raw k .image in
+    Kept start calls (replay start calls) (ledger start calls [])

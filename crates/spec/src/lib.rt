@@ -1,0 +1,80 @@
+// Document 01 as definitions (specs/), and the types and named bytes that all layers share.
+// Nothing here reads or writes an image; the layers above are proved against what stands here.
+ghost use mathlib.Core.Path.{_≡_};
+
+// What the first four bytes say of what stands there.
+pub enum Kind {
+    Record,
+    Reserved,
+    Torn,
+    Marker,
+    TornMarker,
+    Clear,
+    Bad,
+}
+
+// What stands at the front of a part: a record with the lengths of its name and of its data, a wrap marker,
+// a torn one, eight FF bytes, nothing at all, or what breaks a rule.
+pub enum Next {
+    Record(usize, usize),
+    Wrap,
+    TornWrap,
+    Clear,
+    Over,
+    Bad,
+}
+
+// How a chain ends: at its tail, with a torn wrap at this address, or by a broken rule.
+pub enum Ending {
+    Tail,
+    TornWrap(usize),
+    Broken,
+}
+
+// Where the next record may go: head, tail, whether the chain has turned, the image's length.
+pub struct Place {
+    pub head: usize,
+    pub tail: usize,
+    pub turned: bool,
+    pub length: usize,
+}
+
+// A record's status byte.
+pub struct Status {
+    pub byte: u8,
+}
+
+impl Status {
+    pub const ERASED: Status = Status { byte: 0xFF };
+
+    pub const RESERVED: Status = Status { byte: 0xFE };
+
+    pub const COMMITTED: Status = Status { byte: 0xFC };
+
+    pub const MIGRATING: Status = Status { byte: 0xF8 };
+
+    pub const WRAP: Status = Status { byte: 0xF0 };
+
+    pub const WEAR: Status = Status { byte: 0xE0 };
+
+    pub const DELETED: Status = Status { byte: 0x00 };
+
+    pub fn from_byte(byte: u8) -> Status
+        ensures { λ r. ⌜ r .byte ≡ byte ⌝ }
+    {
+        Status { byte: byte }
+    }
+}
+
+// A sector's length.
+pub const SECTOR: usize = 4096;
+// The second byte of every magic.
+pub const HIGH: u8 = 0x5A;
+// The first byte of a record's magic, of START's, of CLEAN's and of a wrap marker's.
+pub const RECORD: u8 = 0xA5;
+
+pub const START: u8 = 0x00;
+
+pub const CLEAN: u8 = 0xA0;
+
+pub const WRAP: u8 = 0xFA;
