@@ -68,9 +68,13 @@ numbers-are m n h =
     let r = and-left (t && u && v) w q in
     let s = and-left (t && u) v r in
     λ i.
-      record { answer = f (m .answer) (n .answer) (and-left t u s) i; first = f (m .first) (n .first) (and-right t u s) i;
-        second = f (m .second) (n .second) (and-right (t && u) v r) i; third = f (m .third) (n .third) (and-right (t && u && v) w q) i;
-        steps = f (m .steps) (n .steps) (and-right (t && u && v && w) x h) i }
+    record {
+      answer = f (m .answer) (n .answer) (and-left t u s) i;
+      first = f (m .first) (n .first) (and-right t u s) i;
+      second = f (m .second) (n .second) (and-right (t && u) v r) i;
+      third = f (m .third) (n .third) (and-right (t && u && v) w q) i;
+      steps = f (m .steps) (n .steps) (and-right (t && u && v && w) x h) i;
+    }
 
 case-holds : (c : Case) → holds c ≡ true → Holds c
 unfolding holds
