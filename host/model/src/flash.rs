@@ -1,0 +1,58 @@
+//! Flash steps: "Every change to the image goes through two functions, one that
+//! programs one byte and one that erases one sector".
+use crate::geometry::SECTOR;
+use crate::log;
+
+#[derive(Clone, Copy, PartialEq, Eq, Debug)]
+pub enum Step {
+    /// program one byte: address, byte
+    Program(u64, u8),
+    /// erase the sector that starts at this address
+    Erase(u64),
+}
+
+/// One step on an image. Nothing else in the model writes one.
+fn apply(img: &mut [u8], step: Step) {
+    match step {
+        Step::Program(a, b) => img[a as usize] = b,
+        Step::Erase(a) => img[a as usize..(a + SECTOR) as usize].fill(0xFF),
+    }
+}
+
+/// "A call cut after k steps stands as that call with allowance k": the first
+/// `allowance` steps of a list are done. Gives their number.
+pub fn carry_out(img: &mut [u8], steps: &[Step], allowance: u64) -> u64 {
+    let done = allowance.min(steps.len() as u64);
+    for &step in &steps[..done as usize] {
+        let (Step::Program(a, _) | Step::Erase(a)) = step;
+        log::add(step, img[a as usize]);
+        apply(img, step);
+    }
+    done
+}
+
+/// A copy of the image on which a step list is worked out: later steps may
+/// depend on bytes that earlier ones wrote.
+pub struct Draft {
+    pub img: Vec<u8>,
+    pub steps: Vec<Step>,
+}
+
+impl Draft {
+    pub fn new(img: &[u8]) -> Draft {
+        Draft { img: img.to_vec(), steps: Vec::new() }
+    }
+
+    pub fn add(&mut self, step: Step) {
+        apply(&mut self.img, step);
+        self.steps.push(step);
+    }
+
+    pub fn program(&mut self, a: u64, b: u8) {
+        self.add(Step::Program(a, b));
+    }
+
+    pub fn erase(&mut self, a: u64) {
+        self.add(Step::Erase(a));
+    }
+}

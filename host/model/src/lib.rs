@@ -1,0 +1,30 @@
+//! Document 01 read literally, as a program: what each call answers and leaves.
+//!
+//! One module for each of its sections; quoted text is the document's own.
+//! Where the document leaves a choice, the number of the entry in docs/DECISIONS.md
+//! stands in brackets, as in (decision 6).
+//!
+//! The model is the oracle of the tests. It is written for reading, not for
+//! speed: a call works its step list out on a copy of the image, and the list
+//! is then carried out as far as the allowance goes.
+
+pub mod calls;
+pub mod chain;
+pub mod faults;
+pub mod files;
+pub mod flash;
+pub mod geometry;
+pub mod head;
+pub mod log;
+pub mod place;
+pub mod repair;
+pub mod rules;
+pub mod sweep;
+pub mod write;
+
+pub use calls::{format, get, list, mount, put, remove, sweep, Reply};
+pub use chain::{read_chain, Chain, Record};
+pub use geometry::*;
+pub use head::{find_head, walk};
+pub use place::{put_room, Place, Placed};
+pub use rules::{read_image, settled};

@@ -1,0 +1,50 @@
+//! "Placing": whether and where a size fits, and the room that a put is given.
+use crate::chain::Chain;
+use crate::faults::{self, Fault};
+use crate::geometry::*;
+
+/// Where the next record may go.
+#[derive(Clone, Copy, Debug)]
+pub struct Place {
+    pub head: u64,
+    pub tail: u64,
+    pub turned: bool,
+    pub length: u64,
+}
+
+/// A size that fits: its address, the marker's if one is needed, the place after it.
+#[derive(Clone, Copy, Debug)]
+pub struct Placed {
+    pub at: u64,
+    pub marker: Option<u64>,
+    pub next: Place,
+}
+
+impl Place {
+    /// "Size s fits: before the turn at T if T+s ≤ N, else at 0 if s ≤ floor(h),
+    /// with a wrap marker at T if T < N; after the turn at T if T+s ≤ floor(h)."
+    pub fn fit(self, s: u64) -> Option<Placed> {
+        let room = if faults::seeded(Fault::TailInHeadSector) { self.head } else { floor(self.head) };
+        let end = if self.turned { room } else { self.length };
+        if self.tail.saturating_add(s) <= end {
+            return Some(Placed { at: self.tail, marker: None, next: Place { tail: self.tail + s, ..self } });
+        }
+        if self.turned || s > room {
+            return None;
+        }
+        let marker = (self.tail < self.length).then_some(self.tail);
+        Some(Placed { at: 0, marker, next: Place { tail: s, turned: true, ..self } })
+    }
+}
+
+/// "Put is given room exactly if s fits and, after that, two more records of the
+/// largest size among the live files (the new one in, the replaced one out) fit
+/// one after the other." (decision 24)
+pub fn put_room(img: &[u8], c: &Chain, name: &[u8], data_len: u64) -> Option<Placed> {
+    let s = size_of(name.len() as u64, data_len);
+    let placed = c.place(img.len() as u64).fit(s)?;
+    let others = c.live().filter(|r| r.name(img) != name).map(|r| r.size);
+    let largest = others.fold(s, u64::max);
+    placed.next.fit(largest)?.next.fit(largest)?;
+    Some(placed)
+}

@@ -1,0 +1,186 @@
+//! Every line of "Cases, N = 8,192", with the bytes worked out by hand.
+use model::*;
+
+const N: usize = 8192;
+const ALL: u64 = u64::MAX;
+
+/// The record that format writes, 16 bytes with its padding.
+const FIRST: [u8; 16] = [0x00, 0x5A, 0x00, 0xFF, 0, 0, 0, 0, 0, 0xFF, 0xFF, 0xFF, 0xFF, 0xFF, 0xFF, 0xFF];
+/// "At 16", after the put of "dose".
+const DOSE: [u8; 24] = [
+    0xA5, 0x5A, 0xFC, 0xFF, 0x03, 0x00, 0x00, 0x00, 0x64, 0x6F, 0x73, 0x65, 0x00, 0xFF, 0xFF, 0xFF, 0x01, 0x02, 0x03,
+    0xFF, 0xFF, 0xFF, 0xFF, 0xFF,
+];
+
+/// An image that begins with these pieces and is FF from there on.
+fn image(pieces: &[&[u8]]) -> Vec<u8> {
+    let mut img = pieces.concat();
+    img.resize(N, 0xFF);
+    img
+}
+
+/// These bytes with some of them changed: (place, byte).
+fn edited(bytes: &[u8], changes: &[(usize, u8)]) -> Vec<u8> {
+    let mut v = bytes.to_vec();
+    for &(at, b) in changes {
+        v[at] = b;
+    }
+    v
+}
+
+fn fresh() -> Vec<u8> {
+    let mut img = vec![0x33; N];
+    assert_eq!(format(&mut img, ALL), Reply { steps: 2 + 8, ..Reply::default() });
+    img
+}
+
+fn put_dose(img: &mut [u8], data: &[u8; 3], allowance: u64, answer: u32, steps: u64) {
+    assert_eq!(put(img, b"dose", data, allowance), Reply { steps, ..Reply::refusal(answer) });
+}
+
+fn dose() -> Vec<u8> {
+    let mut img = fresh();
+    put_dose(&mut img, &[1, 2, 3], ALL, 0, 16);
+    img
+}
+
+fn mounts(img: &mut [u8], h: u64, t: u64, files: u64, steps: u64) {
+    assert_eq!(mount(img, ALL), Reply { answer: 0, first: h, second: t, third: files, steps });
+}
+
+/// "At 16" after a put of "dose" to a fresh image was cut at k and mounted.
+fn cut_and_mounted(k: u64, t: u64, steps: u64, after_cut: &[u8], after_mount: &[u8]) {
+    let mut img = fresh();
+    put_dose(&mut img, &[1, 2, 3], k, 4, k);
+    assert_eq!(img, image(&[&FIRST, after_cut]), "cut at {k}");
+    assert_eq!(get(&img, b"dose"), Reply::refusal(16));
+    mounts(&mut img, 0, t, 0, steps);
+    assert_eq!(img, image(&[&FIRST, after_mount]), "cut at {k}, mounted");
+    assert_eq!(get(&img, b"dose"), Reply::refusal(2));
+}
+
+#[test]
+fn all_ff_is_6() {
+    let mut img = image(&[]);
+    assert_eq!(mount(&mut img, ALL), Reply::refusal(6));
+    assert_eq!(img, image(&[]));
+}
+
+#[test]
+fn bad_lengths_are_22() {
+    for n in [0, 1, 4096, 8193, 16_777_216 + 4096] {
+        let mut img = vec![0xFF; n];
+        let replies = [
+            mount(&mut img, ALL),
+            format(&mut img, ALL),
+            put(&mut img, b"a", b"", ALL),
+            get(&img, b"a"),
+            list(&img, 0),
+            remove(&mut img, b"a", ALL),
+            sweep(&mut img, ALL),
+        ];
+        assert_eq!(replies, [Reply::refusal(22); 7], "N = {n}");
+        assert!(all_ff(&img));
+    }
+}
+
+#[test]
+fn after_format() {
+    let mut img = fresh();
+    assert_eq!(img, image(&[&FIRST]));
+    mounts(&mut img, 0, 16, 0, 0);
+}
+
+#[test]
+fn first_put() {
+    let mut img = dose();
+    assert_eq!(img, image(&[&FIRST, &DOSE]));
+    mounts(&mut img, 0, 40, 1, 0);
+}
+
+#[test]
+fn cuts_of_the_first_put() {
+    let torn_done = [0xA5, 0x5A, 0x00, 0xFF, 0, 0, 0, 0, 0];
+    cut_and_mounted(1, 32, 7, &[0xA5], &torn_done);
+    let header = [0xA5, 0x5A, 0xFE, 0xFF, 3, 0, 0, 0];
+    let voided = [0xA5, 0x5A, 0x00, 0xFF, 3, 0, 0, 0];
+    cut_and_mounted(7, 40, 2, &header, &[&voided[..], &[0]].concat());
+    cut_and_mounted(12, 40, 1, &[&header[..], b"dose\0"].concat(), &[&voided[..], b"dose\0"].concat());
+    cut_and_mounted(15, 40, 1, &edited(&DOSE, &[(2, 0xFE)]), &edited(&DOSE, &[(2, 0x00)]));
+    let mut img = fresh();
+    put_dose(&mut img, &[1, 2, 3], 16, 0, 16);
+}
+
+#[test]
+fn replacing() {
+    let second = edited(&DOSE, &[(16, 4), (17, 5), (18, 6)]);
+    let old = |status| edited(&DOSE, &[(2, status)]);
+    let mut img = dose();
+    put_dose(&mut img, &[4, 5, 6], ALL, 0, 18);
+    assert_eq!(img, image(&[&FIRST, &old(0x00), &second]));
+    // "Cut at 16: old"
+    let mut img = dose();
+    put_dose(&mut img, &[4, 5, 6], 16, 4, 16);
+    assert_eq!(img, image(&[&FIRST, &old(0xF8), &edited(&second, &[(2, 0xFE)])]));
+    mounts(&mut img, 0, 64, 1, 1);
+    assert_eq!(img, image(&[&FIRST, &old(0xF8), &edited(&second, &[(2, 0x00)])]));
+    assert_eq!(get(&img, b"dose"), Reply { first: 32, second: 3, ..Reply::default() });
+    // "at 17: new, mount takes 1"
+    let mut img = dose();
+    put_dose(&mut img, &[4, 5, 6], 17, 4, 17);
+    assert_eq!(img, image(&[&FIRST, &old(0xF8), &second]));
+    mounts(&mut img, 0, 64, 1, 1);
+    assert_eq!(img, image(&[&FIRST, &old(0x00), &second]));
+    assert_eq!(get(&img, b"dose"), Reply { first: 56, second: 3, ..Reply::default() });
+}
+
+#[test]
+fn room_of_the_first_put() {
+    // 16 + 3 * (8 + 8 + 2704) = 8176; with 2705 bytes it would be 8200
+    let mut img = fresh();
+    let steps = 4 + 2704 + 9;
+    assert_eq!(put(&mut img, b"dose", &[7; 2704], ALL), Reply { steps, ..Reply::default() });
+    mounts(&mut img, 0, 2736, 1, 0);
+    let mut img = fresh();
+    assert_eq!(put(&mut img, b"dose", &[7; 2705], ALL), Reply::refusal(28));
+    assert_eq!(img, image(&[&FIRST]));
+}
+
+#[test]
+fn sweep_after_the_first_put() {
+    for (data, cleaned, steps) in [([1, 2, 3], [1, 2, 3], 24), ([0x00, 0x5A, 3], [0x00, 0x00, 3], 25)] {
+        let mut img = fresh();
+        put_dose(&mut img, &data, ALL, 0, 16);
+        assert_eq!(sweep(&mut img, ALL), Reply { first: 2, steps, ..Reply::default() });
+        let first = edited(&FIRST, &[(1, 0x00)]);
+        let old = edited(&DOSE, &[(0, 0x00), (1, 0x00), (2, 0x00), (16, cleaned[0]), (17, cleaned[1])]);
+        let copy = edited(&DOSE, &[(0, 0x00), (16, data[0]), (17, data[1])]);
+        assert_eq!(img, image(&[&first, &old, &copy]));
+        mounts(&mut img, 40, 64, 1, 0);
+    }
+}
+
+#[test]
+fn names_and_empty_content() {
+    let mut img = fresh();
+    assert_eq!(put(&mut img, &[b'x'; 63], b"1", ALL), Reply { steps: 63 + 1 + 9, ..Reply::default() });
+    let before = img.clone();
+    for bad in [&[b'x'; 64][..], b"a/", b"", b"a b", b"\x7F", b"\x20"] {
+        assert_eq!(put(&mut img, bad, b"1", ALL), Reply::refusal(22));
+        assert_eq!(get(&img, bad), Reply::refusal(22));
+        assert_eq!(remove(&mut img, bad, ALL), Reply::refusal(22));
+    }
+    assert_eq!(img, before);
+    assert_eq!(put(&mut img, b"e", b"", ALL), Reply { steps: 1 + 9, ..Reply::default() });
+    // the first at 16, with 8 + 64 + 8 bytes; the second at 96
+    assert_eq!(get(&img, &[b'x'; 63]), Reply { first: 88, second: 1, ..Reply::default() });
+    assert_eq!(get(&img, b"e"), Reply { first: 112, second: 0, ..Reply::default() });
+    assert_eq!(list(&img, 0), Reply { first: 24, second: 63, third: 1, ..Reply::default() });
+    assert_eq!(list(&img, 1), Reply { first: 104, second: 1, third: 0, ..Reply::default() });
+    assert_eq!(list(&img, 2), Reply::refusal(2));
+    // "Remove: status 00, one step"
+    assert_eq!(remove(&mut img, b"e", 0), Reply::refusal(4));
+    assert_eq!(remove(&mut img, b"e", 1), Reply { steps: 1, ..Reply::default() });
+    assert_eq!(img[96..104], [0xA5, 0x5A, 0x00, 0xFF, 0, 0, 0, 0]);
+    assert_eq!(remove(&mut img, b"e", 1), Reply::refusal(2));
+}

@@ -1,0 +1,102 @@
+//! A call with its arguments, and what carries it out.
+use crate::ALL;
+use model::{log, Reply};
+
+#[derive(Clone, Debug, PartialEq)]
+pub enum Call {
+    Put(Vec<u8>, Vec<u8>, u64),
+    Remove(Vec<u8>, u64),
+    Sweep(u64),
+    Mount(u64),
+    Get(Vec<u8>),
+    List(u64),
+    Format(u64),
+}
+
+impl Call {
+    pub const KINDS: [&'static str; 7] = ["format", "mount", "put", "get", "list", "remove", "sweep"];
+
+    pub fn kind(&self) -> &'static str {
+        match self {
+            Call::Put(..) => "put",
+            Call::Remove(..) => "remove",
+            Call::Sweep(_) => "sweep",
+            Call::Mount(_) => "mount",
+            Call::Get(_) => "get",
+            Call::List(_) => "list",
+            Call::Format(_) => "format",
+        }
+    }
+
+    /// Get and list do no step and take no allowance.
+    pub fn allowance(&self) -> u64 {
+        match self {
+            Call::Put(_, _, k) | Call::Remove(_, k) => *k,
+            Call::Sweep(k) | Call::Mount(k) | Call::Format(k) => *k,
+            Call::Get(_) | Call::List(_) => 0,
+        }
+    }
+
+    pub fn with_allowance(&self, allowance: u64) -> Call {
+        let mut call = self.clone();
+        match &mut call {
+            Call::Put(_, _, k) | Call::Remove(_, k) => *k = allowance,
+            Call::Sweep(k) | Call::Mount(k) | Call::Format(k) => *k = allowance,
+            Call::Get(_) | Call::List(_) => {}
+        }
+        call
+    }
+
+    /// On the model.
+    pub fn run(&self, img: &mut [u8]) -> Reply {
+        match self {
+            Call::Put(name, data, k) => model::put(img, name, data, *k),
+            Call::Remove(name, k) => model::remove(img, name, *k),
+            Call::Sweep(k) => model::sweep(img, *k),
+            Call::Mount(k) => model::mount(img, *k),
+            Call::Get(name) => model::get(img, name),
+            Call::List(index) => model::list(img, *index),
+            Call::Format(k) => model::format(img, *k),
+        }
+    }
+
+    /// The steps that this call does with every allowance it could want.
+    pub fn need(&self, img: &[u8]) -> u64 {
+        match self {
+            Call::Get(_) | Call::List(_) => 0,
+            _ => self.with_allowance(ALL).run(&mut img.to_vec()).steps,
+        }
+    }
+}
+
+/// What carries out calls: the model here, a library in a comparison.
+pub trait Store {
+    /// The reply, or what was wrong with the steps of the call.
+    fn call(&self, img: &mut [u8], call: &Call) -> Result<Reply, String>;
+}
+
+pub struct Model;
+
+impl Store for Model {
+    /// The steps done are the ones reported, and "the byte listed for it has no
+    /// bit set that is clear in the byte it finds".
+    fn call(&self, img: &mut [u8], call: &Call) -> Result<Reply, String> {
+        log::start();
+        let reply = call.run(img);
+        let done = log::take();
+        if done.len() as u64 != reply.steps {
+            return Err(format!("{} steps done, {} reported", done.len(), reply.steps));
+        }
+        match done.iter().find(|d| !d.clears()) {
+            Some(d) => Err(format!("{:02x?} over {:02x}", d.step, d.found)),
+            None => Ok(reply),
+        }
+    }
+}
+
+/// A formatted image.
+pub fn formatted(n: usize) -> Vec<u8> {
+    let mut img = vec![0xA5; n];
+    assert_eq!(model::format(&mut img, ALL).answer, 0);
+    img
+}

@@ -1,0 +1,19 @@
+//! What all testers share: random numbers, calls and images, the ledger of
+//! document 01 and the check of demand 3, the facts expected of histories.
+
+pub mod aimed;
+pub mod call;
+pub mod facts;
+pub mod history;
+pub mod images;
+pub mod ledger;
+pub mod maker;
+pub mod rng;
+
+/// An allowance that no call uses up.
+pub const ALL: u64 = u64::MAX;
+
+/// The n-th word of the command line as a number, or `default`.
+pub fn argument(n: usize, default: u64) -> u64 {
+    std::env::args().nth(n).map_or(default, |x| x.parse().expect("a number"))
+}

@@ -1,0 +1,156 @@
+//! The test helper Run.antt: what a vector computes. It unfolds every name of the
+//! definitions that can be unfolded.
+use std::path::Path;
+
+const HEAD: &str = "-- What a vector computes.
+use Prim.Native.Nat.{ℕ, zero, suc, _+_}
+use mathlib.Core.Bool.{Bool, true, false, _&&_, not}
+use mathlib.Core.List.{List, [], _∷_, _++_}
+use lib.ListN.{length, take, drop, replicate, set, getD}
+use lib.Dec.{eqb}
+use lib.Bits.{bitAnd}
+use Rattle.spec.specs.Answers.{Numbers, Outcome, format, part-of}
+use Rattle.spec.specs.History.{Request, put, remove, sweep, mount, get, list, Call, outcome, replay, steps-done, steps-of, File, Ledger, ledger}
+use Rattle.spec.specs.Step.{Step, program, erase, apply}
+use Rattle.spec.specs.declared.Place.{Place}
+";
+
+const BODY: &str = "
+pub data Piece : Type 0 where
+  fill : ℕ → ℕ → Piece
+  lit : List ℕ → Piece
+
+-- n times b, in front of s: one pass, where an append would take two
+abbrev pub filled : ℕ → ℕ → List ℕ → List ℕ
+filled zero b s = s
+filled (suc n) b s = b ∷ filled n b s
+
+abbrev pub build : List Piece → List ℕ
+build [] = []
+build (fill n b ∷ ps) = filled n b (build ps)
+build (lit s ∷ ps) = s ++ build ps
+
+abbrev pub call : Request → ℕ → Call
+call r k = record { request = r; allowance = k }
+
+abbrev pub file : List ℕ → List ℕ → File
+file n c = record { name = n; content = c }
+
+-- the five numbers of a reply
+abbrev pub told : Numbers → ℕ → ℕ → ℕ → ℕ → ℕ → Bool
+told n r a b c k = eqb (n .answer) r && eqb (n .first) a && eqb (n .second) b && eqb (n .third) c && eqb (n .steps) k
+
+abbrev pub right : Outcome → ℕ → ℕ → ℕ → ℕ → ℕ → List ℕ → Bool
+right o r a b c k m = told (o .numbers) r a b c k && Basics.same (o .image) m
+
+unfoldable pub check : List Piece → ℕ → Request → ℕ → ℕ → ℕ → ℕ → ℕ → List Piece → Bool
+unfolding NAMES
+check before allowed q r x y z k after = right (outcome (build before) (call q allowed)) r x y z k (build after)
+
+unfoldable pub check-format : List Piece → ℕ → ℕ → ℕ → ℕ → ℕ → ℕ → List Piece → Bool
+unfolding NAMES
+check-format before allowed r x y z k after = right (format (build before) allowed) r x y z k (build after)
+
+-- get and list: the numbers, the image as it was, and the part
+abbrev pub part-right : List ℕ → Outcome → ℕ → ℕ → ℕ → ℕ → ℕ → List ℕ → Bool
+part-right m o r x y z k p = right o r x y z k m && Basics.same (part-of m (o .numbers)) p
+
+unfoldable pub check-part : List Piece → Request → ℕ → ℕ → ℕ → ℕ → ℕ → List Piece → Bool
+unfolding NAMES
+check-part before q r x y z k part = part-right (build before) (outcome (build before) (call q 0)) r x y z k (build part)
+
+-- two tests agree
+abbrev pub agree : Bool → Bool → Bool
+agree true b = b
+agree false b = not b
+
+abbrev pub place-right : Place → ℕ → ℕ → Bool → ℕ → Bool → Bool
+place-right p s at marker tail turned =
+    let q = Place.place-after p s in
+    eqb (Place.address p s) at && agree (Place.with-marker p s) marker && eqb (q .tail) tail && agree (q .turned) turned
+
+abbrev pub place : ℕ → ℕ → Bool → ℕ → Place
+place h t turned n = record { head = h; tail = t; turned = turned; length = n }
+
+-- whether a size fits a place; if so its address, its marker, and tail and turn after it
+unfoldable pub check-place : ℕ → ℕ → Bool → ℕ → ℕ → Bool → ℕ → Bool → ℕ → Bool → Bool
+unfolding NAMES
+check-place h t turned n s fit at marker tail turned-after =
+    let p = place h t turned n in
+    elim (Place.fits p s) [ true ↦ fit && place-right p s at marker tail turned-after | false ↦ not fit ]
+
+-- demand 3's clauses as tests
+bits-ok : List ℕ → List Step → Bool
+bits-ok m [] = true
+bits-ok m (program a b ∷ ss) = eqb (bitAnd b (getD m a 0)) b && bits-ok (set m a b) ss
+bits-ok m (erase a ∷ ss) = bits-ok (apply m (erase a)) ss
+
+calls-ok : List ℕ → List Call → Bool
+calls-ok m [] = true
+calls-ok m (c ∷ cs) = bits-ok m (steps-done m c) && calls-ok (outcome m c .image) cs
+
+-- each name that list gives, with the length behind it
+listed : ℕ → ℕ → List ℕ → List (List ℕ)
+listed zero i m = []
+listed (suc k) i m =
+    let n = outcome m (call (list i) 0) .numbers in
+    (part-of m n ++ (n .third ∷ [])) ∷ listed k (i + 1) m
+
+held : List ℕ → List (List ℕ) → File → Bool
+held m ls f =
+    let n = outcome m (call (get (f .name)) 0) .numbers in
+    eqb (length (Basics.keep (Basics.same (f .name ++ (length (f .content) ∷ []))) ls)) 1
+    && eqb (n .answer) 0 && Basics.same (part-of m n) (f .content)
+
+ledger-is : Ledger → Ledger → Bool
+ledger-is [] [] = true
+ledger-is [] (f ∷ l) = false
+ledger-is (f ∷ l) [] = false
+ledger-is (f ∷ l) (g ∷ k) = Basics.same (f .name) (g .name) && Basics.same (f .content) (g .content) && ledger-is l k
+
+mounted-ok : Outcome → Ledger → List (List ℕ) → Bool
+mounted-ok o l others =
+    let left = o .image in
+    let count = o .numbers .third in
+    eqb (o .numbers .answer) 0 && eqb count (length l) && Basics.all (held left (listed count 0 left)) l
+    && Basics.all (λ n. eqb (outcome left (call (get n) 0) .numbers .answer) 2) others
+
+-- a history from a formatted image: the image it leaves, the ledger, the bits, and the mount after it
+unfoldable pub check-history : ℕ → List Call → Ledger → List (List ℕ) → List Piece → Bool
+unfolding NAMES bits-ok calls-ok listed held ledger-is mounted-ok
+check-history N cs l others after =
+    let start = format (replicate N 7) 1000 .image in
+    let left = replay start cs in
+    Basics.same left (build after) && ledger-is (ledger start cs []) l && calls-ok start cs
+    && bits-ok left (steps-of (Answers.mount-plan left)) && mounted-ok (outcome left (call mount 100000)) l others
+";
+
+/// The modules that Lib.antt names.
+pub fn modules(specs: &Path) -> Result<Vec<String>, String> {
+    let lib = read(&specs.join("Lib.antt"))?;
+    Ok(lib.lines().filter_map(|l| l.strip_prefix("pub mod ")).map(|m| m.trim().to_string()).collect())
+}
+
+/// The names of a module that can be unfolded: lines `unfoldable pub NAME : ..`.
+fn unfoldable(text: &str) -> impl Iterator<Item = &str> {
+    text.lines().filter_map(|l| l.trim_start().strip_prefix("unfoldable pub ")?.split(" :").next())
+}
+
+pub fn read(path: &Path) -> Result<String, String> {
+    std::fs::read_to_string(path).map_err(|e| format!("{}: {e}", path.display()))
+}
+
+/// Run.antt for these definitions.
+pub fn text(specs: &Path) -> Result<String, String> {
+    let mut uses = String::new();
+    let mut names = Vec::new();
+    for m in modules(specs)? {
+        let text = read(&specs.join(format!("{m}.antt")))?;
+        let before = names.len();
+        names.extend(unfoldable(&text).map(|n| format!("{m}.{n}")));
+        if names.len() > before {
+            uses += &format!("use Rattle.spec.specs.{m} as {m}\n");
+        }
+    }
+    Ok(format!("{HEAD}{uses}{}", BODY.replace("NAMES", &names.join(" "))))
+}

@@ -1,0 +1,102 @@
+//! Whole short histories with their ledgers, as vectors.
+use crate::collect::{Collection, EACH};
+use crate::emit::{allowance, bytes, pieces, request, Vector};
+use std::fmt::Write as _;
+use testing::call::{Call, Model};
+use testing::ledger::{commit_place, World};
+use testing::maker::Maker;
+use testing::rng::Rng;
+use testing::ALL;
+
+const MOST_STEPS: u64 = 300;
+const MOST_TEXT: usize = 9_000;
+const AT_COMMIT: &str = "history: put cut at the commit";
+const BEFORE_COMMIT: &str = "history: put cut before the commit";
+
+struct History {
+    world: World,
+    text: String,
+    calls: u64,
+    cuts: u64,
+    steps: u64,
+    tags: Vec<&'static str>,
+}
+
+impl History {
+    fn call(&mut self, call: &Call) {
+        let reply = self.world.step(&Model, call).expect("the model keeps demand 3");
+        write!(self.text, "call {} {} ∷ ", request(call), allowance(call)).unwrap();
+        self.calls += 1;
+        self.cuts += (reply.answer == 4) as u64;
+        self.steps += reply.steps;
+    }
+
+    fn random(r: &mut Rng) -> History {
+        let n = r.of(&[8192, 8192, 8192, 8192, 12288]);
+        let mut h = History { world: World::new(n), text: String::new(), calls: 0, cuts: 0, steps: 0, tags: vec![] };
+        let mut maker = Maker { weights: [44, 10, 20, 14, 5, 5, 0], ..Maker::short(r.of(&[0, 0, 20])) };
+        if r.chance(60) {
+            // few names, so that files are replaced
+            maker.names.truncate(2);
+        }
+        for _ in 0..3 + r.below(6) {
+            let call = maker.call(r, &h.world.img);
+            if call.need(&h.world.img) > 2 * MOST_STEPS {
+                continue;
+            }
+            let call = h.cut_at_commit(r, call);
+            h.call(&call);
+            if r.chance(65) {
+                h.call(&Call::Mount(r.of(&[ALL, ALL, 1, 3])));
+            }
+        }
+        h
+    }
+
+    /// A put is now and then cut just at its commit or just before it, most often
+    /// one that replaces a file: there the ledger depends on the commit's place.
+    fn cut_at_commit(&mut self, r: &mut Rng, call: Call) -> Call {
+        let replaces = matches!(&call, Call::Put(name, _, _) if self.world.ledger.content(name).is_some());
+        match commit_place(&self.world.img, &call) {
+            Some(place) if replaces && r.chance(50) => {
+                let at = r.chance(50);
+                self.tags.push(if at { AT_COMMIT } else { BEFORE_COMMIT });
+                call.with_allowance(if at { place } else { place - 1 })
+            }
+            _ => call,
+        }
+    }
+
+    fn vector(self) -> Vector {
+        self.world.check(&Model).expect("the model keeps demand 3");
+        let ledger = &self.world.ledger;
+        let files: String = ledger.files.iter().map(|f| format!("file {} {} ∷ ", bytes(&f.0), bytes(&f.1))).collect();
+        let absent = [&b"a"[..], b"dose", b"zz"].into_iter().filter(|x| ledger.content(x).is_none());
+        let others: String = absent.map(|x| format!("{} ∷ ", bytes(x))).collect();
+        let n = self.world.img.len();
+        let left = pieces(&self.world.img);
+        let text = format!("check-history {n} ({}[]) ({files}[]) ({others}[]) {left}", self.text);
+        Vector { function: "check-history", text, kind: "history", answer: 0, tags: self.tags, source: "whole history" }
+    }
+}
+
+/// So many histories, with cuts, that are not too long to compute; then more until
+/// enough of them have a put cut at its commit, and one just before it.
+pub fn add(r: &mut Rng, c: &mut Collection, count: u64) {
+    let lacks = |c: &Collection, tag: &str| c.count(&format!("tag {tag}")) < EACH;
+    while c.count("history 0") < count || [AT_COMMIT, BEFORE_COMMIT].iter().any(|t| lacks(c, t)) {
+        let h = History::random(r);
+        let wanted = c.count("history 0") < count || h.tags.iter().any(|t| lacks(c, t));
+        if h.steps > MOST_STEPS || h.calls < 3 || !wanted {
+            continue;
+        }
+        let (calls, cuts) = (h.calls, h.cuts);
+        let v = h.vector();
+        if v.text.len() > MOST_TEXT {
+            continue;
+        }
+        c.add(v);
+        c.note("history: calls", calls);
+        c.note("history: cut calls", cuts);
+    }
+}
