@@ -57,8 +57,11 @@ set-in p s q a e l = ap (λ (n : ℕ). set (p ++ (s ++ q)) (n + 1) 0) (sym e) �
 -- the first word done, the rest from there on
 further : (p s q l u v : List ℕ) → s ≡ u ++ v → (w : List ℕ) → length w ≡ length u → Cleaning (p ++ w) v q l → Cleaning p s q l
 further p s q l u v e w h c =
-    record { now = w ++ c .now; is = c .is ∙ append-assoc p w (c .now ++ q) ∙ ap (λ (m : List ℕ). p ++ m) (sym (append-assoc w (c .now) q));
-      same-length = length-append w (c .now) ∙ ap₂ _+_ h (c .same-length) ∙ sym (length-append u v) ∙ ap length (sym e) }
+    record {
+      now = w ++ c .now;
+      is = c .is ∙ append-assoc p w (c .now ++ q) ∙ ap (λ (m : List ℕ). p ++ m) (sym (append-assoc w (c .now) q));
+      same-length = length-append w (c .now) ∙ ap₂ _+_ h (c .same-length) ∙ sym (length-append u v) ∙ ap length (sym e);
+    }
 
 pub clean-cut : (k a : ℕ) (p s q : List ℕ) → length p ≡ a → (j : ℕ) → Cleaning p s q (run (p ++ (s ++ q)) (take j (clean-steps k a s)))
 unfolding clean-steps
@@ -69,6 +72,7 @@ clean-cut (suc k) a p s q e j =
   where
     none-left : (i : length s < 8) → (n : ℕ) → clean-steps n (a + 8) (drop 8 s) ≡ []
     none-left i n = ap (clean-steps n (a + 8)) (drop-of-length-le s {i = 8} (omega arith)) ∙ clean-nil n (a + 8)
+
     go : (b c : Bool) (j : ℕ) → mark-here s ≡ b → ltb (length s) 8 ≡ c →
         ((w : List ℕ) → length w ≡ 8 → (m : ℕ) → Cleaning (p ++ w) (drop 8 s) q (run ((p ++ w) ++ (drop 8 s ++ q)) (take m (clean-steps k (a + 8) (drop 8 s))))) →
         Cleaning p s q (run (p ++ (s ++ q)) (take j (clean-steps (suc k) a s)))
@@ -76,17 +80,17 @@ clean-cut (suc k) a p s q e j =
     go true true (suc j) x y f =
         let i : length s < 8 = ltb-true (length s) 8 y in
         subst (λ (ss : List Step). Cleaning p s q (run (p ++ (s ++ q)) (take (suc j) ss))) (sym (clean-hit k a s x ∙ ap (λ (m : List Step). program (a + 1) 0 ∷ m) (none-left i k)))
-          (record { now = set s 1 0; is = ap (run (set (p ++ (s ++ q)) (a + 1) 0)) (take-nil j) ∙ set-in p s q a e (mark-long s x); same-length = length-set s 1 0 })
+        (record { now = set s 1 0; is = ap (run (set (p ++ (s ++ q)) (a + 1) 0)) (take-nil j) ∙ set-in p s q a e (mark-long s x); same-length = length-set s 1 0 })
     go true false (suc j) x y f =
         let i : 8 ≤ length s = ltb-false (length s) 8 y in
         let U : List ℕ = take 8 (set s 1 0) in
         let lu : length U ≡ 8 = length-take-le 8 (set s 1 0) (omega (arith, length-set s 1 0)) in
         let m : set s 1 0 ≡ U ++ drop 8 s = sym (take-append-drop 8 (set s 1 0)) ∙ ap (λ (l : List ℕ). U ++ l) (drop-set-lt 8 s 1 0 (omega arith)) in
         let n : set (p ++ (s ++ q)) (a + 1) 0 ≡ (p ++ U) ++ (drop 8 s ++ q) =
-              set-in p s q a e (mark-long s x) ∙ ap (λ (l : List ℕ). p ++ (l ++ q)) m ∙ ap (λ (l : List ℕ). p ++ l) (append-assoc U (drop 8 s) q) ∙ sym (append-assoc p U (drop 8 s ++ q)) in
+        set-in p s q a e (mark-long s x) ∙ ap (λ (l : List ℕ). p ++ (l ++ q)) m ∙ ap (λ (l : List ℕ). p ++ l) (append-assoc U (drop 8 s) q) ∙ sym (append-assoc p U (drop 8 s ++ q)) in
         subst (λ (ss : List Step). Cleaning p s q (run (p ++ (s ++ q)) (take (suc j) ss))) (sym (clean-hit k a s x))
-          (further p s q _ (take 8 s) (drop 8 s) (sym (take-append-drop 8 s)) U (lu ∙ sym (length-take-le 8 s i))
-            (subst (λ (l : List ℕ). Cleaning (p ++ U) (drop 8 s) q (run l (take j (clean-steps k (a + 8) (drop 8 s))))) (sym n) (f U lu j)))
+        (further p s q _ (take 8 s) (drop 8 s) (sym (take-append-drop 8 s)) U (lu ∙ sym (length-take-le 8 s i))
+        (subst (λ (l : List ℕ). Cleaning (p ++ U) (drop 8 s) q (run l (take j (clean-steps k (a + 8) (drop 8 s))))) (sym n) (f U lu j)))
     go false true (suc j) x y f =
         let i : length s < 8 = ltb-true (length s) 8 y in
         subst (λ (ss : List Step). Cleaning p s q (run (p ++ (s ++ q)) (take (suc j) ss))) (sym (clean-miss k a s x ∙ none-left i k)) (record { now = s; is = refl; same-length = refl })
@@ -94,10 +98,10 @@ clean-cut (suc k) a p s q e j =
         let i : 8 ≤ length s = ltb-false (length s) 8 y in
         let lu : length (take 8 s) ≡ 8 = length-take-le 8 s i in
         let n : p ++ (s ++ q) ≡ (p ++ take 8 s) ++ (drop 8 s ++ q) =
-              ap (λ (l : List ℕ). p ++ (l ++ q)) (sym (take-append-drop 8 s)) ∙ ap (λ (l : List ℕ). p ++ l) (append-assoc (take 8 s) (drop 8 s) q) ∙ sym (append-assoc p (take 8 s) (drop 8 s ++ q)) in
+        ap (λ (l : List ℕ). p ++ (l ++ q)) (sym (take-append-drop 8 s)) ∙ ap (λ (l : List ℕ). p ++ l) (append-assoc (take 8 s) (drop 8 s) q) ∙ sym (append-assoc p (take 8 s) (drop 8 s ++ q)) in
         subst (λ (ss : List Step). Cleaning p s q (run (p ++ (s ++ q)) (take (suc j) ss))) (sym (clean-miss k a s x))
-          (further p s q _ (take 8 s) (drop 8 s) (sym (take-append-drop 8 s)) (take 8 s) refl
-            (subst (λ (l : List ℕ). Cleaning (p ++ take 8 s) (drop 8 s) q (run l (take (suc j) (clean-steps k (a + 8) (drop 8 s))))) (sym n) (f (take 8 s) lu (suc j))))
+        (further p s q _ (take 8 s) (drop 8 s) (sym (take-append-drop 8 s)) (take 8 s) refl
+        (subst (λ (l : List ℕ). Cleaning (p ++ take 8 s) (drop 8 s) q (run l (take (suc j) (clean-steps k (a + 8) (drop 8 s))))) (sym n) (f (take 8 s) lu (suc j))))
 
 -- all of (c): no mark is left
 pub record Clean-now (k : ℕ) (p s q l : List ℕ) : Type 0 where
@@ -112,9 +116,12 @@ quiet-nil k = calm-quiet k [] tt
 -- the first word w has no mark, nor has the rest
 word-more : (k : ℕ) (p s q l u v w : List ℕ) → s ≡ u ++ v → length w ≡ length u → length w ≡ 8 → mark-here w ≡ false → Clean-now k (p ++ w) v q l → Clean-now (suc k) p s q l
 word-more k p s q l u v w e h i m c =
-    record { now = w ++ c .now; is = c .is ∙ append-assoc p w (c .now ++ q) ∙ ap (λ (x : List ℕ). p ++ x) (sym (append-assoc w (c .now) q));
+    record {
+      now = w ++ c .now;
+      is = c .is ∙ append-assoc p w (c .now ++ q) ∙ ap (λ (x : List ℕ). p ++ x) (sym (append-assoc w (c .now) q));
       same-length = length-append w (c .now) ∙ ap₂ _+_ h (c .same-length) ∙ sym (length-append u v) ∙ ap length (sym e);
-      quiet = (mark-append w (c .now) (omega arith) ∙ m, rw (drop-at w (c .now) 8 i) (c .quiet)) }
+      quiet = (mark-append w (c .now) (omega arith) ∙ m, rw (drop-at w (c .now) 8 i) (c .quiet));
+    }
 
 mark-set : (s : List ℕ) → 2 ≤ length s → mark-here (set s 1 0) ≡ false
 mark-set [] h = absurd (not-suc-le-zero h)
@@ -132,15 +139,17 @@ clean-done (suc k) a p s q e l =
   where
     none-left : (i : length s < 8) → (n : ℕ) → clean-steps n (a + 8) (drop 8 s) ≡ []
     none-left i n = ap (clean-steps n (a + 8)) (drop-of-length-le s {i = 8} (omega arith)) ∙ clean-nil n (a + 8)
+
     short-quiet : (t : List ℕ) → length t < 8 → mark-here t ≡ false → Quiet (suc k) t
     short-quiet t i m = (m, subst (λ (x : List ℕ). Quiet k x) (sym (drop-of-length-le t {i = 8} (omega arith))) (quiet-nil k))
+
     go : (b c : Bool) → mark-here s ≡ b → ltb (length s) 8 ≡ c →
         ((w : List ℕ) → length w ≡ 8 → Clean-now k (p ++ w) (drop 8 s) q (run ((p ++ w) ++ (drop 8 s ++ q)) (clean-steps k (a + 8) (drop 8 s)))) →
         Clean-now (suc k) p s q (run (p ++ (s ++ q)) (clean-steps (suc k) a s))
     go true true x y f =
         let i : length s < 8 = ltb-true (length s) 8 y in
         subst (λ (ss : List Step). Clean-now (suc k) p s q (run (p ++ (s ++ q)) ss)) (sym (clean-hit k a s x ∙ ap (λ (m : List Step). program (a + 1) 0 ∷ m) (none-left i k)))
-          (record { now = set s 1 0; is = set-in p s q a e (mark-long s x); same-length = length-set s 1 0; quiet = short-quiet (set s 1 0) (omega (arith, length-set s 1 0)) (mark-set s (mark-long s x)) })
+        (record { now = set s 1 0; is = set-in p s q a e (mark-long s x); same-length = length-set s 1 0; quiet = short-quiet (set s 1 0) (omega (arith, length-set s 1 0)) (mark-set s (mark-long s x)) })
     go true false x y f =
         let i : 8 ≤ length s = ltb-false (length s) 8 y in
         let i′ : 8 ≤ length (set s 1 0) = omega (arith, length-set s 1 0) in
@@ -148,10 +157,10 @@ clean-done (suc k) a p s q e l =
         let lu : length U ≡ 8 = length-take-le 8 (set s 1 0) i′ in
         let m : set s 1 0 ≡ U ++ drop 8 s = sym (take-append-drop 8 (set s 1 0)) ∙ ap (λ (l : List ℕ). U ++ l) (drop-set-lt 8 s 1 0 (omega arith)) in
         let n : set (p ++ (s ++ q)) (a + 1) 0 ≡ (p ++ U) ++ (drop 8 s ++ q) =
-              set-in p s q a e (mark-long s x) ∙ ap (λ (l : List ℕ). p ++ (l ++ q)) m ∙ ap (λ (l : List ℕ). p ++ l) (append-assoc U (drop 8 s) q) ∙ sym (append-assoc p U (drop 8 s ++ q)) in
+        set-in p s q a e (mark-long s x) ∙ ap (λ (l : List ℕ). p ++ (l ++ q)) m ∙ ap (λ (l : List ℕ). p ++ l) (append-assoc U (drop 8 s) q) ∙ sym (append-assoc p U (drop 8 s ++ q)) in
         subst (λ (ss : List Step). Clean-now (suc k) p s q (run (p ++ (s ++ q)) ss)) (sym (clean-hit k a s x))
-          (word-more k p s q _ (take 8 s) (drop 8 s) U (sym (take-append-drop 8 s)) (lu ∙ sym (length-take-le 8 s i)) lu (mark-take (set s 1 0) i′ ∙ mark-set s (mark-long s x))
-            (subst (λ (l : List ℕ). Clean-now k (p ++ U) (drop 8 s) q (run l (clean-steps k (a + 8) (drop 8 s)))) (sym n) (f U lu)))
+        (word-more k p s q _ (take 8 s) (drop 8 s) U (sym (take-append-drop 8 s)) (lu ∙ sym (length-take-le 8 s i)) lu (mark-take (set s 1 0) i′ ∙ mark-set s (mark-long s x))
+        (subst (λ (l : List ℕ). Clean-now k (p ++ U) (drop 8 s) q (run l (clean-steps k (a + 8) (drop 8 s)))) (sym n) (f U lu)))
     go false true x y f =
         let i : length s < 8 = ltb-true (length s) 8 y in
         subst (λ (ss : List Step). Clean-now (suc k) p s q (run (p ++ (s ++ q)) ss)) (sym (clean-miss k a s x ∙ none-left i k)) (record { now = s; is = refl; same-length = refl; quiet = short-quiet s i x })
@@ -159,7 +168,7 @@ clean-done (suc k) a p s q e l =
         let i : 8 ≤ length s = ltb-false (length s) 8 y in
         let lu : length (take 8 s) ≡ 8 = length-take-le 8 s i in
         let n : p ++ (s ++ q) ≡ (p ++ take 8 s) ++ (drop 8 s ++ q) =
-              ap (λ (l : List ℕ). p ++ (l ++ q)) (sym (take-append-drop 8 s)) ∙ ap (λ (l : List ℕ). p ++ l) (append-assoc (take 8 s) (drop 8 s) q) ∙ sym (append-assoc p (take 8 s) (drop 8 s ++ q)) in
+        ap (λ (l : List ℕ). p ++ (l ++ q)) (sym (take-append-drop 8 s)) ∙ ap (λ (l : List ℕ). p ++ l) (append-assoc (take 8 s) (drop 8 s) q) ∙ sym (append-assoc p (take 8 s) (drop 8 s ++ q)) in
         subst (λ (ss : List Step). Clean-now (suc k) p s q (run (p ++ (s ++ q)) ss)) (sym (clean-miss k a s x))
-          (word-more k p s q _ (take 8 s) (drop 8 s) (take 8 s) (sym (take-append-drop 8 s)) refl lu (mark-take s i ∙ x)
-            (subst (λ (l : List ℕ). Clean-now k (p ++ take 8 s) (drop 8 s) q (run l (clean-steps k (a + 8) (drop 8 s)))) (sym n) (f (take 8 s) lu)))
+        (word-more k p s q _ (take 8 s) (drop 8 s) (take 8 s) (sym (take-append-drop 8 s)) refl lu (mark-take s i ∙ x)
+        (subst (λ (l : List ℕ). Clean-now k (p ++ take 8 s) (drop 8 s) q (run l (clean-steps k (a + 8) (drop 8 s)))) (sym n) (f (take 8 s) lu)))

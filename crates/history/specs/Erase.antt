@@ -49,7 +49,7 @@ erase-run (suc j) a p q s e l =
     ∙ erase-run j (a + 4096) (p ++ sector) q₂ s (omega (arith, length-append p sector, length-sector)) (omega (arith, length-drop 4096 q))
     ∙ append-assoc p sector (blanks (4096 * j) ++ (drop (4096 * j) q₂ ++ s))
     ∙ ap (λ (m : List ℕ). p ++ m) (sym (append-assoc sector (blanks (4096 * j)) (drop (4096 * j) q₂ ++ s))
-      ∙ ap₂ (λ (x y : List ℕ). x ++ (y ++ s)) (sector-more j) (drop-drop (4096 * j) 4096 q ∙ ap (λ (n : ℕ). drop n q) i))
+    ∙ ap₂ (λ (x y : List ℕ). x ++ (y ++ s)) (sector-more j) (drop-drop (4096 * j) 4096 q ∙ ap (λ (n : ℕ). drop n q) i))
 
 -- the sectors of the definitions
 sectors-more : (n k a b : ℕ) → a + 4096 * k ≡ b → k ≤ n → map erase (sectors-by n a b) ≡ erases a k
@@ -89,8 +89,8 @@ erase-cut i k a pre q s e l h =
     let m : ℕ = 4096 * (k - i) in
     let n : 4096 * i + m ≡ 4096 * k = omega arith in
     let c : d ++ s ≡ take m d ++ (drop (4096 * k) q ++ s) =
-          ap (λ (x : List ℕ). x ++ s) (sym (take-append-drop m d)) ∙ append-assoc (take m d) (drop m d) s
-          ∙ ap (λ (x : List ℕ). take m d ++ (x ++ s)) (drop-drop m (4096 * i) q ∙ ap (λ (y : ℕ). drop y q) n) in
+    ap (λ (x : List ℕ). x ++ s) (sym (take-append-drop m d)) ∙ append-assoc (take m d) (drop m d) s
+    ∙ ap (λ (x : List ℕ). take m d ++ (x ++ s)) (drop-drop m (4096 * i) q ∙ ap (λ (y : ℕ). drop y q) n) in
     ap (run (pre ++ (q ++ s))) (take-erases i k a h) ∙ erase-run i a pre q s e (omega arith)
     ∙ ap (λ (x : List ℕ). pre ++ (blanks (4096 * i) ++ x)) c ∙ ap (λ (x : List ℕ). pre ++ x) (sym (append-assoc (blanks (4096 * i)) (take m d) (drop (4096 * k) q ++ s)))
 
@@ -101,7 +101,7 @@ module _ (k r : ℕ) (q : List ℕ) (long : length q ≡ 4096 * suc k + 8 * r) (
       let e : 512 * k + r ≡ 512 * i + (512 * (k - i) + r) = omega arith in
       let d : 4096 + 8 * (512 * i) ≡ 4096 * suc i = omega arith in
       subst (λ (n : ℕ). Quiet (512 * (k - i) + r) (drop n q)) d
-        (rw (drop-drop (8 * (512 * i)) 4096 q) at (quiet-drop (512 * i) (512 * (k - i) + r) (drop 4096 q) (subst (λ (n : ℕ). Quiet n (drop 4096 q)) e quiet)))
+      (rw (drop-drop (8 * (512 * i)) 4096 q) at (quiet-drop (512 * i) (512 * (k - i) + r) (drop 4096 q) (subst (λ (n : ℕ). Quiet n (drop 4096 q)) e quiet)))
 
   pub quiet-lost : Quiet r (drop (4096 * suc k) q)
   quiet-lost = let e : 512 * (k - k) + r ≡ r = omega arith in subst (λ (n : ℕ). Quiet n (drop (4096 * suc k) q)) e (later k (omega arith))
@@ -116,13 +116,13 @@ module _ (k r : ℕ) (q : List ℕ) (long : length q ≡ 4096 * suc k + 8 * r) (
       let v : 512 * suc i + 512 * (k - i) ≡ 512 * suc k = omega arith in
       let b : Quiet (512 * suc i) (blanks (4096 * suc i)) = subst (λ (n : ℕ). Quiet (512 * suc i) (blanks n)) u (quiet-blanks (512 * suc i)) in
       subst (λ (n : ℕ). Quiet n (half-erased (suc i) (suc k) q)) v
-        (quiet-append (512 * suc i) (512 * (k - i)) (blanks (4096 * suc i)) (take m d) (length-replicate (4096 * suc i) 255 ∙ omega arith) b a)
+      (quiet-append (512 * suc i) (512 * (k - i)) (blanks (4096 * suc i)) (take m d) (length-replicate (4096 * suc i) 255 ∙ omega arith) b a)
 
 -- the head's first sector holds its header, so the rest of it has no mark
 pub quiet-second : (x : Rec) (lost z : List ℕ) (l w : ℕ) → length lost ≡ 8 * l → 8 * l < 4096 → Quiet (511 - l + w) (body (x .name) (x .content) z) → Quiet w (drop 4096 (lost ++ onto x z))
 quiet-second x lost z l w e h q =
     let n : 4096 - 8 * l ≡ 8 + 8 * (511 - l) = omega arith in
     let d : drop 4096 (lost ++ onto x z) ≡ drop (8 * (511 - l)) (body (x .name) (x .content) z) =
-          drop-past lost (onto x z) 4096 (4096 - 8 * l) (omega arith)
-          ∙ ap (λ (m : ℕ). drop m (onto x z)) n ∙ sym (drop-drop (8 * (511 - l)) 8 (onto x z)) in
+    drop-past lost (onto x z) 4096 (4096 - 8 * l) (omega arith)
+    ∙ ap (λ (m : ℕ). drop m (onto x z)) n ∙ sym (drop-drop (8 * (511 - l)) 8 (onto x z)) in
     rw d (quiet-drop (511 - l) w (body (x .name) (x .content) z) q)

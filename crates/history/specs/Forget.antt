@@ -33,11 +33,17 @@ module _ {im : List ℕ} {a l : ℕ} {gap lost : List ℕ} {h : ℕ} {x y : Rec}
       let e₂ : set (G ++ onto x R) (h + 1) 0 ≡ G ++ set (onto x R) 1 0 = ap (λ (n : ℕ). set (G ++ onto x R) (n + 1) 0) (sym lg) ∙ set-past G (onto x R) 1 0 in
       let e₃ : set (onto x R) 1 0 ≡ forgotten x ++ R = ap (λ (l : List ℕ). set l 1 0) (lay-is (x ∷ []) R) in
       let lf : length (forgotten x) ≡ 8 * (rsize x / 8) = omega (arith, length-body (x .name) (x .content) [], rsize-words x) in
-      record { is = ap (λ (l : List ℕ). set l (h + 1) 0) e₁ ∙ e₂ ∙ ap (λ (l : List ℕ). G ++ l) e₃ ∙ append-assoc gap lost (forgotten x ++ R) ∙ ap (λ (l : List ℕ). gap ++ l) (sym (append-assoc lost (forgotten x) R));
-        at = omega (arith, s .at, rsize-words x); gap-length = s .gap-length; gap-quiet = s .gap-quiet;
-        lost-length = length-append lost (forgotten x) ∙ omega (arith, s .lost-length, lf); lost-small = near;
+      record {
+        is = ap (λ (l : List ℕ). set l (h + 1) 0) e₁ ∙ e₂ ∙ ap (λ (l : List ℕ). G ++ l) e₃ ∙ append-assoc gap lost (forgotten x ++ R) ∙ ap (λ (l : List ℕ). gap ++ l) (sym (append-assoc lost (forgotten x) R));
+        at = omega (arith, s .at, rsize-words x);
+        gap-length = s .gap-length;
+        gap-quiet = s .gap-quiet;
+        lost-length = length-append lost (forgotten x) ∙ omega (arith, s .lost-length, lf);
+        lost-small = near;
         lost-quiet = quiet-append l (rsize x / 8) lost (forgotten x) (s .lost-length) (s .lost-quiet) (forgotten-quiet x c);
-        front = fronted gap lost a l (s .gap-length) (s .lost-length) (s .front); fine = s .fine .1 }
+        front = fronted gap lost a l (s .gap-length) (s .lost-length) (s .front);
+        fine = s .fine .1;
+      }
     where
       fronted : (gap lost : List ℕ) (a l : ℕ) → length gap ≡ 4096 * a → length lost ≡ 8 * l → (getD (gap ++ lost) 1 0 ≡ 90 → ⊥) → getD (gap ++ (lost ++ forgotten x)) 1 0 ≡ 90 → ⊥
       fronted [] [] a l p q f = f

@@ -89,8 +89,15 @@ reaches-quiet at j g t e q = go (torn-here (g ++ t)) refl
     go : (b : Bool) → torn-here (g ++ t) ≡ b → Reaches₁ at (g ++ t) t (8 * suc j)
     go false h = record { by = 0; g = g; j = suc j; land = lands-quiet at (g ++ t) (mark-append g t (omega arith) ∙ q .0) h; whole = e; quiet = q; far = zero-add (8 * suc j) }
     go true h =
-        record { by = 8; g = drop 8 g; j = j; land = subst (λ (l : List ℕ). Lands₁ at 8 (g ++ t) l) (drop-append-le 8 g t (omega arith)) (lands-torn-like at (g ++ t) h);
-          whole = length-drop 8 g ∙ omega arith; quiet = q .1; far = omega arith }
+        record {
+          by = 8;
+          g = drop 8 g;
+          j = j;
+          land = subst (λ (l : List ℕ). Lands₁ at 8 (g ++ t) l) (drop-append-le 8 g t (omega arith)) (lands-torn-like at (g ++ t) h);
+          whole = length-drop 8 g ∙ omega arith;
+          quiet = q .1;
+          far = omega arith;
+        }
 
 -- the same, or nothing before a head that isn't at 0
 pub reaches-gap : {b : ℕ} (at j : ℕ) (g t : List ℕ) → length g ≡ 8 * j → Quiet j g → Head-low b → (at ≡ 0 → ⊥) → Reaches₁ at (g ++ (b ∷ 90 ∷ t)) (b ∷ 90 ∷ t) (8 * j)
@@ -111,22 +118,45 @@ quiet-name-begun s begun-end = refl
 
 pub reaches-torn : {c t : ℕ} (at x y z w j : ℕ) (g s : List ℕ) → Begun c → Name-begun t → length g ≡ 8 * j → Quiet j g → Reaches₁ at (torn c (x ∷ y ∷ z ∷ w ∷ []) t (g ++ s)) s (16 + 8 * j)
 reaches-torn {c} {t} at x y z w j g s b n e q =
-    record { by = 8; g = t ∷ (blanks 7 ++ g); j = suc j; land = lands-torn-like at (torn c (x ∷ y ∷ z ∷ w ∷ []) t (g ++ s)) (torn-lands t x y z w (g ++ s) b);
-      whole = omega arith; quiet = (quiet-name-begun g n, q); far = omega arith }
+    record {
+      by = 8;
+      g = t ∷ (blanks 7 ++ g);
+      j = suc j;
+      land = lands-torn-like at (torn c (x ∷ y ∷ z ∷ w ∷ []) t (g ++ s)) (torn-lands t x y z w (g ++ s) b);
+      whole = omega arith;
+      quiet = (quiet-name-begun g n, q);
+      far = omega arith;
+    }
 
 pub reaches-begun : {m : ℕ} (at d : ℕ) (n s t : List ℕ) → Fit d n → Reaches₁ (at + size-of (length n) d) s t m → Reaches at (begun d n s) t (size-of (length n) d + m)
 reaches-begun at d n s t f r =
-    record { by = size-of (length n) d + r .by; g = r .g; j = r .j;
-      land = record { lands = λ k. walk-begun (suc k) at d n s f ∙ r .land .lands k ∙ add-assoc at (size-of (length n) d) (r .by);
-        there = sym (drop-drop (r .by) (size-of (length n) d) (begun d n s)) ∙ ap (drop (r .by)) (drop-begun d n s) ∙ r .land .there };
-      whole = r .whole; quiet = r .quiet; far = omega (arith, r .far) }
+    record {
+      by = size-of (length n) d + r .by;
+      g = r .g;
+      j = r .j;
+      land = record {
+        lands = λ k. walk-begun (suc k) at d n s f ∙ r .land .lands k ∙ add-assoc at (size-of (length n) d) (r .by);
+        there = sym (drop-drop (r .by) (size-of (length n) d) (begun d n s)) ∙ ap (drop (r .by)) (drop-begun d n s) ∙ r .land .there;
+      };
+      whole = r .whole;
+      quiet = r .quiet;
+      far = omega (arith, r .far);
+    }
 
 pub reaches-held : {m : ℕ} (at : ℕ) (n c s t : List ℕ) → Fit (length c) n → Reaches₁ (at + size-of (length n) (length c)) s t m → Reaches at (onto (held n c) s) t (size-of (length n) (length c) + m)
 reaches-held at n c s t f z =
-    record { by = size-of (length n) (length c) + z .by; g = z .g; j = z .j;
-      land = record { lands = λ k. walk-held (suc k) at n c s f ∙ z .land .lands k ∙ add-assoc at (size-of (length n) (length c)) (z .by);
-        there = sym (drop-drop (z .by) (size-of (length n) (length c)) (onto (held n c) s)) ∙ ap (drop (z .by)) (drop-onto (held n c) s) ∙ z .land .there };
-      whole = z .whole; quiet = z .quiet; far = omega (arith, z .far) }
+    record {
+      by = size-of (length n) (length c) + z .by;
+      g = z .g;
+      j = z .j;
+      land = record {
+        lands = λ k. walk-held (suc k) at n c s f ∙ z .land .lands k ∙ add-assoc at (size-of (length n) (length c)) (z .by);
+        there = sym (drop-drop (z .by) (size-of (length n) (length c)) (onto (held n c) s)) ∙ ap (drop (z .by)) (drop-onto (held n c) s) ∙ z .land .there;
+      };
+      whole = z .whole;
+      quiet = z .quiet;
+      far = omega (arith, z .far);
+    }
 
 -- ---- the theorem
 
@@ -176,7 +206,7 @@ found {b} low s t m f w h r =
     let e : length s - r .by ≡ length (r .g) + length (b ∷ 90 ∷ t) = sym (length-drop (r .by) s) ∙ ap length (r .land .there) ∙ length-append (r .g) (b ∷ 90 ∷ t) in
     let p : 8 * r .j + 2 + length t + r .by ≤ length s = omega (arith, r .whole) in
     searched low (r .by) s (r .g ++ (b ∷ 90 ∷ t)) f w (r .land) (omega (arith, length-lay low s)) (sizes low + m)
-      (search-found (r .j) (length (lay low s)) (sizes low + r .by) (r .g) t (r .whole) (r .quiet) h (omega (arith, length-lay low s)) ∙ omega (arith, r .far))
+    (search-found (r .j) (length (lay low s)) (sizes low + r .by) (r .g) t (r .whole) (r .quiet) h (omega (arith, length-lay low s)) ∙ omega (arith, r .far))
 
 there-is : {b : ℕ} (low : List Rec) (s t : List ℕ) (m : ℕ) → Reaches (sizes low) s (b ∷ 90 ∷ t) m → drop (sizes low + m) (lay low s) ≡ b ∷ 90 ∷ t
 there-is {b} low s t m r =
@@ -199,13 +229,13 @@ clean-is t = refl
 pub head-start : (low : List Rec) (s t : List ℕ) (m : ℕ) → All-fine low → Walked 0 low → Front low s → Reaches (sizes low) s (0 ∷ 90 ∷ t) m → head (lay low s) ≡ give (sizes low + m)
 head-start low s t m f w p r =
     head-by (lay low s) (sizes low + m) (give (sizes low + m)) (front-start p w) (front-wrap p w) (found low s t m f w is-START r)
-      (chosen-start (lay low s) (sizes low + m) (ap start-here (there-is low s t m r) ∙ start-is t))
+    (chosen-start (lay low s) (sizes low + m) (ap start-here (there-is low s t m r) ∙ start-is t))
 
 -- CLEAN is found, if the image doesn't begin with CLEAN
 pub head-clean : (low : List Rec) (s t : List ℕ) (m : ℕ) → All-fine low → Walked 0 low → Front low s → clean-here (lay low s) ≡ false → Reaches (sizes low) s (160 ∷ 90 ∷ t) m → head (lay low s) ≡ give (sizes low + m)
 head-clean low s t m f w p c r =
     head-by (lay low s) (sizes low + m) (give (sizes low + m)) (front-start p w) (front-wrap p w) (found low s t m f w is-CLEAN r)
-      (chosen-clean (lay low s) (sizes low + m) (ap start-here (there-is low s t m r) ∙ clean-no-start t) (ap clean-here (there-is low s t m r) ∙ clean-is t) c)
+    (chosen-clean (lay low s) (sizes low + m) (ap start-here (there-is low s t m r) ∙ clean-no-start t) (ap clean-here (there-is low s t m r) ∙ clean-is t) c)
 
 -- START at 0
 pub head-zero : (t : List ℕ) → head (0 ∷ 90 ∷ t) ≡ give 0
@@ -231,8 +261,8 @@ nothing : (low : List Rec) (s : List ℕ) (m : ℕ) → All-fine low → Walked 
 nothing low s m f w l r =
     let e : length s - r .by ≡ length (r .g) + 0 = sym (length-drop (r .by) s) ∙ ap length (r .land .there) ∙ length-append (r .g) [] in
     searched low (r .by) s (r .g ++ []) f w (r .land) l (sizes low + m)
-      (ap (search (length (lay low s)) (sizes low + r .by)) (append-nil (r .g))
-        ∙ search-none (r .j) (length (lay low s)) (sizes low + r .by) (r .g) (r .whole) (r .quiet) (omega (arith, length-lay low s, r .whole)) ∙ omega (arith, r .far))
+    (ap (search (length (lay low s)) (sizes low + r .by)) (append-nil (r .g))
+    ∙ search-none (r .j) (length (lay low s)) (sizes low + r .by) (r .g) (r .whole) (r .quiet) (omega (arith, length-lay low s, r .whole)) ∙ omega (arith, r .far))
 
 none-there : (low : List Rec) (s : List ℕ) (m : ℕ) → Reaches (sizes low) s [] m → drop (sizes low + m) (lay low s) ≡ []
 none-there low s m r =
@@ -242,4 +272,4 @@ none-there low s m r =
 pub head-none : (low : List Rec) (s : List ℕ) (m : ℕ) → All-fine low → Walked 0 low → Front low s → clean-here (lay low s) ≡ true → 1 ≤ length (lay low s) → Reaches (sizes low) s [] m → head (lay low s) ≡ give 0
 head-none low s m f w p c l r =
     head-by (lay low s) (sizes low + m) (give 0) (front-start p w) (front-wrap p w) (nothing low s m f w l r)
-      (chosen-none (lay low s) (sizes low + m) (ap start-here (none-there low s m r) ∙ no-start [] nil-no-mark) (ap clean-here (none-there low s m r) ∙ no-clean [] nil-no-mark) c)
+    (chosen-none (lay low s) (sizes low + m) (ap start-here (none-there low s m r) ∙ no-start [] nil-no-mark) (ap clean-here (none-there low s m r) ∙ no-clean [] nil-no-mark) c)

@@ -135,7 +135,7 @@ ends-ff = refl
 pub record-at-begun : (d : ℕ) (n s : List ℕ) → Fit d n → record-at true (begun d n s) ≡ Next.Record (length n) d
 record-at-begun d n s f =
     record-at-laid true 165 90 254 255 255 d n (blanks (pad (length n + 1)) ++ (blanks (up8 d) ++ s)) f ends-ff
-      (simp (length-append, length-replicate) (omega arith))
+    (simp (length-append, length-replicate) (omega arith))
 
 abbrev pub cut-rec : ℕ → List ℕ → Rec
 cut-rec d n = record { low = 165; status = 254; name = n; content = blanks d }
@@ -156,8 +156,12 @@ take-fill (suc k) (suc m) b s h = ap (λ (l : List ℕ). b ∷ l) (take-fill k m
 
 rec-of-begun : (d : ℕ) (n s : List ℕ) → rec-of (begun d n s) (length n) d ≡ cut-rec d n
 rec-of-begun d n s =
-    rw (drop-past n (255 ∷ (blanks (pad (length n + 1)) ++ (blanks (up8 d) ++ s))) (up8 (length n + 1)) (suc (pad (length n + 1))) (omega arith), drop-fill (pad (length n + 1)) 255 (blanks (up8 d) ++ s),
-        take-append-seam n, take-fill d (up8 d) 255 s (omega arith))
+    rw (
+      drop-past n (255 ∷ (blanks (pad (length n + 1)) ++ (blanks (up8 d) ++ s))) (up8 (length n + 1)) (suc (pad (length n + 1))) (omega arith),
+      drop-fill (pad (length n + 1)) 255 (blanks (up8 d) ++ s),
+      take-append-seam n,
+      take-fill d (up8 d) 255 s (omega arith),
+    )
 
 pub ends-begun : {c : Chain} (at d : ℕ) (n s : List ℕ) → Fit d n → ((k : ℕ) → chain (suc k) true (at + size-of (length n) d) s ≡ c) → Ends at (begun d n s) (add (record { at = at; it = cut-rec d n }) c)
 ends-begun at d n s f e =

@@ -152,7 +152,7 @@ ends-zero held = refl
 pub record-at-onto : (held : Bool) (r : Rec) (s : List ℕ) → Fit (length (r .content)) (r .name) → record-at held (onto r s) ≡ Next.Record (length (r .name)) (length (r .content))
 record-at-onto held r s f =
     record-at-laid held (r .low) 90 (r .status) 255 0 (length (r .content)) (r .name) (blanks (pad (length (r .name) + 1)) ++ padded (r .content) s) f (ends-zero held)
-      (omega (arith, length-body (r .name) (r .content) s, length-append (r .name) (0 ∷ (blanks (pad (length (r .name) + 1)) ++ padded (r .content) s))))
+    (omega (arith, length-body (r .name) (r .content) s, length-append (r .name) (0 ∷ (blanks (pad (length (r .name) + 1)) ++ padded (r .content) s))))
 
 kind-next : {b st : ℕ} → Low b → Stat st → (s : List ℕ) → next-at (kind b 90 st 255) s ≡ record-at false s
 unfolding kind next-at is-record is-wrap is-start is-clean is-high is-erased is-reserved is-committed is-migrating is-dead is-spare

@@ -75,7 +75,7 @@ pub matches-new : (es : List Entry) (e : Entry) (l : Ledger) → alive e ≡ tru
 matches-new es e l a n m =
     let p : List·Permᴰ (contents es) (without (name-of e) l) = subst (λ (fs : List File). List·Permᴰ fs (without (name-of e) l)) (keep-contents (name-of e) es n) (perm-keep (not-named (name-of e)) m) in
     subst (λ (fs : List File). List·Permᴰ fs (with-file (name-of e) (content-of e) l)) (sym (contents-append es (e ∷ []) ∙ ap (λ (fs : List File). contents es ++ fs) (contents-one e a)))
-      (List·Permᴰ·trans (Permᴰ·middle (as-file e) (contents es) []) (List·Permᴰ·cons refl (List·Permᴰ·trans (Permᴰ·append-nil (contents es)) p)))
+    (List·Permᴰ·trans (Permᴰ·middle (as-file e) (contents es) []) (List·Permᴰ·cons refl (List·Permᴰ·trans (Permᴰ·append-nil (contents es)) p)))
 
 -- an entry that is not alive doesn't matter
 pub matches-dead : (xs ys : List Entry) (e : Entry) (l : Ledger) → alive e ≡ false → Matches (xs ++ ys) l → Matches (xs ++ (e ∷ ys)) l
@@ -95,6 +95,7 @@ first-none n (e ∷ fs) h = go (alive e) (same (name-of e) n) refl refl (λ k. f
   where
     p : Entry → Bool
     p = has-name n
+
     go : (a b : Bool) → alive e ≡ a → same (name-of e) n ≡ b → (first-such p (keep alive fs) ≡ none → Absent n fs) → Absent n (e ∷ fs)
     go true true x y ih = absurd (not-none (first-such p (keep alive (e ∷ fs))) e (ap (first-such p) (keep-yes alive e fs x) ∙ first-yes p e (keep alive fs) y) h)
     go true false x y ih = ((λ k. y), ih (sym (ap (first-such p) (keep-yes alive e fs x) ∙ first-no p e (keep alive fs) y) ∙ h))

@@ -32,3 +32,4 @@ pub mod PutNew
 pub mod StraightVoid
 pub mod StraightClose
 pub mod Top
+pub mod Kinds

@@ -54,9 +54,10 @@ module _ {A : Type 0} where
   -- what holds of each and itself, and of any two both ways, holds of all pairs
   pub all-pairs : (R S : A → A → Type 0) → ((x : A) → R x x) → ((x y : A) → S x y → R x y) → ((x y : A) → S x y → R y x) → (xs : List A) → Pairwise S xs → Each (λ x. Each (R x) xs) xs
   all-pairs R S r a b [] h = tt
-  all-pairs R S r a b (x ∷ xs) h =
-      ((r x, each-map xs (λ y s. a x y s) (h .0)),
-        each-map xs (λ y p. (p .0, p .1)) (each-both (λ y. R y x) (λ y. Each (R y) xs) xs (each-map {Q = λ y. R y x} xs (λ y s. b x y s) (h .0)) (all-pairs R S r a b xs (h .1))))
+  all-pairs R S r a b (x ∷ xs) h = (
+    (r x, each-map xs (λ y s. a x y s) (h .0)),
+    each-map xs (λ y p. (p .0, p .1)) (each-both (λ y. R y x) (λ y. Each (R y) xs) xs (each-map {Q = λ y. R y x} xs (λ y s. b x y s) (h .0)) (all-pairs R S r a b xs (h .1))),
+  )
 
   pub each-end : (P : A → Type 0) (xs : List A) (y : A) → Each P xs → P y → Each P (xs ++ (y ∷ []))
   each-end P [] y p q = (q, tt)
@@ -80,6 +81,7 @@ module _ {A : Type 0} where
     where
       any-yes : (zs : List A) → p x ≡ true → any p (x ∷ zs) ≡ true
       any-yes zs h = rw (h, any)
+
       go : (b : Bool) → p x ≡ b → any p (xs ++ (o ∷ ys)) ≡ any p (xs ++ ys) → any p (x ∷ (xs ++ (o ∷ ys))) ≡ any p (x ∷ (xs ++ ys))
       go true h i = any-yes (xs ++ (o ∷ ys)) h ∙ sym (any-yes (xs ++ ys) h)
       go false h i = any-no p x (xs ++ (o ∷ ys)) h ∙ i ∙ sym (any-no p x (xs ++ ys) h)

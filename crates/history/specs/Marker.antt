@@ -49,18 +49,42 @@ module _ {im : List ℕ} {a l : ℕ} {gap lost : List ℕ} {h : ℕ} {high : Lis
   -- done: the chain has turned, T is 0
   pub turned-by : gap ≡ blanks (4096 * a) → 1 ≤ a → Turned (run im (moved (h + sizes high) marker-steps)) a l lost h [] seg-none (512 * a) (blanks (4096 * a)) high (marker (g - 8))
   turned-by e b =
-      record { is = at-tail 3 (omega arith) ∙ ap (λ (x : List ℕ). x ++ (lost ++ lay high (wrap (blanks (g - 8))))) e;
-        at = s .at; some-below = b; below = omega arith; free-length = length-replicate {A = ℕ} (4096 * a) 255 ∙ omega arith;
-        free-quiet = subst (λ (l : List ℕ). Quiet (512 * a) l) e (s .gap-quiet); opened = Next.Clear; opens = opens-blanks (4096 * a) (omega arith);
-        lost-length = s .lost-length; lost-small = s .lost-small; lost-quiet = s .lost-quiet; fine-low = tt; walked = tt; fine-high = s .fine }
+      record {
+        is = at-tail 3 (omega arith) ∙ ap (λ (x : List ℕ). x ++ (lost ++ lay high (wrap (blanks (g - 8))))) e;
+        at = s .at;
+        some-below = b;
+        below = omega arith;
+        free-length = length-replicate {A = ℕ} (4096 * a) 255 ∙ omega arith;
+        free-quiet = subst (λ (l : List ℕ). Quiet (512 * a) l) e (s .gap-quiet);
+        opened = Next.Clear;
+        opens = opens-blanks (4096 * a) (omega arith);
+        lost-length = s .lost-length;
+        lost-small = s .lost-small;
+        lost-quiet = s .lost-quiet;
+        fine-low = tt;
+        walked = tt;
+        fine-high = s .fine;
+      }
 
 -- a chain that ends at N with floor(h) > 0 has turned: the same bytes
 pub turned-exact : {im : List ℕ} {a l : ℕ} {gap lost : List ℕ} {h : ℕ} {high : List Rec} (s : Straight im a l gap lost h high seg-none []) → gap ≡ blanks (4096 * a) → 1 ≤ a → Turned im a l lost h [] seg-none (512 * a) (blanks (4096 * a)) high exact
 turned-exact {a = a} {lost = lost} {high = high} s e b =
-    record { is = s .is ∙ ap (λ (x : List ℕ). x ++ (lost ++ lay high [])) e;
-      at = s .at; some-below = b; below = omega arith; free-length = length-replicate {A = ℕ} (4096 * a) 255 ∙ omega arith;
-      free-quiet = subst (λ (l : List ℕ). Quiet (512 * a) l) e (s .gap-quiet); opened = Next.Clear; opens = opens-blanks (4096 * a) (omega arith);
-      lost-length = s .lost-length; lost-small = s .lost-small; lost-quiet = s .lost-quiet; fine-low = tt; walked = tt; fine-high = s .fine }
+    record {
+      is = s .is ∙ ap (λ (x : List ℕ). x ++ (lost ++ lay high [])) e;
+      at = s .at;
+      some-below = b;
+      below = omega arith;
+      free-length = length-replicate {A = ℕ} (4096 * a) 255 ∙ omega arith;
+      free-quiet = subst (λ (l : List ℕ). Quiet (512 * a) l) e (s .gap-quiet);
+      opened = Next.Clear;
+      opens = opens-blanks (4096 * a) (omega arith);
+      lost-length = s .lost-length;
+      lost-small = s .lost-small;
+      lost-quiet = s .lost-quiet;
+      fine-low = tt;
+      walked = tt;
+      fine-high = s .fine;
+    }
 
 -- the reading of a torn wrap
 pub torn-reading : (k : ℕ) {im : List ℕ} {a l : ℕ} {gap lost : List ℕ} {h c : ℕ} {x : Rec} {ys : List Rec} (s : Straight im a l gap lost h (x ∷ ys) seg-none (torn-wrap c k)) → Begun c → 1 ≤ a →
@@ -68,4 +92,4 @@ pub torn-reading : (k : ℕ) {im : List ℕ} {a l : ℕ} {gap lost : List ℕ} {
 torn-reading k {im} {a} {l} {gap} {lost} {h} {c} {x} {ys} s b z =
     rw (s .is)
     (shape-torn-wrap [] (x ∷ ys) gap lost (torn-wrap c k) h (zero-add (length gap) ∙ s .gap-length ∙ sym (bottom s)) (omega (arith, bottom s, s .at, s .lost-length)) tt (s .fine) (omega arith)
-      (h + sizes (x ∷ ys)) (λ w. omega (arith, bottom s)) (ends-torn-wrap (h + sizes (x ∷ ys)) k b))
+    (h + sizes (x ∷ ys)) (λ w. omega (arith, bottom s)) (ends-torn-wrap (h + sizes (x ∷ ys)) k b))

@@ -35,7 +35,7 @@ joined-blanks : (a b c m : ℕ) (s : List ℕ) → m ≡ suc (a + (b + c)) → b
 joined-blanks a b c m s e =
     ap (λ (n : ℕ). blanks n ++ s) e
     ∙ ap (λ (l : List ℕ). 255 ∷ l) (ap (λ (l : List ℕ). l ++ s) (blank-split a (b + c) (a + (b + c)) refl) ∙ append-assoc (blanks a) (blanks (b + c)) s
-      ∙ ap (λ (l : List ℕ). blanks a ++ l) (ap (λ (l : List ℕ). l ++ s) (blank-split b c (b + c) refl) ∙ append-assoc (blanks b) (blanks c) s))
+    ∙ ap (λ (l : List ℕ). blanks a ++ l) (ap (λ (l : List ℕ). l ++ s) (blank-split b c (b + c) refl) ∙ append-assoc (blanks b) (blanks c) s))
 
 take-plain : (j : ℕ) (n : List ℕ) → Plain n → Plain (take j n)
 take-plain zero n p = tt
@@ -46,13 +46,23 @@ take-plain (suc j) (x ∷ n) p = (p .0, take-plain j n (p .1))
 cut-state : (M d j f m : ℕ) (n s : List ℕ) → length n ≡ j → j < 64 → Plain n → d < 4294967296 → size-of j d ≤ f → m + j + 8 ≡ f → size-of j d ≤ M → Opened M f s (header d (n ++ (blanks m ++ s)))
 cut-state M d j f m n s e h p l i k o =
     let left : ℕ = f - size-of j d in
-    record { seg = seg-cut d n (record { short = omega arith; plain = p; small = l }); left = left;
-      is = ap (λ (z : List ℕ). header d (n ++ z)) (joined-blanks (pad (length n + 1)) (up8 d) left m s (omega arith)); sum = rw e (omega arith); bound = rw e o }
+    record {
+      seg = seg-cut d n (record { short = omega arith; plain = p; small = l });
+      left = left;
+      is = ap (λ (z : List ℕ). header d (n ++ z)) (joined-blanks (pad (length n + 1)) (up8 d) left m s (omega arith));
+      sum = rw e (omega arith);
+      bound = rw e o;
+    }
 
 torn-state : (M c x y z w f : ℕ) (s : List ℕ) → Begun c → 16 ≤ f → 16 ≤ M → Opened M f s (165 ∷ c ∷ 255 ∷ 255 ∷ x ∷ y ∷ z ∷ w ∷ (blanks (f - 8) ++ s))
 torn-state M c x y z w f s b h o =
-    record { seg = seg-torn c x y z w 255 b begun-none; left = f - 16;
-      is = ap (λ (l : List ℕ). 165 ∷ c ∷ 255 ∷ 255 ∷ x ∷ y ∷ z ∷ w ∷ l) (ap (λ (l : List ℕ). l ++ s) (blank-split 8 (f - 16) (f - 8) (omega arith))); sum = omega arith; bound = o }
+    record {
+      seg = seg-torn c x y z w 255 b begun-none;
+      left = f - 16;
+      is = ap (λ (l : List ℕ). 165 ∷ c ∷ 255 ∷ 255 ∷ x ∷ y ∷ z ∷ w ∷ l) (ap (λ (l : List ℕ). l ++ s) (blank-split 8 (f - 16) (f - 8) (omega arith)));
+      sum = omega arith;
+      bound = o;
+    }
 
 -- the header
 header-cut : (M d f : ℕ) (s : List ℕ) → d < 4294967296 → size-of 0 d ≤ f → size-of 0 d ≤ M → (k : ℕ) → k ≤ 7 → Opened M f s (run (blanks 8 ++ (blanks (f - 8) ++ s)) (take k (header-steps d)))
@@ -71,7 +81,7 @@ header-cut M d f s l h o (suc (suc (suc (suc (suc (suc (suc (suc k)))))))) i = a
 name-cut : (d f : ℕ) (n s : List ℕ) → length n < 64 → Plain n → d < 4294967296 → size-of (length n) d ≤ f → (j : ℕ) → j ≤ length n → Opened (size-of (length n) d) f s (run (header d (blanks (f - 8) ++ s)) (take j (bytes-at 8 n)))
 name-cut d f n s h p l i j k =
     let e : run (header d (blanks (f - 8) ++ s)) (take j (bytes-at 8 n)) ≡ header d (take j n ++ (blanks (f - 8 - j) ++ s)) =
-          write-blank (header d []) n s 8 j (f - 8 - j) (f - 8) refl k (omega arith) in
+    write-blank (header d []) n s 8 j (f - 8 - j) (f - 8) refl k (omega arith) in
     rw e (cut-state (size-of (length n) d) d j f (f - 8 - j) (take j n) s (length-take-le j n k) (omega arith) (take-plain j n p) l (omega arith) (omega arith) (omega arith))
 
 bytes-append : (a : ℕ) (v w : List ℕ) → bytes-at a (v ++ w) ≡ bytes-at a v ++ bytes-at (a + length v) w
@@ -90,10 +100,10 @@ named n c s f h =
     let l : length (blanks d) ≡ d = length-replicate d 255 in
     let w : length (blanks (length n + 1)) ≡ length (n ++ (0 ∷ [])) = simp (length-append, length-replicate) in
     let b : blanks (f - 8) ++ s ≡ blanks (length n + 1) ++ (blanks p ++ (blanks d ++ (blanks (pad d) ++ (blanks r ++ s)))) =
-          ap (λ (z : List ℕ). z ++ s) (blank-split (length n + 1) (p + (d + (pad d + r))) (f - 8) (omega arith)
-            ∙ ap (λ (z : List ℕ). blanks (length n + 1) ++ z) (blank-split p (d + (pad d + r)) (p + (d + (pad d + r))) refl
-              ∙ ap (λ (z : List ℕ). blanks p ++ z) (blank-split d (pad d + r) (d + (pad d + r)) refl ∙ ap (λ (z : List ℕ). blanks d ++ z) (blank-split (pad d) r (pad d + r) refl))))
-          ∙ simp append-assoc in
+    ap (λ (z : List ℕ). z ++ s) (blank-split (length n + 1) (p + (d + (pad d + r))) (f - 8) (omega arith)
+    ∙ ap (λ (z : List ℕ). blanks (length n + 1) ++ z) (blank-split p (d + (pad d + r)) (p + (d + (pad d + r))) refl
+    ∙ ap (λ (z : List ℕ). blanks p ++ z) (blank-split d (pad d + r) (d + (pad d + r)) refl ∙ ap (λ (z : List ℕ). blanks d ++ z) (blank-split (pad d) r (pad d + r) refl))))
+    ∙ simp append-assoc in
     rw (l, b, ← (bytes-append 8 n (0 ∷ [])))
     (write-over (header d []) (blanks (length n + 1)) (n ++ (0 ∷ [])) (blanks p ++ (blanks d ++ (blanks (pad d) ++ (blanks r ++ s)))) 8 refl w ∙ simp append-assoc)
 
@@ -113,8 +123,13 @@ data-cut : (n c s : List ℕ) (f : ℕ) → Fit (length c) n → size-of (length
 data-cut n c s f g h j i =
     let l : length (take j c ++ blanks (length c - j)) ≡ length c = simp (length-append, length-replicate, length-take-le j c i) (omega arith) in
     rw (data-done n c (blanks (f - size-of (length n) (length c)) ++ s) j (length c - j) i (omega arith))
-    (record { seg = seg-held n (take j c ++ blanks (length c - j)) (record { short = g .short; plain = g .plain; small = rw l (g .small) });
-      left = f - size-of (length n) (length c); is = refl; sum = rw l (omega arith); bound = rw l (omega arith) })
+    (record {
+      seg = seg-held n (take j c ++ blanks (length c - j)) (record { short = g .short; plain = g .plain; small = rw l (g .small) });
+      left = f - size-of (length n) (length c);
+      is = refl;
+      sum = rw l (omega arith);
+      bound = rw l (omega arith);
+    })
 
 -- name and data
 abbrev body-steps : List ℕ → List ℕ → List Step
@@ -134,20 +149,20 @@ names-cut n c s f g h k i =
     let a : Opened (size-of (length n) (length c)) f s (run H (bytes-at 8 n)) = rw all at (names (length n) (omega arith)) in
     let e : apply (run H (bytes-at 8 n)) (program (8 + length n) 0) ≡ R = sym (run-append H (bytes-at 8 n) (program (8 + length n) 0 ∷ [])) ∙ named n c s f h in
     cut-append (Opened (size-of (length n) (length c)) f s) H (bytes-at 8 n) (program (8 + length n) 0 ∷ [])
-      (λ j l. names j (omega (arith, length-bytes 8 n)))
-      (cut-one (Opened (size-of (length n) (length c)) f s) (run H (bytes-at 8 n)) (program (8 + length n) 0) [] a
-        (λ j l. subst (λ (m : List ℕ). Opened (size-of (length n) (length c)) f s m) (sym e ∙ ap (run (apply (run H (bytes-at 8 n)) (program (8 + length n) 0))) (sym (take-nil j))) (data-cut n c s f g h 0 (omega arith))))
-      k (omega (arith, length-bytes 8 n))
+    (λ j l. names j (omega (arith, length-bytes 8 n)))
+    (cut-one (Opened (size-of (length n) (length c)) f s) (run H (bytes-at 8 n)) (program (8 + length n) 0) [] a
+    (λ j l. subst (λ (m : List ℕ). Opened (size-of (length n) (length c)) f s m) (sym e ∙ ap (run (apply (run H (bytes-at 8 n)) (program (8 + length n) 0))) (sym (take-nil j))) (data-cut n c s f g h 0 (omega arith))))
+    k (omega (arith, length-bytes 8 n))
 
 body-cut : (n c s : List ℕ) (f : ℕ) → Fit (length c) n → size-of (length n) (length c) ≤ f → (k : ℕ) → k ≤ length n + suc (length c) →
     Opened (size-of (length n) (length c)) f s (run (header (length c) (blanks (f - 8) ++ s)) (take k (body-steps n c)))
 body-cut n c s f g h k i =
     let ln : length (name-steps n) ≡ length n + 1 = length-append (bytes-at 8 n) (program (8 + length n) 0 ∷ []) ∙ omega (arith, length-bytes 8 n) in
     cut-append (Opened (size-of (length n) (length c)) f s) (header (length c) (blanks (f - 8) ++ s)) (name-steps n) (data-steps (length n) c)
-      (λ j l. names-cut n c s f g h j (omega (arith, ln)))
-      (λ j l. subst (λ (m : List ℕ). Opened (size-of (length n) (length c)) f s (run m (take j (data-steps (length n) c)))) (sym (named n c s f h))
-        (data-cut n c s f g h j (omega (arith, length-bytes (8 + up8 (length n + 1)) c))))
-      k (omega (arith, ln, length-bytes (8 + up8 (length n + 1)) c))
+    (λ j l. names-cut n c s f g h j (omega (arith, ln)))
+    (λ j l. subst (λ (m : List ℕ). Opened (size-of (length n) (length c)) f s (run m (take j (data-steps (length n) c)))) (sym (named n c s f h))
+    (data-cut n c s f g h j (omega (arith, length-bytes (8 + up8 (length n + 1)) c))))
+    k (omega (arith, ln, length-bytes (8 + up8 (length n + 1)) c))
 
 length-body : (n c : List ℕ) → length (body-steps n c) ≡ length n + suc (length c)
 length-body n c = simp (length-append, length-bytes) (omega arith)
@@ -158,9 +173,9 @@ open-cut n c s f g h k i =
     let b : blanks f ++ s ≡ blanks 8 ++ (blanks (f - 8) ++ s) = ap (λ (z : List ℕ). z ++ s) (blank-split 8 (f - 8) f (omega arith)) ∙ append-assoc (blanks 8) (blanks (f - 8)) s in
     rw b
     (cut-append (Opened (size-of (length n) (length c)) f s) (blanks 8 ++ (blanks (f - 8) ++ s)) (header-steps (length c)) (body-steps n c)
-      (λ j l. header-cut (size-of (length n) (length c)) (length c) f s (g .small) (omega arith) (omega arith) j l)
-      (λ j l. body-cut n c s f g h j (omega (arith, length-body n c)))
-      k (omega (arith, length-body n c)))
+    (λ j l. header-cut (size-of (length n) (length c)) (length c) f s (g .small) (omega arith) (omega arith) j l)
+    (λ j l. body-cut n c s f g h j (omega (arith, length-body n c)))
+    k (omega (arith, length-body n c)))
 
 abbrev pub file : List ℕ → List ℕ → Rec
 file n c = record { low = 165; status = 252; name = n; content = c }

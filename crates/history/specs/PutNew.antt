@@ -135,6 +135,7 @@ module _ {im : Image} {l : Ledger} (q : Quiet-straight im l seg-none) where
 
   pub quiet-settled : settled-reading im ≡ give (read (length im) (q .h) T false E Ending.Tail)
   quiet-settled = settled-give im (length im) (q .h) T false (record { at = q .h; it = q .x }) (entries-of (q .h + rsize (q .x)) (q .ys)) (q .calm) (start-not (q .x .low) (q .start)) quiet-reading
+
   -- a new name, with room at T
   module _ (n c : List ℕ) (good : good-length (length im) ≡ true) (ok : name-ok n ≡ true) (nm : Fit (length c) n) (absent : file-named n E ≡ none)
       (fit : size-of (length n) (length c) + 8 ≤ q .g) (roomy : room (read (length im) (q .h) T false E Ending.Tail .place) (size-of (length n) (length c)) (largest-with n (size-of (length n) (length c)) E) ≡ true) where
@@ -146,20 +147,30 @@ module _ {im : Image} {l : Ledger} (q : Quiet-straight im l seg-none) where
         let r : Reading = read (length im) (q .h) T false E Ending.Tail in
         let lg : length (blanks (q .g)) ≡ q .g = length-replicate (q .g) 255 in
         put-plan-by n c im r (give (doing steps 0 0 0)) good ok quiet-settled
-          (put-into-by n c r roomy
-            ∙ ap (λ (o : Option Entry). give (doing (put-steps (r .place) o n c) 0 0 0)) absent
-            ∙ ap (λ (ss : List Step). give (doing ss 0 0 0)) (put-steps-new (r .place) n c (fits-by (length im) (q .h) T (size-of (length n) (length c)) (omega (arith, straight-length (q .laid), fit, lg)))))
+        (put-into-by n c r roomy
+        ∙ ap (λ (o : Option Entry). give (doing (put-steps (r .place) o n c) 0 0 0)) absent
+        ∙ ap (λ (ss : List Step). give (doing ss 0 0 0)) (put-steps-new (r .place) n c (fits-by (length im) (q .h) T (size-of (length n) (length c)) (omega (arith, straight-length (q .laid), fit, lg)))))
 
     -- done: the new file is in
     pub after-put : Quiet-straight (run im steps) (with-file n c l) seg-none
     after-put =
         let e : Entry = record { at = T; it = file n c } in
         let ab : Absent n E = none-absent n E (q .calm .unique) absent in
-        record { a = q .a; w = q .w; lost = q .lost; h = q .h; x = q .x; ys = q .ys ++ (file n c ∷ []); g = q .g - size-of (length n) (length c);
-          laid = write-done (q .x ∷ q .ys) (q .g) n c (q .laid) nm (omega (arith, fit)); some-free = omega (arith, fit); start = q .start;
+        record {
+          a = q .a;
+          w = q .w;
+          lost = q .lost;
+          h = q .h;
+          x = q .x;
+          ys = q .ys ++ (file n c ∷ []);
+          g = q .g - size-of (length n) (length c);
+          laid = write-done (q .x ∷ q .ys) (q .g) n c (q .laid) nm (omega (arith, fit));
+          some-free = omega (arith, fit);
+          start = q .start;
           calm = subst (λ (es : List Entry). Calm-store (record { at = q .h; it = q .x }) es) (sym (entries-append (q .h + rsize (q .x)) (q .ys) (file n c ∷ [])))
-            (calm-new (record { at = q .h; it = q .x }) (record { at = q .h + rsize (q .x) + sizes (q .ys); it = file n c }) (entries-of (q .h + rsize (q .x)) (q .ys)) (q .calm) ab ok (file-finished (q .h + rsize (q .x) + sizes (q .ys)) n c) (file-unmarked (q .h + rsize (q .x) + sizes (q .ys)) n c));
-          matches = subst (λ (es : List Entry). Matches es (with-file n c l)) (sym (entries-append (q .h) (q .x ∷ q .ys) (file n c ∷ []))) (matches-new E e l (file-alive T n c ok) ab (q .matches)) }
+              (calm-new (record { at = q .h; it = q .x }) (record { at = q .h + rsize (q .x) + sizes (q .ys); it = file n c }) (entries-of (q .h + rsize (q .x)) (q .ys)) (q .calm) ab ok (file-finished (q .h + rsize (q .x) + sizes (q .ys)) n c) (file-unmarked (q .h + rsize (q .x) + sizes (q .ys)) n c));
+          matches = subst (λ (es : List Entry). Matches es (with-file n c l)) (sym (entries-append (q .h) (q .x ∷ q .ys) (file n c ∷ []))) (matches-new E e l (file-alive T n c ok) ab (q .matches));
+        }
 
     -- cut before the commit: the same files, something unfinished at T
     pub put-under : (k : ℕ) → k ≤ 8 + length n + length c → (g : Seg) × Quiet-straight (run im (take k steps)) l g
@@ -175,7 +186,7 @@ module _ {im : Image} {l : Ledger} (q : Quiet-straight im l seg-none) where
     place =
         let lg : length (blanks (q .g)) ≡ q .g = length-replicate (q .g) 255 in
         let m : with-marker (read (length im) (q .h) T false E Ending.Tail .place) (size-of (length n) (length c)) ≡ false =
-              no-marker (read (length im) (q .h) T false E Ending.Tail .place) (size-of (length n) (length c)) (fits-by (length im) (q .h) T (size-of (length n) (length c)) (omega (arith, straight-length (q .laid), fit, lg))) in
+        no-marker (read (length im) (q .h) T false E Ending.Tail .place) (size-of (length n) (length c)) (fits-by (length im) (q .h) T (size-of (length n) (length c)) (omega (arith, straight-length (q .laid), fit, lg))) in
         ap (commit-place n c) quiet-reading
         ∙ ap₂ (λ (o : Option Entry) (b : Bool). length n + length c + 9 + one-if-fc o + three-if b) absent m ∙ omega arith
 
@@ -192,4 +203,4 @@ module _ {im : Image} {l : Ledger} (q : Quiet-straight im l seg-none) where
             let o : put im n c k ≡ record { numbers = cut k (doing steps 0 0 0); image = run im (take k steps) } = ap (carry-out im k) planned ∙ carried-cut im k (doing steps 0 0 0) h in
             let u : (g : Seg) × Quiet-straight (run im (take k steps)) l g = put-under k (omega (arith, count)) in
             subst (λ (z : Outcome). (g : Seg) × Quiet-straight (z .image) (fed im (Request.put n c) (z .numbers) l) g) (sym o)
-              (u .0, rw (fed-cut im n c k (doing steps 0 0 0) l (omega (arith, place, count))) (u .1))
+            (u .0, rw (fed-cut im n c k (doing steps 0 0 0) l (omega (arith, place, count))) (u .1))

@@ -71,15 +71,17 @@ on-blank b h = and-mask b 8 ∙ omega arith
 pub sound-bytes : (p w s : List ℕ) (a k m : ℕ) → length p ≡ a → k ≡ length w + m → Each (λ b. b < 256) w → Steps-sound (p ++ (blanks k ++ s)) (bytes-at a w)
 sound-bytes p [] s a k m e i h = tt
 sound-bytes p (b ∷ w) s a zero m e i h = absurd (omega arith)
-sound-bytes p (b ∷ w) s a (suc k) m e i h =
-    ((omega (arith, length-append p (blanks (suc k) ++ s)), rw (getD-at p 255 (blanks k ++ s) 0 a e) (on-blank b (h .0))),
-      rw (set-at p 255 (blanks k ++ s) b a e, ← (append-snoc p b (blanks k ++ s)))
-        (sound-bytes (p ++ (b ∷ [])) w s (a + 1) k m (omega (arith, length-append p (b ∷ []))) (omega arith) (h .1)))
+sound-bytes p (b ∷ w) s a (suc k) m e i h = (
+  (omega (arith, length-append p (blanks (suc k) ++ s)), rw (getD-at p 255 (blanks k ++ s) 0 a e) (on-blank b (h .0))),
+  rw (set-at p 255 (blanks k ++ s) b a e, ← (append-snoc p b (blanks k ++ s)))
+      (sound-bytes (p ++ (b ∷ [])) w s (a + 1) k m (omega (arith, length-append p (b ∷ []))) (omega arith) (h .1)),
+)
 
 -- behind the first part
 pub sound-past : (p q : List ℕ) (ss : List Step) (a : ℕ) → length p ≡ a → Programs ss → Steps-sound q ss → Steps-sound (p ++ q) (moved a ss)
 sound-past p q [] a e h c = tt
-sound-past p q (program i b ∷ ss) a e h c =
-    ((omega (arith, length-append p q, c .0 .0), rw (← e, getD-append-add p q i 0) (c .0 .1)),
-      rw (← e, set-past p q i b) (rw (← e) at (sound-past p (set q i b) ss a e h (c .1))))
+sound-past p q (program i b ∷ ss) a e h c = (
+  (omega (arith, length-append p q, c .0 .0), rw (← e, getD-append-add p q i 0) (c .0 .1)),
+  rw (← e, set-past p q i b) (rw (← e) at (sound-past p (set q i b) ss a e h (c .1))),
+)
 sound-past p q (erase i ∷ ss) a e h c = absurd h

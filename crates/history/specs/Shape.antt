@@ -138,19 +138,19 @@ module _ (low high : List Rec) (gap lost rest : List ℕ) (h : ℕ) (below : siz
       reading-from im h ≡ read (length im) h u true (entries-of h high ++ (entries-of 0 low ++ fs)) Ending.Tail
   shape-turned {x} {y} fs p t u z n e l d =
       reading-is im h _ _ (from-h [] false t x e ∙ ap (λ (m : List Entry). chain-of m false t x) (append-nil (entries-of h high)))
-        (read-turned im h t u false p (entries-of h high) (entries-of 0 low ++ fs) z n (low-read low high gap lost rest h below here fs p u y fl (omega arith) d) l)
+      (read-turned im h t u false p (entries-of h high) (entries-of 0 low ++ fs) z n (low-read low high gap lost rest h below here fs p u y fl (omega arith) d) l)
 
   -- an unfinished record that ends at N: turned, T is 0
   pub shape-last : {y : Next} (es : List Entry) (t : ℕ) → (floor h ≡ 0 → ⊥) → low ≡ [] → Ends (h + sizes high) rest (chain-of es true t Next.Over) → Low-end y → Stops 0 gap y →
       reading-from im h ≡ read (length im) h 0 true (entries-of h high ++ es) Ending.Tail
   shape-last {y} es t z n e l d =
       reading-is im h _ _ (from-h es true t Next.Over e)
-        (read-turned im h t 0 true true (entries-of h high ++ es) [] z turns-over (low-stops low high gap lost rest h below here y n d) l
-          ∙ ap (λ (m : List Entry). read (length im) h 0 true m Ending.Tail) (append-nil (entries-of h high ++ es)))
+      (read-turned im h t 0 true true (entries-of h high ++ es) [] z turns-over (low-stops low high gap lost rest h below here y n d) l
+      ∙ ap (λ (m : List Entry). read (length im) h 0 true m Ending.Tail) (append-nil (entries-of h high ++ es)))
 
   -- a torn wrap
   pub shape-torn-wrap : (t : ℕ) → (floor h ≡ 0 → ⊥) → Ends (h + sizes high) rest (chain-of [] false t Next.TornWrap) →
       reading-from im h ≡ read (length im) h 0 true (entries-of h high) (Ending.TornWrap t)
   shape-torn-wrap t z e =
       reading-is im h _ _ (from-h [] false t Next.TornWrap e ∙ ap (λ (m : List Entry). chain-of m false t Next.TornWrap) (append-nil (entries-of h high)))
-        (read-joined im h (chain-of (entries-of h high) false t Next.TornWrap) z ∙ joined-torn (length im) h t false (entries-of h high) (from-zero im h false))
+      (read-joined im h (chain-of (entries-of h high) false t Next.TornWrap) z ∙ joined-torn (length im) h t false (entries-of h high) (from-zero im h false))

@@ -63,8 +63,11 @@ pub doubled-none : (st : ℕ) → ((e : Entry) → named st e ≡ true → alive
 unfolding doubled has-named
 doubled-none st a [] u = refl
 doubled-none st a (e ∷ es) u =
-    rw (doubled, and-no (named st e) (any (named-as st e) es)
-      (λ h. any-none (named-as st e) es (each-map es (λ f q. and-no (named st f) (same-name e f) (λ k. q (a e h) (a f k))) (u .0))))
+    rw (
+      doubled,
+      and-no (named st e) (any (named-as st e) es)
+          (λ h. any-none (named-as st e) es (each-map es (λ f q. and-no (named st f) (same-name e f) (λ k. q (a e h) (a f k))) (u .0))),
+    )
     (doubled-none st a es (u .1))
 
 pub unique-single : (es : List Entry) → Unique es → single es ≡ true
@@ -78,9 +81,9 @@ Over e f = named 0xF8 e ≡ true → named-as 0xFC e f ≡ false
 none-over : (es : List Entry) → Unique es → Each (λ e. Each (Over e) es) es
 none-over es u =
     all-pairs Over Apart (λ e h. rw (fc-not-f8 e h))
-      (λ e f q h. and-no (named 0xFC f) (same-name e f) (λ k. q (f8-alive e h) (fc-alive f k)))
-      (λ e f q h. and-no (named 0xFC e) (same-name f e) (λ k. same-sym (name-of f) (name-of e) ∙ q (fc-alive e k) (f8-alive f h)))
-      es u
+    (λ e f q h. and-no (named 0xFC f) (same-name e f) (λ k. q (f8-alive e h) (fc-alive f k)))
+    (λ e f q h. and-no (named 0xFC e) (same-name f e) (λ k. same-sym (name-of f) (name-of e) ∙ q (fc-alive e k) (f8-alive f h)))
+    es u
 
 pub no-fc : (es : List Entry) → Unique es → Each (λ e. named 0xF8 e ≡ true → has-named 0xFC es e ≡ false) es
 unfolding has-named
@@ -165,15 +168,19 @@ dead-named u a q = let z : false ≡ true = sym a ∙ q in cc
 pub calm-and : (x u : Entry) (es : List Entry) → Calm-store x es → alive u ≡ false → Unmarked u → Ruled (x ∷ (es ++ (u ∷ [])))
 calm-and x u es c a m =
     let un : Unique (x ∷ (es ++ (u ∷ []))) = pairwise-end Apart (x ∷ es) u (c .unique) (each-all (λ e. Apart e u) (dead-apart u a) (x ∷ es)) in
-    record { names = names-by (x ∷ (es ++ (u ∷ []))) un (each-end Well-named (x ∷ es) u (c .well-named) (dead-named u a));
+    record {
+      names = names-by (x ∷ (es ++ (u ∷ []))) un (each-end Well-named (x ∷ es) u (c .well-named) (dead-named u a));
       singles = unique-single (x ∷ (es ++ (u ∷ []))) un;
-      marks = marks-by x (es ++ (u ∷ [])) (each-end Unmarked es u (c .unmarked) m) }
+      marks = marks-by x (es ++ (u ∷ [])) (each-end Unmarked es u (c .unmarked) m);
+    }
 
 -- a new live record behind
 pub calm-new : (x e : Entry) (es : List Entry) → Calm-store x es → Each (λ f. alive f ≡ true → same (name-of f) (name-of e) ≡ false) (x ∷ es) → name-ok (name-of e) ≡ true → Finished e → Unmarked e →
     Calm-store x (es ++ (e ∷ []))
 calm-new x e es c a n f m =
-    record { unique = pairwise-end Apart (x ∷ es) e (c .unique) (each-map (x ∷ es) (λ y h k j. h k) a);
+    record {
+      unique = pairwise-end Apart (x ∷ es) e (c .unique) (each-map (x ∷ es) (λ y h k j. h k) a);
       well-named = each-end Well-named (x ∷ es) e (c .well-named) (λ k. n);
       finished = each-end Finished (x ∷ es) e (c .finished) f;
-      unmarked = each-end Unmarked es e (c .unmarked) m }
+      unmarked = each-end Unmarked es e (c .unmarked) m;
+    }

@@ -70,7 +70,7 @@ module _ {im : List ℕ} {a l : ℕ} {gap lost : List ℕ} {h : ℕ} {x : Rec} {
   fronted n =
       let l : 8 ≤ length (gap ++ lost) = omega (arith, before-length, s .at) in
       front-of _ (omega (arith, length-append (gap ++ lost) (lay (x ∷ ys) (seg-onto seg free))))
-        (λ e. s .front (sym (List·getD-append (gap ++ lost) (lay (x ∷ ys) (seg-onto seg free)) 0 1 (omega arith)) ∙ e))
+      (λ e. s .front (sym (List·getD-append (gap ++ lost) (lay (x ∷ ys) (seg-onto seg free)) 0 1 (omega arith)) ∙ e))
 
   reached : (h ≡ 0 → ⊥) → Reaches 0 ((gap ++ lost) ++ lay (x ∷ ys) (seg-onto seg free)) (lay (x ∷ ys) (seg-onto seg free)) h
   reached n =
@@ -78,13 +78,13 @@ module _ {im : List ℕ} {a l : ℕ} {gap lost : List ℕ} {h : ℕ} {x : Rec} {
       let e : suc w ≡ 512 * a + l = omega (arith, s .at) in
       let g : 8 * suc w ≡ h = omega (arith, s .at) in
       subst (λ (m : ℕ). Reaches 0 ((gap ++ lost) ++ lay (x ∷ ys) (seg-onto seg free)) (lay (x ∷ ys) (seg-onto seg free)) m) g
-        (reaches-more (reaches-quiet 0 w (gap ++ lost) (lay (x ∷ ys) (seg-onto seg free)) (before-length ∙ omega arith) (subst (λ (n : ℕ). Quiet n (gap ++ lost)) (sym e) before-quiet)))
+      (reaches-more (reaches-quiet 0 w (gap ++ lost) (lay (x ∷ ys) (seg-onto seg free)) (before-length ∙ omega arith) (subst (λ (n : ℕ). Quiet n (gap ++ lost)) (sym e) before-quiet)))
 
   pub straight-start : (h ≡ 0 → ⊥) → x .low ≡ 0 → head im ≡ give h
   straight-start n e =
       ap head together
       ∙ head-start [] ((gap ++ lost) ++ lay (x ∷ ys) (seg-onto seg free)) (drop 2 (lay (x ∷ ys) (seg-onto seg free))) h tt tt (fronted n)
-          (subst (λ (b : ℕ). Reaches 0 ((gap ++ lost) ++ lay (x ∷ ys) (seg-onto seg free)) (b ∷ 90 ∷ drop 2 (lay (x ∷ ys) (seg-onto seg free))) h) e (reached n))
+      (subst (λ (b : ℕ). Reaches 0 ((gap ++ lost) ++ lay (x ∷ ys) (seg-onto seg free)) (b ∷ 90 ∷ drop 2 (lay (x ∷ ys) (seg-onto seg free))) h) e (reached n))
       ∙ ap give (zero-add h)
 
   not-clean : (h ≡ 0 → ⊥) → clean-here ((gap ++ lost) ++ lay (x ∷ ys) (seg-onto seg free)) ≡ false
@@ -94,7 +94,7 @@ module _ {im : List ℕ} {a l : ℕ} {gap lost : List ℕ} {h : ℕ} {x : Rec} {
   straight-clean n e =
       ap head together
       ∙ head-clean [] ((gap ++ lost) ++ lay (x ∷ ys) (seg-onto seg free)) (drop 2 (lay (x ∷ ys) (seg-onto seg free))) h tt tt (fronted n) (not-clean n)
-          (subst (λ (b : ℕ). Reaches 0 ((gap ++ lost) ++ lay (x ∷ ys) (seg-onto seg free)) (b ∷ 90 ∷ drop 2 (lay (x ∷ ys) (seg-onto seg free))) h) e (reached n))
+      (subst (λ (b : ℕ). Reaches 0 ((gap ++ lost) ++ lay (x ∷ ys) (seg-onto seg free)) (b ∷ 90 ∷ drop 2 (lay (x ∷ ys) (seg-onto seg free))) h) e (reached n))
       ∙ ap give (zero-add h)
 
   pub straight-zero : h ≡ 0 → x .low ≡ 0 → head im ≡ give h
@@ -105,8 +105,8 @@ module _ {im : List ℕ} {a l : ℕ} {gap lost : List ℕ} {h : ℕ} {x : Rec} {
   straight-none f z e w o l q =
       ap head (at-zero z) ∙ ap (λ (g : Seg). head (lay (x ∷ ys) (seg-onto g free))) o
       ∙ head-none (x ∷ ys) free (8 * f) (s .fine) w front-low
-          (subst (λ (b : ℕ). clean-here (b ∷ 90 ∷ drop 2 (lay (x ∷ ys) free)) ≡ true) (sym e) (clean-yes (drop 2 (lay (x ∷ ys) free)))) (omega (arith, length-lay (x ∷ ys) free))
-          (reaches-more (reaches-end (sizes (x ∷ ys)) f free l q))
+      (subst (λ (b : ℕ). clean-here (b ∷ 90 ∷ drop 2 (lay (x ∷ ys) free)) ≡ true) (sym e) (clean-yes (drop 2 (lay (x ∷ ys) free)))) (omega (arith, length-lay (x ∷ ys) free))
+      (reaches-more (reaches-end (sizes (x ∷ ys)) f free l q))
       ∙ ap give (sym z)
 
   -- ---- the reading

@@ -47,12 +47,15 @@ clean-straight {im} {a} {l} {gap} {lost} {h} {x} {ys} {seg} {free} s j =
     let lg : length G ≡ h = length-append gap lost ∙ omega (arith, s .gap-length, s .lost-length, s .at) in
     let lp : length p ≡ h + (8 + up8 (length (x .name) + 1)) = length-append G H ∙ ap₂ _+_ lg (head-length x d) in
     let back : (c : List ℕ) → length c ≡ d → p ++ (c ++ q) ≡ gap ++ (lost ++ onto (recontent c x) R) =
-          λ c e. append-assoc G H (c ++ q)
-            ∙ ap (λ (l : List ℕ). G ++ l) (ap (λ (n : ℕ). head-part x n ++ (c ++ (blanks (pad n) ++ R))) (sym e) ∙ sym (onto-split (recontent c x) R))
-            ∙ append-assoc gap lost (onto (recontent c x) R) in
+    λ c e. append-assoc G H (c ++ q)
+    ∙ ap (λ (l : List ℕ). G ++ l) (ap (λ (n : ℕ). head-part x n ++ (c ++ (blanks (pad n) ++ R))) (sym e) ∙ sym (onto-split (recontent c x) R))
+    ∙ append-assoc gap lost (onto (recontent c x) R) in
     let e : im ≡ p ++ (x .content ++ q) = s .is ∙ sym (back (x .content) refl) in
     let c : Cleaning p (x .content) q (run (p ++ (x .content ++ q)) (take j (clean-steps d (h + (8 + up8 (length (x .name) + 1))) (x .content)))) = clean-cut d (h + (8 + up8 (length (x .name) + 1))) p (x .content) q lp j in
     let f : Fine x = s .fine .0 in
-    record { now = c .now; same-length = c .same-length;
+    record {
+      now = c .now;
+      same-length = c .same-length;
       laid = other _ s (ap (λ (m : List ℕ). run m (take j (clean-steps d (h + (8 + up8 (length (x .name) + 1))) (x .content)))) e ∙ c .is ∙ back (c .now) (c .same-length))
-        (record { low-ok = f .low-ok; status-ok = f .status-ok; fit = record { short = f .fit .short; plain = f .fit .plain; small = rw (c .same-length) (f .fit .small) } }, s .fine .1) }
+          (record { low-ok = f .low-ok; status-ok = f .status-ok; fit = record { short = f .fit .short; plain = f .fit .plain; small = rw (c .same-length) (f .fit .small) } }, s .fine .1);
+    }

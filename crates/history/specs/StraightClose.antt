@@ -63,22 +63,22 @@ module _ {im : Image} {a l : ℕ} {gap lost : List ℕ} {h : ℕ} {x y : Rec} {y
   pub done : Straight (run im (erases A (suc k))) (a + suc k) r (gap ++ blanks (4096 * suc k)) (drop (4096 * suc k) (old-head lost x)) (h + rsize x) (y ∷ ys) seg-none free
   done =
       subst (λ (g : List ℕ). Straight (run im (erases A (suc k))) (a + suc k) r (gap ++ g) (drop (4096 * suc k) (old-head lost x)) (h + rsize x) (y ∷ ys) seg-none free) (all-erased (suc k) (old-head lost x))
-        (subst (λ (ss : List Step). Straight (run im ss) (a + suc k) r (gap ++ half-erased (suc k) (suc k) (old-head lost x)) (drop (4096 * suc k) (old-head lost x)) (h + rsize x) (y ∷ ys) seg-none free)
-          (take-all (suc k) (erases A (suc k)) (omega (arith, length-erases A (suc k)))) (to-m3 s c k r all short k (omega arith)))
+      (subst (λ (ss : List Step). Straight (run im ss) (a + suc k) r (gap ++ half-erased (suc k) (suc k) (old-head lost x)) (drop (4096 * suc k) (old-head lost x)) (h + rsize x) (y ∷ ys) seg-none free)
+      (take-all (suc k) (erases A (suc k)) (omega (arith, length-erases A (suc k)))) (to-m3 s c k r all short k (omega arith)))
 
   pub last : Straight (apply (run im (erases A (suc k))) (program (h + rsize x) 0)) (a + suc k) r (gap ++ blanks (4096 * suc k)) (drop (4096 * suc k) (old-head lost x)) (h + rsize x) (relow 0 y ∷ ys) seg-none free
   last =
       let e : h + rsize x + 0 + 0 ≡ h + rsize x = omega arith in
       subst (λ (n : ℕ). Straight (set (run im (erases A (suc k))) n 0) (a + suc k) r (gap ++ blanks (4096 * suc k)) (drop (4096 * suc k) (old-head lost x)) (h + rsize x) (relow 0 y ∷ ys) seg-none free) e
-        (set-low [] y ys done 0 low-start)
+      (set-low [] y ys done 0 low-start)
 
   -- (d) and (e)
   pub erase-and-start : (j : ℕ) → j ≤ suc (suc k) → M (run im (take j (erases A (suc k) ++ (program (h + rsize x) 0 ∷ []))))
   erase-and-start j e =
       cut-append M im (erases A (suc k)) (program (h + rsize x) 0 ∷ [])
-        (λ i f. erasing i (omega (arith, length-erases A (suc k))))
-        (cut-one M (run im (erases A (suc k))) (program (h + rsize x) 0) [] (at-m3 done) (λ i f. at-q (none i)))
-        j (omega (arith, length-erases A (suc k)))
+      (λ i f. erasing i (omega (arith, length-erases A (suc k))))
+      (cut-one M (run im (erases A (suc k))) (program (h + rsize x) 0) [] (at-m3 done) (λ i f. at-q (none i)))
+      j (omega (arith, length-erases A (suc k)))
     where
       none : (i : ℕ) → Straight (run (apply (run im (erases A (suc k))) (program (h + rsize x) 0)) (take i [])) (a + suc k) r (gap ++ blanks (4096 * suc k)) (drop (4096 * suc k) (old-head lost x)) (h + rsize x) (relow 0 y ∷ ys) seg-none free
       none zero = last

@@ -40,8 +40,17 @@ fine-right (x ∷ xs) ys p = fine-right xs ys (p .1)
 pub other : {im : List ℕ} {a l : ℕ} {gap lost : List ℕ} {h : ℕ} {high high′ : List Rec} {seg seg′ : Seg} {free free′ : List ℕ} (im′ : List ℕ) → Straight im a l gap lost h high seg free →
     im′ ≡ gap ++ (lost ++ lay high′ (seg-onto seg′ free′)) → All-fine high′ → Straight im′ a l gap lost h high′ seg′ free′
 other im′ s e f =
-    record { is = e; at = s .at; gap-length = s .gap-length; gap-quiet = s .gap-quiet; lost-length = s .lost-length; lost-small = s .lost-small; lost-quiet = s .lost-quiet;
-      front = s .front; fine = f }
+    record {
+      is = e;
+      at = s .at;
+      gap-length = s .gap-length;
+      gap-quiet = s .gap-quiet;
+      lost-length = s .lost-length;
+      lost-small = s .lost-small;
+      lost-quiet = s .lost-quiet;
+      front = s .front;
+      fine = f;
+    }
 
 -- ---- behind some of the records
 
@@ -88,16 +97,16 @@ module _ {im : List ℕ} {a l : ℕ} {gap lost : List ℕ} {h : ℕ} (xs : List 
   pub set-status : (b : ℕ) → Stat b → Straight (set im (h + sizes xs + 2) b) a l gap lost h (xs ++ restatus b r ∷ ys) seg free
   set-status b k =
       other (set im (h + sizes xs + 2) b) s
-        (run-behind xs (r ∷ ys) refl s (program 2 b ∷ []) tt ∙ ap (λ (l : List ℕ). gap ++ (lost ++ l)) (sym (lay-append xs (restatus b r ∷ ys) (seg-onto seg free))))
-        (fine-append xs (restatus b r ∷ ys) (fine-left xs (r ∷ ys) (s .fine))
-          (record { low-ok = r-fine .low-ok; status-ok = k; fit = r-fine .fit }, fine-right xs (r ∷ ys) (s .fine) .1))
+      (run-behind xs (r ∷ ys) refl s (program 2 b ∷ []) tt ∙ ap (λ (l : List ℕ). gap ++ (lost ++ l)) (sym (lay-append xs (restatus b r ∷ ys) (seg-onto seg free))))
+      (fine-append xs (restatus b r ∷ ys) (fine-left xs (r ∷ ys) (s .fine))
+      (record { low-ok = r-fine .low-ok; status-ok = k; fit = r-fine .fit }, fine-right xs (r ∷ ys) (s .fine) .1))
 
   pub set-low : (b : ℕ) → Low b → Straight (set im (h + sizes xs + 0) b) a l gap lost h (xs ++ relow b r ∷ ys) seg free
   set-low b k =
       other (set im (h + sizes xs + 0) b) s
-        (run-behind xs (r ∷ ys) refl s (program 0 b ∷ []) tt ∙ ap (λ (l : List ℕ). gap ++ (lost ++ l)) (sym (lay-append xs (relow b r ∷ ys) (seg-onto seg free))))
-        (fine-append xs (relow b r ∷ ys) (fine-left xs (r ∷ ys) (s .fine))
-          (record { low-ok = k; status-ok = r-fine .status-ok; fit = r-fine .fit }, fine-right xs (r ∷ ys) (s .fine) .1))
+      (run-behind xs (r ∷ ys) refl s (program 0 b ∷ []) tt ∙ ap (λ (l : List ℕ). gap ++ (lost ++ l)) (sym (lay-append xs (relow b r ∷ ys) (seg-onto seg free))))
+      (fine-append xs (relow b r ∷ ys) (fine-left xs (r ∷ ys) (s .fine))
+      (record { low-ok = k; status-ok = r-fine .status-ok; fit = r-fine .fit }, fine-right xs (r ∷ ys) (s .fine) .1))
 
 -- ---- a record written at T
 
@@ -117,19 +126,23 @@ module _ {im : List ℕ} {a l : ℕ} {gap lost : List ℕ} {h : ℕ} (high : Lis
   write-cut k l =
       let o : Opened (size-of (length n) (length c)) f [] (run (blanks f ++ []) (take k (open-steps n c))) = open-cut n c [] f g room k l in
       let cut : take k (record-steps n c) ≡ take k (open-steps n c) = take-open n c k l in
-      record { seg = o .seg; left = o .left;
+      record {
+        seg = o .seg;
+        left = o .left;
         laid = other (run im (take k (moved (h + sizes high) (record-steps n c)))) s
-          (ap (run im) (take-moved k (h + sizes high) (record-steps n c)) ∙ at-end (take k (record-steps n c)) (take-programs k (record-steps n c) (record-programs n c))
+            (ap (run im) (take-moved k (h + sizes high) (record-steps n c)) ∙ at-end (take k (record-steps n c)) (take-programs k (record-steps n c) (record-programs n c))
             ∙ ap (λ (l : List ℕ). gap ++ (lost ++ lay high l)) (ap (run (blanks f ++ [])) cut ∙ o .is ∙ ap (seg-onto (o .seg)) (append-nil (blanks (o .left))))) (s .fine);
-        sum = o .sum; bound = o .bound }
+        sum = o .sum;
+        bound = o .bound;
+      }
 
   pub write-done : Straight (run im (moved (h + sizes high) (record-steps n c))) a l gap lost h (high ++ file n c ∷ []) seg-none (blanks (f - size-of (length n) (length c)))
   write-done =
       other (run im (moved (h + sizes high) (record-steps n c))) s
-        (at-end (record-steps n c) (record-programs n c)
-          ∙ ap (λ (l : List ℕ). gap ++ (lost ++ lay high l)) (record-done n c [] f room ∙ ap (onto (file n c)) (append-nil (blanks (f - size-of (length n) (length c)))))
-          ∙ ap (λ (l : List ℕ). gap ++ (lost ++ l)) (sym (lay-append high (file n c ∷ []) (blanks (f - size-of (length n) (length c))))))
-        (fine-append high (file n c ∷ []) (s .fine) (record { low-ok = low-record; status-ok = st-fc; fit = g }, tt))
+      (at-end (record-steps n c) (record-programs n c)
+      ∙ ap (λ (l : List ℕ). gap ++ (lost ++ lay high l)) (record-done n c [] f room ∙ ap (onto (file n c)) (append-nil (blanks (f - size-of (length n) (length c)))))
+      ∙ ap (λ (l : List ℕ). gap ++ (lost ++ l)) (sym (lay-append high (file n c ∷ []) (blanks (f - size-of (length n) (length c))))))
+      (fine-append high (file n c ∷ []) (s .fine) (record { low-ok = low-record; status-ok = st-fc; fit = g }, tt))
 
 pub straight-length : {im : List ℕ} {a l : ℕ} {gap lost : List ℕ} {h : ℕ} {high : List Rec} {seg : Seg} {free : List ℕ} → Straight im a l gap lost h high seg free →
     length im ≡ h + sizes high + seg-size seg + length free

@@ -66,7 +66,8 @@ module _ {im : List ℕ} {a l : ℕ} {gap lost : List ℕ} {h : ℕ} {x y : Rec}
         let ql : length q ≡ 4096 * suc k + 8 * r = q-length ∙ omega arith in
         let qn : 512 * a + 512 * suc k ≡ 512 * (a + suc k) = omega arith in
         let ld : length D ≡ 4096 * suc k = half-erased-length (suc i) (suc k) q (omega arith) (omega arith) in
-        record { is = erased (suc i) (omega arith) ∙ sym (append-assoc gap D (L ++ lay (y ∷ ys) free));
+        record {
+          is = erased (suc i) (omega arith) ∙ sym (append-assoc gap D (L ++ lay (y ∷ ys) free));
           at = omega (arith, s .at, rsize-words x);
           gap-length = length-append gap D ∙ omega (arith, s .gap-length, ld);
           gap-quiet = subst (λ (n : ℕ). Quiet n (gap ++ D)) qn (quiet-append (512 * a) (512 * suc k) gap D (s .gap-length ∙ omega arith) (s .gap-quiet) (half-erased-quiet k r q ql quiet-q i e));
@@ -74,4 +75,5 @@ module _ {im : List ℕ} {a l : ℕ} {gap lost : List ℕ} {h : ℕ} {x y : Rec}
           lost-small = short;
           lost-quiet = quiet-lost k r q ql quiet-q;
           front = front-keep gap lost D L a (s .gap-length) (s .front) (second-ff (4096 * suc i) (take (4096 * (suc k - suc i)) (drop (4096 * suc i) q)) L (omega arith));
-          fine = s .fine .1 }
+          fine = s .fine .1;
+        }

@@ -48,10 +48,10 @@ unfolding void-steps is-erased is-reserved
 void-is s e un-torn = refl
 void-is {im} {free = free} s e (un-cut {d} {at} {n}) =
     ap (λ (m : List Step). m ++ (program (at + 2) 0 ∷ []))
-      (missing-yes im (at + (8 + length n)) (ap (λ (a : ℕ). getD im (a + (8 + length n)) 0) (sym e) ∙ tail-byte s (8 + length n) ∙ byte-behind d 255 n (blanks (pad (length n + 1)) ++ (blanks (up8 d) ++ free)) 254))
+    (missing-yes im (at + (8 + length n)) (ap (λ (a : ℕ). getD im (a + (8 + length n)) 0) (sym e) ∙ tail-byte s (8 + length n) ∙ byte-behind d 255 n (blanks (pad (length n + 1)) ++ (blanks (up8 d) ++ free)) 254))
 void-is {im} {free = free} s e (un-held {at} {n} {c}) =
     ap (λ (l : List Step). l ++ (program (at + 2) 0 ∷ []))
-      (missing-no im (at + (8 + length n)) (ap (λ (a : ℕ). getD im (a + (8 + length n)) 0) (sym e) ∙ tail-byte s (8 + length n) ∙ byte-behind (length c) 0 n _ 254))
+    (missing-no im (at + (8 + length n)) (ap (λ (a : ℕ). getD im (a + (8 + length n)) 0) (sym e) ∙ tail-byte s (8 + length n) ∙ byte-behind (length c) 0 n _ 254))
 
 -- repair 3 on it
 pub third : {im : List ℕ} {a l : ℕ} {gap lost : List ℕ} {h : ℕ} {x : Rec} {ys : List Rec} {g : Seg} {free : List ℕ} {u : Entry} (s : Straight im a l gap lost h (x ∷ ys) g free) → Unfinished g (h + sizes (x ∷ ys)) u → (N T : ℕ) (b : Bool) →

@@ -23,29 +23,31 @@ module _ (Inv : Image → Ledger → Type 0) where
       Inv (outcome im c .image) (fed im (c .request) (outcome im c .numbers) l)
   still-keeps im l c s e =
       subst (λ (m : Ledger). Inv (outcome im c .image) m) (sym e)
-        (subst (λ (i : Image). Inv i l) (sym (carried-image im (c .allowance) (plan im (c .request)))) (safe-cut (λ i. Inv i l) im (steps-of (plan im (c .request))) s (c .allowance)))
+      (subst (λ (i : Image). Inv i l) (sym (carried-image im (c .allowance) (plan im (c .request)))) (safe-cut (λ i. Inv i l) im (steps-of (plan im (c .request))) s (c .allowance)))
 
   module _
       (formatted : (raw : Image) (k : ℕ) → format raw k .numbers .answer ≡ 0 → Inv (format raw k .image) [])
       (keeps : (im : Image) (l : Ledger) (c : Call) → Inv im l → Bytes-put (c .request) → Inv (outcome im c .image) (fed im (c .request) (outcome im c .numbers) l))
       (sound : (im : Image) (l : Ledger) (r : Request) → Inv im l → Bytes-put r → Steps-sound im (steps-of (plan im r)))
       (mounts : (im : Image) (l : Ledger) → Inv im l → (k : ℕ) → length (steps-of (mount-plan im)) ≤ k → Mounted im k l) where
-
     all-calls : (im : Image) (l : Ledger) (cs : List Call) → Inv im l → Each (λ c. Bytes-put (c .request)) cs → Inv (replay im cs) (ledger im cs l)
     all-calls im l [] i b = i
     all-calls im l (c ∷ cs) i b = all-calls (outcome im c .image) (fed im (c .request) (outcome im c .numbers) l) cs (keeps im l c i (b .0)) (b .1)
 
     all-sound : (im : Image) (l : Ledger) (cs : List Call) → Inv im l → Each (λ c. Bytes-put (c .request)) cs → Calls-sound im cs
     all-sound im l [] i b = tt
-    all-sound im l (c ∷ cs) i b =
-        (sound-take (c .allowance) im (steps-of (plan im (c .request))) (sound im l (c .request) i (b .0)),
-          all-sound (outcome im c .image) (fed im (c .request) (outcome im c .numbers) l) cs (keeps im l c i (b .0)) (b .1))
+    all-sound im l (c ∷ cs) i b = (
+      sound-take (c .allowance) im (steps-of (plan im (c .request))) (sound im l (c .request) i (b .0)),
+      all-sound (outcome im c .image) (fed im (c .request) (outcome im c .numbers) l) cs (keeps im l c i (b .0)) (b .1),
+    )
 
     pub demand-3 : Demand-3
     demand-3 raw k cs e b =
         let start : Image = format raw k .image in
         let i : Inv start [] = formatted raw k e in
         let last : Inv (replay start cs) (ledger start cs []) = all-calls start [] cs i b in
-        record { sound = all-sound start [] cs i b;
+        record {
+          sound = all-sound start [] cs i b;
           sound-after = sound (replay start cs) (ledger start cs []) Request.mount last tt;
-          mounted = mounts (replay start cs) (ledger start cs []) last }
+          mounted = mounts (replay start cs) (ledger start cs []) last;
+        }

@@ -21,7 +21,7 @@ more-open : {free : List ℕ} {x : Next} (i k : ℕ) (q : List ℕ) → Opens fr
 more-open i k q opens-ff = opens-ff
 more-open i k q opens-none =
     subst (λ (l : List ℕ). Opens l Next.Clear)
-      (sym (ap (λ (l : List ℕ). l ++ take (4096 * (k - suc i)) (drop (4096 * suc i) q)) (blank-split 8 (4096 * suc i - 8) (4096 * suc i) (omega arith)))) opens-ff
+    (sym (ap (λ (l : List ℕ). l ++ take (4096 * (k - suc i)) (drop (4096 * suc i) q)) (blank-split 8 (4096 * suc i - 8) (4096 * suc i) (omega arith)))) opens-ff
 
 -- Y behind X, in a later sector
 module _ {im : List ℕ} {a l : ℕ} {lost : List ℕ} {h : ℕ} {low : List Rec} {f : ℕ} {free : List ℕ} {x y : Rec} {ys : List Rec} {end : End} (s : Turned im a l lost h low seg-none f free (x ∷ y ∷ ys) end) (c : Cleaned x)
@@ -61,15 +61,24 @@ module _ {im : List ℕ} {a l : ℕ} {lost : List ℕ} {h : ℕ} {low : List Rec
       let D : List ℕ = half-erased (suc i) (suc k) q in
       let L : List ℕ = drop (4096 * suc k) q in
       let ld : length D ≡ 4096 * suc k = half-erased-length (suc i) (suc k) q (omega arith) (omega (arith, q-length)) in
-      record { is = ap (λ (m : List ℕ). run m (take (suc i) (erases (4096 * a) (suc k)))) im-is
-          ∙ erase-cut (suc i) (suc k) (4096 * a) (lay low free) q rest pre-length (omega (arith, q-length)) (omega arith)
-          ∙ pre-is (D ++ (L ++ rest)) ∙ ap (lay low) (sym (append-assoc free D (L ++ rest)));
-        at = omega (arith, s .at, rsize-words x); some-below = omega arith; below = omega (arith, s .below);
+      record {
+        is = ap (λ (m : List ℕ). run m (take (suc i) (erases (4096 * a) (suc k)))) im-is
+            ∙ erase-cut (suc i) (suc k) (4096 * a) (lay low free) q rest pre-length (omega (arith, q-length)) (omega arith)
+            ∙ pre-is (D ++ (L ++ rest)) ∙ ap (lay low) (sym (append-assoc free D (L ++ rest)));
+        at = omega (arith, s .at, rsize-words x);
+        some-below = omega arith;
+        below = omega (arith, s .below);
         free-length = length-append free D ∙ omega (arith, s .free-length, ld);
         free-quiet = quiet-append f (512 * suc k) free D (s .free-length) (s .free-quiet) (half-erased-quiet k r q q-length quiet-q i e);
-        opened = Next.Clear; opens = more-open i (suc k) q (s .opens);
-        lost-length = length-drop (4096 * suc k) q ∙ omega (arith, q-length); lost-small = short; lost-quiet = quiet-lost k r q q-length quiet-q;
-        fine-low = s .fine-low; walked = s .walked; fine-high = s .fine-high .1 }
+        opened = Next.Clear;
+        opens = more-open i (suc k) q (s .opens);
+        lost-length = length-drop (4096 * suc k) q ∙ omega (arith, q-length);
+        lost-small = short;
+        lost-quiet = quiet-lost k r q q-length quiet-q;
+        fine-low = s .fine-low;
+        walked = s .walked;
+        fine-high = s .fine-high .1;
+      }
 
 -- the head X that is the last before the turn, with the lost bytes before it and all up to N
 unfoldable pub last-head : List ℕ → Rec → End → List ℕ
@@ -106,10 +115,19 @@ module _ {im : List ℕ} {a l : ℕ} {lost : List ℕ} {h : ℕ} {low : List Rec
   zero-m3 i e =
       let D : List ℕ = half-erased (suc i) (suc k) q₀ in
       let L : drop (4096 * suc k) q₀ ≡ [] = drop-of-length-le q₀ {i = 4096 * suc k} (omega (arith, q₀-length)) in
-      record { is = ap (λ (m : List ℕ). run m (take (suc i) (erases (4096 * a) (suc k)))) im₀-is
-          ∙ erase-cut (suc i) (suc k) (4096 * a) (lay low free) q₀ [] pre₀-length (omega (arith, q₀-length)) (omega arith)
-          ∙ ap (λ (l : List ℕ). lay low free ++ (D ++ (l ++ []))) L ∙ ap (λ (l : List ℕ). lay low free ++ l) (append-nil D) ∙ pre₀-is D;
-        at = refl; gap-length = refl; gap-quiet = tt; lost-length = refl; lost-small = omega arith; lost-quiet = tt; front = zero-not; fine = s .fine-low }
+      record {
+        is = ap (λ (m : List ℕ). run m (take (suc i) (erases (4096 * a) (suc k)))) im₀-is
+            ∙ erase-cut (suc i) (suc k) (4096 * a) (lay low free) q₀ [] pre₀-length (omega (arith, q₀-length)) (omega arith)
+            ∙ ap (λ (l : List ℕ). lay low free ++ (D ++ (l ++ []))) L ∙ ap (λ (l : List ℕ). lay low free ++ l) (append-nil D) ∙ pre₀-is D;
+        at = refl;
+        gap-length = refl;
+        gap-quiet = tt;
+        lost-length = refl;
+        lost-small = omega arith;
+        lost-quiet = tt;
+        front = zero-not;
+        fine = s .fine-low;
+      }
     where
       zero-not : _≡_ {A = ℕ} 0 90 → ⊥
       zero-not e = omega arith

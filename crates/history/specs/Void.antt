@@ -69,9 +69,9 @@ void-fine (seg-held n c f) = (record { low-ok = low-record; status-ok = st-00; f
 pub void-straight : {im : List ℕ} {a l : ℕ} {gap lost : List ℕ} {h : ℕ} {high : List Rec} {g : Seg} {free : List ℕ} → Straight im a l gap lost h high g free → Straight (run im (moved (h + sizes high) (void-rel g))) a l gap lost h (high ++ voided g) seg-none free
 void-straight {im} {a} {l} {gap} {lost} {h} {high} {g} {free} s =
     other (run im (moved (h + sizes high) (void-rel g))) s
-      (run-behind high [] (sym (append-nil high)) s (void-rel g) (void-programs g)
-        ∙ ap (λ (l : List ℕ). gap ++ (lost ++ l)) (ap (lay high) (void-run g free) ∙ sym (lay-append high (voided g) free)))
-      (fine-append high (voided g) (s .fine) (void-fine g))
+    (run-behind high [] (sym (append-nil high)) s (void-rel g) (void-programs g)
+    ∙ ap (λ (l : List ℕ). gap ++ (lost ++ l)) (ap (lay high) (void-run g free) ∙ sym (lay-append high (voided g) free)))
+    (fine-append high (voided g) (s .fine) (void-fine g))
 
 -- cut: still something unfinished, of the same size
 pub void-cut : (g : Seg) (s : List ℕ) (j : ℕ) → j < length (void-rel g) → (g′ : Seg) × (run (seg-onto g s) (take j (void-rel g)) ≡ seg-onto g′ s) × (seg-size g′ ≡ seg-size g)

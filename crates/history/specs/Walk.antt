@@ -66,7 +66,7 @@ steps-over s walks-clean st-00 = refl
 walk-onto : (r : Rec) (k at : ℕ) (s : List ℕ) → Fine r → Walks at (r .low) → walk (suc k) at (onto r s) ≡ walk k (at + rsize r) s
 walk-onto r k at s f w =
     walk-over k at (length (r .name)) (length (r .content)) (onto r s) (not-torn (r .low) 90 (drop 3 (onto r s)) (f .status-ok))
-      (steps-over (drop 3 (onto r s)) w (f .status-ok) ∙ record-at-onto false r s (f .fit))
+    (steps-over (drop 3 (onto r s)) w (f .status-ok) ∙ record-at-onto false r s (f .fit))
     ∙ ap (walk k (at + rsize r)) (drop-onto r s)
 
 pub walk-lay : (rs : List Rec) (k at : ℕ) (s : List ℕ) → All-fine rs → Walked at rs → walk (length rs + k) at (lay rs s) ≡ walk k (at + sizes rs) s
@@ -196,8 +196,13 @@ search-through zero k at (x ∷ g) s e q = absurd (omega arith)
 search-through (suc j) k at g s e q =
     let l : 1 ≤ length (g ++ s) = simp length-append (omega arith) in
     let i : at + 8 + 8 * j ≡ at + 8 * suc j = omega arith in
-    rw (suc-add j k, search-next (j + k) at (g ++ s) (no-head (g ++ s) (mark-append g s (omega arith) ∙ q .0)) (long-le 1 (g ++ s) l), drop-append-le 8 g s (omega arith),
-        search-through j k (at + 8) (drop 8 g) s (length-drop 8 g ∙ omega arith) (q .1), i)
+    rw (
+      suc-add j k,
+      search-next (j + k) at (g ++ s) (no-head (g ++ s) (mark-append g s (omega arith) ∙ q .0)) (long-le 1 (g ++ s) l),
+      drop-append-le 8 g s (omega arith),
+      search-through j k (at + 8) (drop 8 g) s (length-drop 8 g ∙ omega arith) (q .1),
+      i,
+    )
 
 pub search-found : {b : ℕ} (j k at : ℕ) (g t : List ℕ) → length g ≡ 8 * j → Quiet j g → Head-low b → j < k → search k at (g ++ (b ∷ 90 ∷ t)) ≡ at + 8 * j
 search-found {b} j k at g t e q h l =
@@ -208,4 +213,3 @@ pub search-none : (j k at : ℕ) (g : List ℕ) → length g ≡ 8 * j → Quiet
 search-none j k at g e q l =
     let i : k ≡ j + suc (k - suc j) = omega arith in
     ap₂ (λ (m : ℕ) (s : List ℕ). search m at s) i (sym (append-nil g)) ∙ search-through j (suc (k - suc j)) at g [] e q ∙ search-over (k - suc j) (at + 8 * j)
-

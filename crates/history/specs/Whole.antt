@@ -75,9 +75,9 @@ module _ {im : List ℕ} {a l : ℕ} {gap lost : List ℕ} {h : ℕ} {x : Rec} {
   straight-by : (t : List ℕ) → free ≡ blanks 8 ++ t → head im ≡ give h → Ruled E → free-ok im (reads T false Ending.Tail) ≡ true → reading im ≡ give (reads T false Ending.Tail)
   straight-by t e k r f =
       reading-by im h (reads T false Ending.Tail) k
-        (straight-reading s T (seg-open seg) (seg-entries (h + sizes (x ∷ ys)) seg)
-          (seg-ends Next.Clear (h + sizes (x ∷ ys)) seg free (λ o k. ap (chain (suc k) o T) e ∙ stops-clear T t o k)))
-        refl r f
+      (straight-reading s T (seg-open seg) (seg-entries (h + sizes (x ∷ ys)) seg)
+      (seg-ends Next.Clear (h + sizes (x ∷ ys)) seg free (λ o k. ap (chain (suc k) o T) e ∙ stops-clear T t o k)))
+      refl r f
 
   gap-blank : gap ≡ blanks (4096 * a) → blank (part 0 (floor h) im) ≡ true
   gap-blank g = ap blank (gap-part ∙ g) ∙ blank-blanks (4096 * a)
@@ -86,32 +86,46 @@ module _ {im : List ℕ} {a l : ℕ} {gap lost : List ℕ} {h : ℕ} {x : Rec} {
   pub straight-whole : (f : ℕ) → free ≡ blanks 8 ++ blanks f → gap ≡ blanks (4096 * a) → x .low ≡ 0 → Ruled E → reading im ≡ give (reads T false Ending.Tail)
   straight-whole f e g l r =
       straight-by (blanks f) e (started l) r
-        (free-straight im (length im) h T E Ending.Tail (is-clean-0 (x .low) l) (gap-blank g) (ap blank (free-part ∙ e) ∙ eight-blank f))
+      (free-straight im (length im) h T E Ending.Tail (is-clean-0 (x .low) l) (gap-blank g) (ap blank (free-part ∙ e) ∙ eight-blank f))
 
   -- head CLEAN, T's own sector FF
   pub straight-whole-clean : (t : List ℕ) → free ≡ blanks 8 ++ t → head im ≡ give h → x .low ≡ 160 → Ruled E →
       blank (part T (min (floor T + 4096) (length im)) im) ≡ true → reading im ≡ give (reads T false Ending.Tail)
   straight-whole-clean t e k l r b = straight-by t e k r (free-clean im (length im) h T false E Ending.Tail (is-clean-A0 (x .low) l) b)
 
+  -- full to N, with floor(h) = 0
+  pub full-whole : free ≡ [] → a ≡ 0 → x .low ≡ 0 → Ruled E → reading im ≡ give (reads T false Ending.Tail)
+  full-whole e z l r =
+      reading-by im h (reads T false Ending.Tail) (started l)
+      (rw (s .is)
+      (shape-full [] (x ∷ ys) gap lost (seg-onto seg free) h below here tt (s .fine) (omega arith) (seg-entries (h + sizes (x ∷ ys)) seg) (seg-open seg) T (omega (arith, bottom s, z))
+      (seg-ends Next.Over (h + sizes (x ∷ ys)) seg free (λ o k. ap (chain (suc k) o T) e ∙ stops-over T o k))))
+      refl r
+      (free-straight im (length im) h T E Ending.Tail (is-clean-0 (x .low) l) (ap blank gap-part ∙ empty gap (omega (arith, s .gap-length, z))) (ap blank (free-part ∙ e) ∙ empty [] refl))
+    where
+      empty : (g : List ℕ) → length g ≡ 0 → blank g ≡ true
+      empty [] e = blank-blanks 0
+      empty (y ∷ g) e = absurd (omega arith)
+
   -- an unfinished record that ends at N, with floor(h) > 0: read as turned, T is 0, and still the last thing
   pub last-whole : free ≡ [] → seg-open seg ≡ true → gap ≡ blanks (4096 * a) → 1 ≤ a → x .low ≡ 0 → Ruled E → reading im ≡ give (reads 0 true Ending.Tail)
   last-whole e o g z l r =
       reading-by im h (reads 0 true Ending.Tail) (started l)
-        (rw (s .is)
-          (shape-last [] (x ∷ ys) gap lost (seg-onto seg free) h below here tt (s .fine) (omega arith) (seg-entries (h + sizes (x ∷ ys)) seg) T (λ w. omega (arith, bottom s)) refl
-            (subst (λ (b : Bool). Ends (h + sizes (x ∷ ys)) (seg-onto seg free) (chain-of (seg-entries (h + sizes (x ∷ ys)) seg) b T Next.Over)) o
-              (seg-ends Next.Over (h + sizes (x ∷ ys)) seg free (λ o k. ap (chain (suc k) o T) e ∙ stops-over T o k)))
-            low-clear
-            (λ o k. ap (chain (suc k) o 0) (g ∙ blank-split 8 (4096 * a - 8) (4096 * a) (omega arith)) ∙ stops-clear 0 (blanks (4096 * a - 8)) o k)))
-        refl r
-        (free-turned im (length im) h 0 E Ending.Tail (is-clean-0 (x .low) l) (gap-blank g))
+      (rw (s .is)
+      (shape-last [] (x ∷ ys) gap lost (seg-onto seg free) h below here tt (s .fine) (omega arith) (seg-entries (h + sizes (x ∷ ys)) seg) T (λ w. omega (arith, bottom s)) refl
+      (subst (λ (b : Bool). Ends (h + sizes (x ∷ ys)) (seg-onto seg free) (chain-of (seg-entries (h + sizes (x ∷ ys)) seg) b T Next.Over)) o
+      (seg-ends Next.Over (h + sizes (x ∷ ys)) seg free (λ o k. ap (chain (suc k) o T) e ∙ stops-over T o k)))
+      low-clear
+      (λ o k. ap (chain (suc k) o 0) (g ∙ blank-split 8 (4096 * a - 8) (4096 * a) (omega arith)) ∙ stops-clear 0 (blanks (4096 * a - 8)) o k)))
+      refl r
+      (free-turned im (length im) h 0 E Ending.Tail (is-clean-0 (x .low) l) (gap-blank g))
 
 -- a torn wrap at T
 pub torn-wrap-whole : (k : ℕ) {im : List ℕ} {a l : ℕ} {gap lost : List ℕ} {h c : ℕ} {x : Rec} {ys : List Rec} (s : Straight im a l gap lost h (x ∷ ys) seg-none (torn-wrap c k)) → Begun c → 1 ≤ a →
     gap ≡ blanks (4096 * a) → x .low ≡ 0 → Ruled (entries-of h (x ∷ ys)) → reading im ≡ give (read (length im) h 0 true (entries-of h (x ∷ ys)) (Ending.TornWrap (h + sizes (x ∷ ys))))
 torn-wrap-whole k {im} {a} {l} {gap} {lost} {h} {c} {x} {ys} s b z g e r =
     reading-by im h (read (length im) h 0 true (entries-of h (x ∷ ys)) (Ending.TornWrap (h + sizes (x ∷ ys)))) (started s e) (torn-reading k s b z) refl r
-      (free-turned im (length im) h 0 (entries-of h (x ∷ ys)) (Ending.TornWrap (h + sizes (x ∷ ys))) (is-clean-0 (x .low) e) (gap-blank s g))
+    (free-turned im (length im) h 0 (entries-of h (x ∷ ys)) (Ending.TornWrap (h + sizes (x ∷ ys))) (is-clean-0 (x .low) e) (gap-blank s g))
 
 module _ {im : List ℕ} {a l : ℕ} {lost : List ℕ} {h : ℕ} {low : List Rec} {seg : Seg} {f : ℕ} {free : List ℕ} {x : Rec} {ys : List Rec} {end : End} (s : Turned im a l lost h low seg f free (x ∷ ys) end) where
   abbrev T₁ : ℕ
@@ -133,23 +147,8 @@ module _ {im : List ℕ} {a l : ℕ} {lost : List ℕ} {h : ℕ} {low : List Rec
   pub turned-whole : free ≡ blanks (8 * f) → x .low ≡ 0 → Ruled E₁ → reading im ≡ give reads₁
   turned-whole e l r =
       reading-by im h reads₁ (turned-start s l) (turned-reading s) refl r
-        (free-turned im (length im) h T₁ E₁ Ending.Tail (is-clean-0 (x .low) l) (ap blank (free₁ ∙ e) ∙ blank-blanks (8 * f)))
+      (free-turned im (length im) h T₁ E₁ Ending.Tail (is-clean-0 (x .low) l) (ap blank (free₁ ∙ e) ∙ blank-blanks (8 * f)))
 
   -- turned, head CLEAN, T's own sector FF
   pub turned-whole-clean : head im ≡ give h → x .low ≡ 160 → Ruled E₁ → blank (part T₁ (min (floor T₁ + 4096) (floor h)) im) ≡ true → reading im ≡ give reads₁
   turned-whole-clean k l r b = reading-by im h reads₁ k (turned-reading s) refl r (free-clean im (length im) h T₁ true E₁ Ending.Tail (is-clean-A0 (x .low) l) b)
-
--- full to N, with floor(h) = 0
-pub full-whole : {im : List ℕ} {a l : ℕ} {gap lost : List ℕ} {h : ℕ} {x : Rec} {ys : List Rec} (s : Straight im a l gap lost h (x ∷ ys) seg-none []) → a ≡ 0 → head im ≡ give h → x .low ≡ 0 → Ruled (entries-of h (x ∷ ys) ++ []) →
-    reading im ≡ give (read (length im) h (h + sizes (x ∷ ys)) false (entries-of h (x ∷ ys) ++ []) Ending.Tail)
-full-whole {im} {a} {l} {gap} {lost} {h} {x} {ys} s z k e r =
-    reading-by im h (read (length im) h (h + sizes (x ∷ ys)) false (entries-of h (x ∷ ys) ++ []) Ending.Tail) k
-      (rw (s .is) (shape-full [] (x ∷ ys) gap lost [] h (below s) (here s) tt (s .fine) (omega arith) [] false (h + sizes (x ∷ ys)) (omega (arith, bottom s, z)) (λ j. stops-over (h + sizes (x ∷ ys)) false (suc j))))
-      refl r
-      (free-straight im (length im) h (h + sizes (x ∷ ys)) (entries-of h (x ∷ ys) ++ []) Ending.Tail (is-clean-0 (x .low) e)
-        (ap blank (gap-part s) ∙ empty gap (omega (arith, s .gap-length, z)))
-        (ap (λ (t : ℕ). blank (part t (length im) im)) (sym (add-zero (h + sizes (x ∷ ys)))) ∙ ap blank (free-part s) ∙ empty [] refl))
-  where
-    empty : (g : List ℕ) → length g ≡ 0 → blank g ≡ true
-    empty [] e = blank-blanks 0
-    empty (y ∷ g) e = absurd (omega arith)
