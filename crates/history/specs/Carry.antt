@@ -8,7 +8,7 @@ use lib.Dec.{leb}
 use borrow.Author.Tests.{le-leb, lt-leb}
 use Rattle.spec.specs.Step.{Image, run}
 use Rattle.spec.specs.Basics.{give}
-use Rattle.spec.specs.Answers.{Numbers, Outcome, Plan, cut, numbers-of, carry-out}
+use Rattle.spec.specs.Answers.{Numbers, Plan, cut, numbers-of, carry-out}
 
 numbers-by : (k : ℕ) (p : Plan) (b : Bool) → leb (length (p .steps)) k ≡ b → numbers-of k p ≡ elim b as (λ t. Numbers) [ true ↦ p .done | false ↦ cut k p ]
 unfolding numbers-of

@@ -1,19 +1,17 @@
 -- Erasing sector by sector, cut anywhere: what is left has no mark if it had none from its second sector on.
-use Prim.Native.Nat.{ℕ, zero, suc, _+_, _-_, _*_, _/_, _%_, _≤_, _<_}
+use Prim.Native.Nat.{ℕ, zero, suc, _+_, _-_, _*_, _≤_, _<_}
 use native.Mathlib.Omega.{arith}
-use native.Mathlib.Nat.{zero-add, suc-add, add-zero, add-assoc, not-suc-le-zero}
+use native.Mathlib.Nat.{not-suc-le-zero}
 use mathlib.Core.Path.{_≡_, refl, sym, ap, ap₂, _∙_, subst}
-use mathlib.Core.Bool.{Bool, true, false}
 use mathlib.Core.List.{List, [], _∷_, _++_, append-assoc, append-nil, map}
-use lib.ListN.{length, take, drop, replicate, length-append, length-replicate, length-drop, take-append-drop}
-use lib.Seq.{drop-append-le, drop-drop, length-take-le, take-at, drop-at}
-use lib.Dec.{leb}
+use lib.ListN.{length, take, drop, length-append, length-replicate, length-drop, take-append-drop}
+use lib.Seq.{drop-drop, length-take-le, take-at, drop-at}
 use borrow.Author.Tests.{le-leb, lt-leb}
-use Rattle.spec.specs.Step.{Image, Step, program, erase, sector, apply, run}
-use Rattle.spec.specs.Geometry.{floor, sectors-by, sectors}
+use Rattle.spec.specs.Step.{Step, erase, sector, apply, run}
+use Rattle.spec.specs.Geometry.{sectors-by, sectors}
 use Rattle.history.specs.Lay.{blanks, drop-past}
-use Rattle.spec.specs.Record.{Rec, size-of}
-use Rattle.history.specs.Lay.{body, onto, rsize}
+use Rattle.spec.specs.Record.{Rec}
+use Rattle.history.specs.Lay.{body, onto}
 use Rattle.history.specs.Walk.{Quiet}
 use Rattle.history.specs.Quiet.{blank-split, quiet-blanks, quiet-append, quiet-drop, quiet-take}
 

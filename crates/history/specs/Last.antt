@@ -1,8 +1,8 @@
 -- What can stand last in a chain: eight FF, the end of the stretch, a marker, a torn wrap, and the unfinished records.
-use Prim.Native.Nat.{ℕ, zero, suc, _+_, _*_, _/_, _%_, _≤_, _<_}
+use Prim.Native.Nat.{ℕ, zero, suc, _+_, _≤_}
 use native.Mathlib.Omega.{arith}
 use native.Mathlib.Nat.{le-of-suc-le-suc, not-suc-le-zero}
-use mathlib.Core.Path.{_≡_, refl, sym, ap, ap₂, _∙_}
+use mathlib.Core.Path.{_≡_, refl, sym, ap, _∙_}
 use mathlib.Core.Bool.{Bool, true, false}
 use mathlib.Core.List.{List, [], _∷_, _++_}
 use lib.ListN.{length, take, drop, replicate, length-append, length-replicate}
@@ -11,10 +11,10 @@ use Rattle.spec.specs.declared.Next.{Next}
 use Rattle.spec.specs.Basics.{long, blank}
 use Rattle.spec.specs.Geometry.{up8}
 use Rattle.spec.specs.Bytes.{is-record, is-wrap, is-start, is-clean, is-high, is-high-begun, is-erased, is-reserved, is-wrapped, is-unfinished, is-spare, is-name-begun, ends-name}
-use Rattle.spec.specs.Record.{status-of, size-of, Rec, rec-of, Entry}
+use Rattle.spec.specs.Record.{status-of, size-of, Rec, rec-of}
 use Rattle.spec.specs.Next.{kind, record-at, torn-at, torn-wrap-at, clear-at, next-at, next}
 use Rattle.spec.specs.Chain.{Chain, add, stop, chain}
-use Rattle.history.specs.Lay.{blanks, pad, lens, body, onto, Fit, record-at-laid, record-at-onto, drop-past, drop-fill, drop-onto, rec-of-onto, chain-record}
+use Rattle.history.specs.Lay.{blanks, pad, lens, onto, Fit, record-at-laid, record-at-onto, drop-past, drop-fill, drop-onto, rec-of-onto, chain-record}
 
 -- ---- the ends
 

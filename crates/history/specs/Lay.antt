@@ -2,21 +2,19 @@
 use Prim.Native.Nat.{ℕ, zero, suc, _+_, _-_, _*_, _/_, _%_, _≤_, _<_}
 use native.Mathlib.Omega.{arith}
 use native.Mathlib.Nat.{le-of-suc-le-suc, not-suc-le-zero, zero-add, suc-add, add-zero, add-assoc}
-use mathlib.Core.Path.{_≡_, refl, sym, ap, ap₂, _∙_, subst}
-use mathlib.Core.Bool.{Bool, true, false, _&&_, _||_, and-false, cond}
+use mathlib.Core.Path.{_≡_, refl, sym, ap, ap₂, _∙_}
+use mathlib.Core.Bool.{Bool, true, false, and-false}
 use mathlib.Core.List.{List, [], _∷_, _++_, append-assoc}
-use lib.ListN.{length, take, drop, replicate, getD, length-append, length-replicate}
-use lib.Seq.{drop-drop, drop-append-add, take-at, drop-at, take-append-seam, drop-append-seam}
-use lib.Dec.{ltb, leb, eqb}
-use borrow.Author.Tests.{lt-ltb, le-ltb, ne-eqb, eq-eqb}
-use Rattle.spec.specs.declared.Kind.{Kind}
+use lib.ListN.{length, drop, replicate, length-append, length-replicate}
+use lib.Seq.{drop-drop, drop-append-add, drop-at, take-append-seam}
+use borrow.Author.Tests.{lt-ltb, ne-eqb}
 use Rattle.spec.specs.declared.Next.{Next}
-use Rattle.spec.specs.Basics.{long, blank}
+use Rattle.spec.specs.Basics.{long}
 use Rattle.spec.specs.Geometry.{up8}
 use Rattle.spec.specs.Bytes.{is-record, is-wrap, is-start, is-clean, is-high, is-erased, is-reserved, is-committed, is-migrating, is-dead, is-unfinished, is-spare, ends-name}
 use Rattle.spec.specs.Record.{name-length, data-len-of, status-of, size-of, Rec, rec-of, Entry}
 use Rattle.spec.specs.Next.{kind, sized, record-at, next-at, next}
-use Rattle.spec.specs.Chain.{Chain, add, stop, chain}
+use Rattle.spec.specs.Chain.{Chain, add, chain}
 
 -- ---- the printer
 

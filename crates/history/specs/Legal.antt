@@ -1,14 +1,13 @@
 -- From a head and a chain to the reading: the rules on the entries as facts (Ruled), and the rule on the free run.
-use Prim.Native.Nat.{ℕ, zero, suc, _+_, min}
+use Prim.Native.Nat.{ℕ, _+_, min}
 use native.Mathlib.Omega.{arith}
 use native.Mathlib.Nat.{add-zero}
-use mathlib.Core.Path.{_≡_, refl, sym, ap, ap₂, _∙_}
-use mathlib.Core.Bool.{Bool, true, false, _&&_}
-use mathlib.Core.List.{List, [], _∷_, _++_}
-use lib.ListN.{length, take, drop}
+use mathlib.Core.Path.{_≡_, sym, ap, ap₂, _∙_}
+use mathlib.Core.Bool.{Bool, true, false}
+use mathlib.Core.List.{List}
+use lib.ListN.{length, drop}
 use lib.Seq.{take-all, drop-drop}
 use Rattle.spec.specs.declared.Ending.{Ending}
-use Rattle.spec.specs.declared.Place.{Place}
 use Rattle.spec.specs.Basics.{give, part, blank}
 use Rattle.spec.specs.Geometry.{floor}
 use Rattle.spec.specs.Record.{Rec, Entry}

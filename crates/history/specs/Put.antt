@@ -1,18 +1,17 @@
 -- A record written where FF stands, cut anywhere: before the commit it is one of the unfinished things (Seg), after it a record.
-use Prim.Native.Nat.{ℕ, zero, suc, _+_, _-_, _*_, _/_, _%_, _≤_, _<_}
+use Prim.Native.Nat.{ℕ, zero, suc, _+_, _-_, _≤_, _<_}
 use native.Mathlib.Omega.{arith}
-use native.Mathlib.Nat.{zero-add, suc-add, add-zero, add-assoc, not-suc-le-zero}
-use mathlib.Core.Path.{_≡_, refl, sym, ap, ap₂, _∙_, subst}
-use mathlib.Core.Bool.{Bool, true, false}
+use native.Mathlib.Nat.{zero-add, add-zero}
+use mathlib.Core.Path.{_≡_, refl, sym, ap, _∙_, subst}
 use mathlib.Core.List.{List, [], _∷_, _++_, append-assoc, append-nil}
-use lib.ListN.{length, take, drop, set, replicate, length-append, length-replicate, replicate-append-replicate}
-use lib.Seq.{take-nil, set-at, append-snoc, length-take-le, take-all, take-length, take-append-le}
-use Rattle.spec.specs.Step.{Image, Step, program, erase, apply, run, bytes-at, moved}
+use lib.ListN.{length, take, set, length-append, length-replicate}
+use lib.Seq.{take-nil, length-take-le, take-all, take-length, take-append-le}
+use Rattle.spec.specs.Step.{Step, program, apply, run, bytes-at}
 use Rattle.spec.specs.Geometry.{up8}
-use Rattle.spec.specs.Record.{size-of, Rec, Entry, four}
+use Rattle.spec.specs.Record.{size-of, Rec}
 use Rattle.spec.specs.Write.{header-steps, name-steps, data-steps, commit-steps, record-steps}
-use Rattle.history.specs.Lay.{blanks, pad, lens, padded, onto, lay, rsize, sizes, lay-is, length-lay, Plain, Fit}
-use Rattle.history.specs.Last.{Begun, begun-ff, begun-5a, begun-none, begun-end, torn, held, begun}
+use Rattle.history.specs.Lay.{blanks, pad, lens, onto, Plain, Fit}
+use Rattle.history.specs.Last.{Begun, begun-ff, begun-5a, begun-none, held}
 use Rattle.history.specs.Quiet.{blank-split}
 use Rattle.history.specs.Steps.{cut-one, cut-append, run-append, Programs, length-bytes, write-over, write-blank}
 use Rattle.history.specs.Seg.{Seg, seg-none, seg-torn, seg-cut, seg-held, seg-onto, seg-size}

@@ -1,19 +1,17 @@
 -- What has no mark at its 8-byte boundaries (Quiet) or nowhere (Calm), and what keeps it so.
-use Prim.Native.Nat.{ℕ, zero, suc, _+_, _-_, _*_, _/_, _%_, _≤_, _<_}
+use Prim.Native.Nat.{ℕ, zero, suc, _+_, _*_, _/_, _≤_}
 use native.Mathlib.Omega.{arith}
-use native.Mathlib.Nat.{zero-add, suc-add, add-zero, add-assoc, not-suc-le-zero}
-use mathlib.Core.Path.{_≡_, refl, sym, ap, ap₂, _∙_, subst}
-use mathlib.Core.Bool.{Bool, true, false, _&&_, _||_, and-false}
-use mathlib.Core.List.{List, [], _∷_, _++_, append-assoc, append-nil}
-use lib.ListN.{length, take, drop, replicate, getD, length-append, length-replicate, length-drop, List·getD-append, replicate-append-replicate, take-append-drop}
-use lib.Seq.{drop-append-le, drop-drop, length-take-le}
-use lib.Dec.{eqb}
-use borrow.Author.Tests.{ne-eqb, eq-eqb}
+use native.Mathlib.Nat.{zero-add, suc-add}
+use mathlib.Core.Path.{_≡_, refl, sym, ap, _∙_, subst}
+use mathlib.Core.Bool.{Bool, false, _&&_, _||_, and-false}
+use mathlib.Core.List.{List, [], _∷_, _++_, append-assoc}
+use lib.ListN.{length, drop, getD, length-append, length-replicate, length-drop, replicate-append-replicate}
+use lib.Seq.{drop-append-le, drop-drop}
+use borrow.Author.Tests.{ne-eqb}
 use Rattle.spec.specs.Geometry.{up8}
 use Rattle.spec.specs.Bytes.{is-record, is-start, is-clean, is-high}
-use Rattle.spec.specs.Record.{low-of, high-of, size-of, Rec}
 use Rattle.spec.specs.Move.{mark-here}
-use Rattle.history.specs.Lay.{blanks, pad, lens, padded, body, onto, Plain, Fine}
+use Rattle.history.specs.Lay.{blanks, pad, padded, body, Plain}
 use Rattle.history.specs.Walk.{Quiet, mark-append}
 
 pub blank-split : (j m k : ℕ) → k ≡ j + m → blanks k ≡ blanks j ++ blanks m

@@ -1,15 +1,15 @@
 -- Repair 1: the sectors of a free run that aren't FF are erased, ascending; cut anywhere.
-use Prim.Native.Nat.{ℕ, zero, suc, _+_, _-_, _*_, _/_, _%_, _≤_, _<_}
+use Prim.Native.Nat.{ℕ, zero, suc, _+_, _*_, _≤_}
 use native.Mathlib.Omega.{arith}
-use native.Mathlib.Nat.{zero-add, suc-add, add-zero, add-assoc, not-suc-le-zero}
+use native.Mathlib.Nat.{not-suc-le-zero}
 use mathlib.Core.Path.{_≡_, refl, sym, ap, ap₂, _∙_, subst}
-use mathlib.Core.Bool.{Bool, true, false, _&&_, not}
-use mathlib.Core.List.{List, [], _∷_, _++_, append-assoc, append-nil, map}
-use lib.ListN.{length, take, drop, replicate, length-append, length-replicate, length-drop, take-append-drop}
-use lib.Seq.{drop-append-le, drop-drop, length-take-le, take-at, drop-at, take-append-add, drop-append-add, take-nil}
-use lib.Dec.{eqb, leb}
+use mathlib.Core.Bool.{Bool, true, false, not}
+use mathlib.Core.List.{List, [], _∷_, _++_, append-assoc, map}
+use lib.ListN.{length, take, drop, length-append, length-replicate, length-drop, take-append-drop}
+use lib.Seq.{length-take-le, take-at, drop-at, take-append-add, take-nil}
+use lib.Dec.{eqb}
 use borrow.Author.Tests.{le-leb, lt-leb, eqb-true}
-use Rattle.spec.specs.Step.{Image, Step, program, erase, sector, apply, run}
+use Rattle.spec.specs.Step.{Image, Step, erase, sector, apply, run}
 use Rattle.spec.specs.Basics.{part, blank, keep}
 use Rattle.spec.specs.Geometry.{sectors-by}
 use Rattle.spec.specs.Mount.{dirty}

@@ -1,14 +1,14 @@
 -- A property after every cut of a step list, and that every step is sound, in one statement that composes.
-use Prim.Native.Nat.{ℕ, zero, suc, _+_, _*_, _%_, _≤_, _<_}
+use Prim.Native.Nat.{ℕ, zero, suc, _+_, _≤_, _<_}
 use native.Mathlib.Omega.{arith}
-use mathlib.Core.Path.{_≡_, refl, sym, ap, _∙_}
+use mathlib.Core.Path.{_≡_, _∙_}
 use mathlib.Core.List.{List, [], _∷_, _++_}
-use lib.ListN.{length, take, set, getD, length-append, length-replicate}
+use lib.ListN.{length, take, set, length-append}
 use lib.Seq.{getD-append-add, getD-at, set-at, append-snoc}
 use lib.Bits.{bitAnd, and-mask}
 use Rattle.spec.specs.Step.{Image, Step, program, erase, apply, run, bytes-at, moved}
 use Rattle.spec.specs.Basics.{Each}
-use Rattle.spec.specs.Demand.{Clears, Sound, Steps-sound}
+use Rattle.spec.specs.Demand.{Sound, Steps-sound}
 use Rattle.history.specs.Lay.{blanks}
 use Rattle.history.specs.Steps.{set-past, Programs}
 

@@ -2,14 +2,13 @@
 use Prim.Native.Nat.{ℕ, zero, suc, _+_, _*_, _≤_}
 use native.Mathlib.Omega.{arith}
 use native.Mathlib.Nat.{zero-add, add-zero, not-suc-le-zero}
-use mathlib.Core.Path.{_≡_, refl, sym, ap, _∙_}
+use mathlib.Core.Path.{_≡_, refl, sym, _∙_}
 use mathlib.Core.Bool.{Bool, true, false}
 use mathlib.Core.List.{List, [], _∷_, _++_, append-assoc}
 use lib.ListN.{length, drop, length-append, length-replicate}
 use Rattle.spec.specs.declared.Next.{Next}
 use Rattle.spec.specs.Record.{size-of, Entry}
-use Rattle.spec.specs.Chain.{chain}
-use Rattle.history.specs.Lay.{blanks, onto, Fit, drop-onto}
+use Rattle.history.specs.Lay.{onto, Fit, drop-onto}
 use Rattle.history.specs.Last.{Begun, Name-begun, torn, torn-rec, held, begun, cut-rec, drop-begun, Ends, Stops, ends-torn, ends-begun, ends-whole}
 use Rattle.history.specs.Walk.{Quiet, Head-low}
 use Rattle.history.specs.Head.{Reaches, Reaches₁, reaches-more, reaches-gap, reaches-torn, reaches-begun, reaches-held, reaches-quiet}

@@ -11,7 +11,7 @@ use Rattle.spec.specs.Record.{Entry}
 use Rattle.spec.specs.Chain.{Reading, read}
 use Rattle.spec.specs.Reading.{head-clean, reading}
 use Rattle.spec.specs.Move.{Work, begin, after}
-use Rattle.spec.specs.Mount.{repair-1, repair-2, repair-2-on, repair-3, repair-4, void-steps, last-steps, torn-wrap-steps, delete-step, drop-steps, mended, settled}
+use Rattle.spec.specs.Mount.{repair-1, repair-2, repair-3, repair-4, void-steps, last-steps, torn-wrap-steps, delete-step, drop-steps, mended, settled}
 use Rattle.spec.specs.Answers.{if-settled, settled-reading}
 use Rattle.history.specs.Store.{Finished, Unmarked, Unique, Calm-store, none-superseded, or-left, or-right}
 

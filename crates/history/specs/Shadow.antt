@@ -4,7 +4,7 @@ use mathlib.Core.Bool.{Bool, true, false, _&&_, _||_, not, and-false}
 use mathlib.Core.List.{List, [], _∷_, _++_}
 use Rattle.spec.specs.Basics.{keep}
 use Rattle.spec.specs.Record.{Entry}
-use Rattle.spec.specs.Files.{same-name, named, named-as, has-named, live, superseded, files}
+use Rattle.spec.specs.Files.{named, named-as, has-named, live, superseded, files}
 use Rattle.history.specs.Lists.{any-insert, keep-insert, keep-append, keep-yes, keep-same, each-all}
 use Rattle.history.specs.Store.{alive, Unique, files-alive, none-superseded, fc-not-f8}
 

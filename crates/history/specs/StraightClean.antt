@@ -1,8 +1,8 @@
 -- Step (c) of a move on an image that has not turned: X keeps its place, its name and its size.
-use Prim.Native.Nat.{ℕ, zero, suc, _+_, _*_, _/_, _≤_, _<_}
+use Prim.Native.Nat.{ℕ, _+_}
 use native.Mathlib.Omega.{arith}
 use mathlib.Core.Path.{_≡_, refl, sym, ap, ap₂, _∙_}
-use mathlib.Core.List.{List, [], _∷_, _++_, append-assoc}
+use mathlib.Core.List.{List, _∷_, _++_, append-assoc}
 use lib.ListN.{length, take, length-append, length-replicate}
 use Rattle.spec.specs.Step.{run}
 use Rattle.spec.specs.Geometry.{up8}

@@ -1,17 +1,15 @@
 -- Steps (d) and (e) of a move as the definitions list them, cut anywhere: Y in a later sector, the image not turned.
 use Prim.Native.Nat.{ℕ, zero, suc, _+_, _*_, _/_, _≤_, _<_}
 use native.Mathlib.Omega.{arith}
-use mathlib.Core.Path.{_≡_, refl, sym, ap, ap₂, _∙_, subst}
-use mathlib.Core.Bool.{true, false}
+use mathlib.Core.Path.{_≡_, refl, ap, ap₂, _∙_, subst}
 use mathlib.Core.List.{List, [], _∷_, _++_, map}
 use lib.ListN.{length, take, drop, set}
 use lib.Seq.{take-all}
-use lib.Dec.{eqb}
 use borrow.Author.Tests.{ne-eqb}
 use Rattle.spec.specs.Step.{Image, Step, program, erase, apply, run}
 use Rattle.spec.specs.Geometry.{floor, sectors}
 use Rattle.spec.specs.Record.{Rec, Entry}
-use Rattle.spec.specs.Move.{vacated-end, vacated, forget-steps, vacate-steps}
+use Rattle.spec.specs.Move.{vacated-end, vacated, vacate-steps}
 use Rattle.history.specs.Lay.{blanks, rsize, low-start}
 use Rattle.history.specs.Seg.{seg-none}
 use Rattle.history.specs.Steps.{cut-append, cut-one}

@@ -7,8 +7,8 @@ use lib.Seq.{take-nil}
 use Rattle.spec.specs.Step.{Image, run}
 use Rattle.spec.specs.Basics.{Answer, refuse, give, Each}
 use Rattle.spec.specs.Answers.{Plan, carry-out, format, mount-plan}
-use Rattle.spec.specs.History.{Request, Call, plan, outcome, replay, steps-of, steps-done, Ledger, fed, ledger}
-use Rattle.spec.specs.Demand.{Steps-sound, Calls-sound, Mounted, Kept, Bytes-put, Demand-3}
+use Rattle.spec.specs.History.{Request, Call, plan, outcome, replay, steps-of, Ledger, fed, ledger}
+use Rattle.spec.specs.Demand.{Steps-sound, Calls-sound, Mounted, Bytes-put, Demand-3}
 use Rattle.history.specs.Safe.{Safe, safe-cut, sound-take}
 
 -- what a plan leaves: the image after the first of its steps, refused or not

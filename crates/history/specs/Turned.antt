@@ -1,22 +1,22 @@
 -- Images whose chain has turned: where the bytes are, that the head is found, and what is read from it.
-use Prim.Native.Nat.{ℕ, zero, suc, _+_, _*_, _/_, _≤_, _<_}
+use Prim.Native.Nat.{ℕ, suc, _+_, _*_, _≤_, _<_}
 use native.Mathlib.Omega.{arith}
-use mathlib.Core.Path.{_≡_, refl, sym, ap, _∙_, subst}
-use mathlib.Core.Bool.{Bool, true, false}
+use mathlib.Core.Path.{_≡_, sym, ap, _∙_, subst}
+use mathlib.Core.Bool.{true, false}
 use mathlib.Core.List.{List, [], _∷_, _++_, append-assoc}
 use lib.ListN.{length, drop, length-append}
 use Rattle.spec.specs.declared.Next.{Next}
 use Rattle.spec.specs.declared.Ending.{Ending}
 use Rattle.spec.specs.Basics.{give}
 use Rattle.spec.specs.Geometry.{floor}
-use Rattle.spec.specs.Record.{clean-here, Rec, Entry}
+use Rattle.spec.specs.Record.{clean-here, Rec}
 use Rattle.spec.specs.Head.{head}
 use Rattle.spec.specs.Chain.{read, reading-from}
 use Rattle.history.specs.Lay.{blanks, lay, sizes, entries-of, All-fine}
 use Rattle.history.specs.Last.{Ends, Stops, stops-clear, stops-over, wrap, ends-wrap}
 use Rattle.history.specs.Walk.{Quiet, Walked, Head-low, is-START, is-CLEAN}
 use Rattle.history.specs.Head.{Front, front-gap, front-begun, front-low, Reaches, head-start, head-clean}
-use Rattle.history.specs.Shape.{chain-of, image, shape-turned, Turns, turns-wrap, turns-over, Low-end, low-clear, low-over}
+use Rattle.history.specs.Shape.{chain-of, image, shape-turned, turns-wrap, turns-over, Low-end, low-clear, low-over}
 use Rattle.history.specs.Quiet.{quiet-append}
 use Rattle.history.specs.Seg.{Seg, seg-none, seg-torn, seg-cut, seg-held, seg-onto, seg-size, seg-entries, seg-open, seg-append, length-seg, seg-ends, seg-reaches}
 

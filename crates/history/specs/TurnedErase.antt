@@ -1,5 +1,5 @@
 -- Step (d) of a move on an image that has turned, cut anywhere: Y behind X in a later sector, or Y at 0.
-use Prim.Native.Nat.{ℕ, zero, suc, _+_, _-_, _*_, _/_, _≤_, _<_}
+use Prim.Native.Nat.{ℕ, suc, _+_, _-_, _*_, _/_, _≤_, _<_}
 use native.Mathlib.Omega.{arith}
 use mathlib.Core.Path.{_≡_, refl, sym, ap, _∙_, subst}
 use mathlib.Core.List.{List, [], _∷_, _++_, append-assoc, append-nil}
@@ -7,7 +7,7 @@ use lib.ListN.{length, take, drop, length-append, length-drop, drop-of-length-le
 use Rattle.spec.specs.declared.Next.{Next}
 use Rattle.spec.specs.Step.{run}
 use Rattle.spec.specs.Record.{Rec}
-use Rattle.history.specs.Lay.{blanks, body, onto, lay, rsize, lay-is, length-lay}
+use Rattle.history.specs.Lay.{body, onto, lay, rsize, lay-is, length-lay}
 use Rattle.history.specs.Walk.{Quiet}
 use Rattle.history.specs.Quiet.{blank-split, quiet-append}
 use Rattle.history.specs.Erase.{erases, half-erased, half-erased-length, erase-cut, quiet-lost, half-erased-quiet, quiet-second}
