@@ -28,6 +28,7 @@ pub mod Forget
 pub mod Clean
 pub mod StraightClean
 pub mod Carry
+pub mod Fed
 pub mod PutNew
 pub mod StraightVoid
 pub mod StraightClose

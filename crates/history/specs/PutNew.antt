@@ -8,7 +8,7 @@ use mathlib.Core.Option.{Option, none}
 use mathlib.Core.List.{List, [], _∷_, _++_, append-nil}
 use lib.ListN.{length, take, length-replicate}
 use lib.Dec.{leb}
-use borrow.Author.Tests.{le-leb, lt-leb, leb-true, leb-false}
+use borrow.Author.Tests.{le-leb, leb-true, leb-false}
 use Rattle.spec.specs.declared.Ending.{Ending}
 use Rattle.spec.specs.declared.Place.{Place}
 use Rattle.spec.specs.Step.{Image, Step, run, moved}
@@ -22,7 +22,7 @@ use Rattle.spec.specs.Reading.{reading}
 use Rattle.spec.specs.Place.{fits-at-tail, address, with-marker, room, largest-with}
 use Rattle.spec.specs.Write.{put-steps, record-steps, turn-steps}
 use Rattle.spec.specs.Answers.{Outcome, Plan, success, cut, carry-out, settled-reading, doing, put-into, put-plan, put}
-use Rattle.spec.specs.History.{Request, Ledger, with-file, one-if-fc, three-if, commit-place, put-done, fed}
+use Rattle.spec.specs.History.{Request, Ledger, with-file, one-if-fc, three-if, commit-place, fed}
 use Rattle.history.specs.Lay.{blanks, rsize, sizes, entries-of, Fit}
 use Rattle.history.specs.Quiet.{blank-split}
 use Rattle.history.specs.Seg.{Seg, seg-none}
@@ -35,6 +35,7 @@ use Rattle.history.specs.Settled.{settled-give}
 use Rattle.history.specs.Whole.{straight-whole}
 use Rattle.history.specs.Ledger.{Matches, Absent, none-absent, matches-new}
 use Rattle.history.specs.Carry.{carried-done, carried-cut}
+use Rattle.history.specs.Fed.{fed-done, fed-cut}
 
 -- ---- the steps of a put of a new file that fits at T
 
@@ -86,20 +87,6 @@ put-into-by n c r e = ap (λ (b : Bool). checked b 28 (give (doing (put-steps (r
 fits-by : (N h t s : ℕ) → t + s ≤ N → fits-at-tail (record { head = h; tail = t; turned = false; length = N }) s ≡ true
 unfolding fits-at-tail
 fits-by N h t s l = le-leb (t + s) N l
-
--- ---- what the ledger is fed
-
-pub fed-done : (im : Image) (n c : List ℕ) (x y z : ℕ) (ss : List Step) (l : Ledger) → fed im (Request.put n c) (success x y z ss) l ≡ with-file n c l
-unfolding fed put-done
-fed-done im n c x y z ss l = refl
-
-not-done : (im : Image) (n c : List ℕ) (k : ℕ) (p : Plan) → k < commit-place n c (reading im) → put-done im n c (cut k p) ≡ false
-unfolding put-done
-not-done im n c k p h = lt-leb (commit-place n c (reading im)) k h
-
-pub fed-cut : (im : Image) (n c : List ℕ) (k : ℕ) (p : Plan) (l : Ledger) → k < commit-place n c (reading im) → fed im (Request.put n c) (cut k p) l ≡ l
-unfolding fed
-fed-cut im n c k p l h = rw (not-done im n c k p h, fed)
 
 -- ---- the committed record as an entry
 
