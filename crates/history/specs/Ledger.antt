@@ -50,7 +50,7 @@ module _ {A : Type 0} where
   perm-keep p (List·Permᴰ·trans d e) = List·Permᴰ·trans (perm-keep p d) (perm-keep p e)
 
 -- nothing to take away
-keep-contents : (n : List ℕ) (es : List Entry) → Absent n es → without n (contents es) ≡ contents es
+pub keep-contents : (n : List ℕ) (es : List Entry) → Absent n es → without n (contents es) ≡ contents es
 keep-contents n [] h = refl
 keep-contents n (e ∷ es) h = go (alive e) refl (keep-contents n es (h .1))
   where
@@ -60,14 +60,14 @@ keep-contents n (e ∷ es) h = go (alive e) refl (keep-contents n es (h .1))
         (keep-yes (not-named n) (as-file e) (contents es) (ap not (h .0 k)) ∙ ap (λ (l : List File). as-file e ∷ l) i)
     go false k i = rw (keep-no alive e es k) i
 
-map-append : (xs ys : List Entry) → map as-file (xs ++ ys) ≡ map as-file xs ++ map as-file ys
+pub map-append : (xs ys : List Entry) → map as-file (xs ++ ys) ≡ map as-file xs ++ map as-file ys
 map-append [] ys = refl
 map-append (x ∷ xs) ys = ap (λ (l : List File). as-file x ∷ l) (map-append xs ys)
 
 pub contents-append : (xs ys : List Entry) → contents (xs ++ ys) ≡ contents xs ++ contents ys
 contents-append xs ys = ap (map as-file) (keep-append alive xs ys) ∙ map-append (keep alive xs) (keep alive ys)
 
-contents-one : (e : Entry) → alive e ≡ true → contents (e ∷ []) ≡ as-file e ∷ []
+pub contents-one : (e : Entry) → alive e ≡ true → contents (e ∷ []) ≡ as-file e ∷ []
 contents-one e h = rw (keep-yes alive e [] h)
 
 -- a new file at the end
@@ -83,10 +83,10 @@ matches-dead xs ys e l a m =
     subst (λ (fs : List File). List·Permᴰ fs l) (contents-append xs ys ∙ ap (λ (fs : List Entry). contents xs ++ map as-file fs) (sym (keep-no alive e ys a)) ∙ sym (contents-append xs (e ∷ ys))) m
 
 -- no file found: absent
-not-none : (o : Option Entry) (e : Entry) → o ≡ some e → o ≡ none → ⊥
+pub not-none : (o : Option Entry) (e : Entry) → o ≡ some e → o ≡ none → ⊥
 not-none o e p q = let z : _≡_ {A = ℕ} 0 1 = cc in omega arith
 
-dead-not : (b : Bool) → b ≡ false → b ≡ true → ⊥
+pub dead-not : (b : Bool) → b ≡ false → b ≡ true → ⊥
 dead-not b p q = let z : _≡_ {A = ℕ} 0 1 = cc in omega arith
 
 first-none : (n : List ℕ) (fs : List Entry) → first-such (has-name n) (keep alive fs) ≡ none → Absent n fs

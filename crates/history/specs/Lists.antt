@@ -106,3 +106,58 @@ module _ {A : Type 0} where
 
   pub first-no : (p : A → Bool) (x : A) (xs : List A) → p x ≡ false → first-such p (x ∷ xs) ≡ first-such p xs
   first-no p x xs e = rw (e, first-such)
+
+  -- ---- one element among others
+
+  pub each-swap : (P : A → Type 0) (xs ys : List A) (e f : A) → Each P (xs ++ (e ∷ ys)) → P f → Each P (xs ++ (f ∷ ys))
+  each-swap P [] ys e f h q = (q, h .1)
+  each-swap P (x ∷ xs) ys e f h q = (h .0, each-swap P xs ys e f (h .1) q)
+
+  pub each-insert : (P : A → Type 0) (xs ys : List A) (e : A) → Each P (xs ++ ys) → P e → Each P (xs ++ (e ∷ ys))
+  each-insert P [] ys e h q = (q, h)
+  each-insert P (x ∷ xs) ys e h q = (h .0, each-insert P xs ys e (h .1) q)
+
+  pub each-without : (P : A → Type 0) (xs ys : List A) (e : A) → Each P (xs ++ (e ∷ ys)) → Each P (xs ++ ys)
+  each-without P [] ys e h = h .1
+  each-without P (x ∷ xs) ys e h = (h .0, each-without P xs ys e (h .1))
+
+  pub each-at : (P : A → Type 0) (xs ys : List A) (e : A) → Each P (xs ++ (e ∷ ys)) → P e
+  each-at P [] ys e h = h .0
+  each-at P (x ∷ xs) ys e h = each-at P xs ys e (h .1)
+
+  pub each-append : (P : A → Type 0) (xs ys : List A) → Each P xs → Each P ys → Each P (xs ++ ys)
+  each-append P [] ys p q = q
+  each-append P (x ∷ xs) ys p q = (p .0, each-append P xs ys (p .1) q)
+
+  pub each-left : (P : A → Type 0) (xs ys : List A) → Each P (xs ++ ys) → Each P xs
+  each-left P [] ys h = tt
+  each-left P (x ∷ xs) ys h = (h .0, each-left P xs ys (h .1))
+
+  pub each-right : (P : A → Type 0) (xs ys : List A) → Each P (xs ++ ys) → Each P ys
+  each-right P [] ys h = h
+  each-right P (x ∷ xs) ys h = each-right P xs ys (h .1)
+
+  pub pairwise-without : (S : A → A → Type 0) (xs ys : List A) (e : A) → Pairwise S (xs ++ (e ∷ ys)) → Pairwise S (xs ++ ys)
+  pairwise-without S [] ys e h = h .1
+  pairwise-without S (x ∷ xs) ys e h = (each-without (S x) xs ys e (h .0), pairwise-without S xs ys e (h .1))
+
+  -- e against those before it, and against those behind it
+  pub pairwise-before : (S : A → A → Type 0) (xs ys : List A) (e : A) → Pairwise S (xs ++ (e ∷ ys)) → Each (λ x. S x e) xs
+  pairwise-before S [] ys e h = tt
+  pairwise-before S (x ∷ xs) ys e h = (each-at (S x) xs ys e (h .0), pairwise-before S xs ys e (h .1))
+
+  pub pairwise-behind : (S : A → A → Type 0) (xs ys : List A) (e : A) → Pairwise S (xs ++ (e ∷ ys)) → Each (S e) ys
+  pairwise-behind S [] ys e h = h .0
+  pairwise-behind S (x ∷ xs) ys e h = pairwise-behind S xs ys e (h .1)
+
+  pub pairwise-insert : (S : A → A → Type 0) (xs ys : List A) (e : A) → Pairwise S (xs ++ ys) → Each (λ x. S x e) xs → Each (S e) ys → Pairwise S (xs ++ (e ∷ ys))
+  pairwise-insert S [] ys e h b a = (a, h)
+  pairwise-insert S (x ∷ xs) ys e h b a = (each-insert (S x) xs ys e (h .0) (b .0), pairwise-insert S xs ys e (h .1) (b .1) a)
+
+  pub any-last : (p : A → Bool) (xs : List A) (e : A) → p e ≡ true → any p (xs ++ (e ∷ [])) ≡ true
+  any-last p [] e h = rw (h, any)
+  any-last p (x ∷ xs) e h = go (p x) refl (any-last p xs e h)
+    where
+      go : (b : Bool) → p x ≡ b → any p (xs ++ (e ∷ [])) ≡ true → any p (x ∷ (xs ++ (e ∷ []))) ≡ true
+      go true k i = rw (k, any)
+      go false k i = any-no p x (xs ++ (e ∷ [])) k ∙ i

@@ -4,7 +4,7 @@ use mathlib.Core.Bool.{Bool, true, false, _&&_, _||_, not, and-false}
 use mathlib.Core.List.{List, [], _∷_, _++_}
 use Rattle.spec.specs.Basics.{keep}
 use Rattle.spec.specs.Record.{Entry}
-use Rattle.spec.specs.Files.{named, named-as, has-named, live, superseded, files}
+use Rattle.spec.specs.Files.{same-name, named, named-as, has-named, live, superseded, files}
 use Rattle.history.specs.Lists.{any-insert, keep-insert, keep-append, keep-yes, keep-same, each-all}
 use Rattle.history.specs.Store.{alive, Unique, files-alive, none-superseded, fc-not-f8}
 
@@ -29,15 +29,15 @@ module _ (xs ys : List Entry) (o : Entry) (s : Shadowed xs ys o) where
   R = xs ++ ys
 
   -- o is no FC, so nobody sees it
-  has-same : (e : Entry) → has-named 0xFC es e ≡ has-named 0xFC R e
+  pub has-same : (e : Entry) → has-named 0xFC es e ≡ has-named 0xFC R e
   unfolding has-named
   has-same e = any-insert (named-as 0xFC e) xs ys o (rw (fc-not-f8 o (s .old)))
 
-  live-same : (e : Entry) → live es e ≡ live R e
+  pub live-same : (e : Entry) → live es e ≡ live R e
   unfolding live
   live-same e = ap (λ (b : Bool). named 0xFC e || (named 0xF8 e && not b)) (has-same e)
 
-  o-dead : live es o ≡ false
+  pub o-dead : live es o ≡ false
   unfolding live
   o-dead = rw (live, has-same o, s .covered, fc-not-f8 o (s .old)) (and-false (named 0xF8 o))
 

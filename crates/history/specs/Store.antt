@@ -1,7 +1,7 @@
 -- The files of a list of entries in which no name is alive twice, and the rules on such entries. Nothing here knows of bytes on the image.
-use Prim.Native.Nat.{ℕ}
+use Prim.Native.Nat.{ℕ, _≤_, _<_}
 use native.Mathlib.Omega.{arith}
-use mathlib.Core.Path.{_≡_, refl, sym, _∙_}
+use mathlib.Core.Path.{_≡_, refl, sym, ap, _∙_}
 use mathlib.Core.Bool.{Bool, true, false, _&&_, _||_, not}
 use mathlib.Core.List.{List, [], _∷_, _++_}
 use lib.Dec.{eqb}
@@ -161,7 +161,7 @@ calm-ruled x es c =
 pub dead-apart : (u : Entry) → alive u ≡ false → (e : Entry) → Apart e u
 dead-apart u a e p q = let z : false ≡ true = sym a ∙ q in cc
 
-dead-named : (u : Entry) → alive u ≡ false → Well-named u
+pub dead-named : (u : Entry) → alive u ≡ false → Well-named u
 dead-named u a q = let z : false ≡ true = sym a ∙ q in cc
 
 -- with an unfinished record behind

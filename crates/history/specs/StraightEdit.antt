@@ -58,7 +58,7 @@ other im′ s e f =
 unfoldable pub front-part : List ℕ → List ℕ → List Rec → List ℕ
 front-part gap lost xs = gap ++ (lost ++ lay xs [])
 
-front-is : (gap lost : List ℕ) (xs : List Rec) (t : List ℕ) → front-part gap lost xs ++ t ≡ gap ++ (lost ++ lay xs t)
+pub front-is : (gap lost : List ℕ) (xs : List Rec) (t : List ℕ) → front-part gap lost xs ++ t ≡ gap ++ (lost ++ lay xs t)
 unfolding front-part
 front-is gap lost xs t =
     append-assoc gap (lost ++ lay xs []) t

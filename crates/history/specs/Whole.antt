@@ -32,11 +32,11 @@ eight-blank : (f : ℕ) → blank (blanks 8 ++ blanks f) ≡ true
 unfolding blank
 eight-blank f = blank-blanks f
 
-is-clean-0 : (b : ℕ) → b ≡ 0 → is-clean b ≡ false
+pub is-clean-0 : (b : ℕ) → b ≡ 0 → is-clean b ≡ false
 unfolding is-clean
 is-clean-0 b e = rw e
 
-is-clean-A0 : (b : ℕ) → b ≡ 160 → is-clean b ≡ true
+pub is-clean-A0 : (b : ℕ) → b ≡ 160 → is-clean b ≡ true
 unfolding is-clean
 is-clean-A0 b e = rw e
 
@@ -47,23 +47,23 @@ module _ {im : List ℕ} {a l : ℕ} {gap lost : List ℕ} {h : ℕ} {x : Rec} {
   abbrev E : List Entry
   E = entries-of h (x ∷ ys) ++ seg-entries (h + sizes (x ∷ ys)) seg
 
-  below : sizes [] + length gap ≡ floor h
+  pub below : sizes [] + length gap ≡ floor h
   below = zero-add (length gap) ∙ s .gap-length ∙ sym (bottom s)
 
-  here : floor h + length lost ≡ h
+  pub here : floor h + length lost ≡ h
   here = omega (arith, bottom s, s .at, s .lost-length)
 
-  started : x .low ≡ 0 → head im ≡ give h
+  pub started : x .low ≡ 0 → head im ≡ give h
   started e = go (eqb h 0) refl
     where
       go : (b : Bool) → eqb h 0 ≡ b → head im ≡ give h
       go true k = straight-zero s (eqb-true h 0 k) e
       go false k = straight-start s (eqb-false h 0 k) e
 
-  gap-part : part 0 (floor h) im ≡ gap
+  pub gap-part : part 0 (floor h) im ≡ gap
   gap-part = ap (take (floor h)) (s .is) ∙ part-below [] (x ∷ ys) gap lost (seg-onto seg free) h below here
 
-  free-part : part T (length im) im ≡ free
+  pub free-part : part T (length im) im ≡ free
   free-part =
       let e : part (h + sizes (x ∷ ys)) (length im) im ≡ seg-onto seg free = ap (λ (l : List ℕ). drop (h + sizes (x ∷ ys)) (take (length im) l)) (s .is) ∙ part-rest [] (x ∷ ys) gap lost (seg-onto seg free) h below here (length im) (ap length (s .is)) in
       sym (drop-drop (seg-size seg) (h + sizes (x ∷ ys)) (take (length im) im)) ∙ ap (drop (seg-size seg)) e ∙ drop-seg seg free
@@ -134,7 +134,7 @@ module _ {im : List ℕ} {a l : ℕ} {lost : List ℕ} {h : ℕ} {low : List Rec
   abbrev E₁ : List Entry
   E₁ = entries-of h (x ∷ ys) ++ (entries-of 0 low ++ seg-entries (sizes low) seg)
 
-  free₁ : part T₁ (floor h) im ≡ free
+  pub free₁ : part T₁ (floor h) im ≡ free
   free₁ =
       sym (drop-drop (seg-size seg) (sizes low) (take (floor h) im))
       ∙ ap (λ (l : List ℕ). drop (seg-size seg) (drop (sizes low) (take (floor h) l))) (shaped s)
