@@ -47,3 +47,10 @@ pub mod PutTurn
 pub mod PutPhases
 pub mod PutOld
 pub mod Puts
+pub mod Vacant
+pub mod LaidClean
+pub mod LaidForget
+pub mod LaidErase
+pub mod EraseFree
+pub mod LaidMend
+pub mod Closes
