@@ -19,7 +19,7 @@ use Rattle.spec.specs.Mount.{free-sectors, dirty, erase-steps}
 use Rattle.history.specs.Lay.{blanks, lay}
 use Rattle.history.specs.Walk.{Quiet}
 use Rattle.history.specs.Quiet.{quiet-blanks, quiet-append, quiet-drop, quiet-take}
-use Rattle.history.specs.Seg.{seg-none, seg-onto}
+use Rattle.history.specs.Seg.{Seg, seg-none, seg-onto}
 use Rattle.history.specs.Erase.{erase-mid, length-sector, sector-is}
 use Rattle.history.specs.Lists.{keep-yes, keep-no, each-map}
 use Rattle.history.specs.Safe.{Safe}
@@ -102,7 +102,7 @@ pub record Mid (N h S lim : ℕ) (t : Bool) (es : List Entry) (im : Image) : Typ
   pub vac : Vacant h S t es im
   pub ends : S + length (vac .free) ≡ lim
 
-pub free-quiet : {im : Image} {h S : ℕ} {t : Bool} {es : List Entry} {below free : List ℕ} → Laid im h S t es seg-none below free → (f : ℕ) × (length free ≡ 8 * f) × Quiet f free
+pub free-quiet : {im : Image} {h S : ℕ} {t : Bool} {es : List Entry} {seg : Seg} {below free : List ℕ} → Laid im h S t es seg below free → (f : ℕ) × (length free ≡ 8 * f) × Quiet f free
 free-quiet (laid-straight f s t₁ S₁ e₁ lf qf) = (f, lf, qf)
 free-quiet (laid-turned {f = f} s t₁ S₁ e₁ b) = (f, s .free-length, s .free-quiet)
 

@@ -28,8 +28,8 @@ pub mod Forget
 pub mod Clean
 pub mod StraightClean
 pub mod Carry
-pub mod StraightVoid
 pub mod StraightClose
+pub mod Top
 pub mod Laid
 pub mod Kinds
 pub mod Entries
@@ -54,3 +54,16 @@ pub mod LaidErase
 pub mod EraseFree
 pub mod LaidMend
 pub mod Closes
+pub mod Idle
+pub mod Resting
+pub mod Unshadow
+pub mod Voiding
+pub mod VoidMount
+pub mod HalfMount
+pub mod Mounts
+pub mod Copying
+pub mod Handover
+pub mod Sweeps
+pub mod Formats
+pub mod Calls
+pub mod Theorem

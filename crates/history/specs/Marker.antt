@@ -1,14 +1,15 @@
 -- The marker: from not turned, by a torn wrap, to turned; and a chain that ends exactly at N, which has turned with the same bytes.
-use Prim.Native.Nat.{ℕ, zero, suc, _+_, _-_, _*_, _≤_}
+use Prim.Native.Nat.{ℕ, zero, suc, _+_, _-_, _*_, _/_, _≤_, _<_}
 use native.Mathlib.Omega.{arith}
 use native.Mathlib.Nat.{zero-add}
-use mathlib.Core.Path.{_≡_, sym, ap, _∙_, subst}
+use mathlib.Core.Path.{_≡_, refl, sym, ap, _∙_, subst}
 use mathlib.Core.Bool.{true}
 use mathlib.Core.List.{List, [], _∷_, _++_, append-nil}
 use lib.ListN.{length, take, length-replicate}
 use Rattle.spec.specs.declared.Next.{Next}
 use Rattle.spec.specs.declared.Ending.{Ending}
 use Rattle.spec.specs.Step.{run, moved}
+use Rattle.spec.specs.Geometry.{floor}
 use Rattle.spec.specs.Record.{Rec}
 use Rattle.spec.specs.Chain.{read, reading-from}
 use Rattle.spec.specs.Write.{marker-steps}
@@ -23,7 +24,7 @@ use Rattle.history.specs.Straight.{Straight, bottom}
 use Rattle.history.specs.StraightEdit.{other, run-behind}
 use Rattle.history.specs.Turned.{Turned, exact, marker, Opens, opens-ff}
 
-opens-blanks : (k : ℕ) → 8 ≤ k → Opens (blanks k) Next.Clear
+pub opens-blanks : (k : ℕ) → 8 ≤ k → Opens (blanks k) Next.Clear
 opens-blanks k h = subst (λ (l : List ℕ). Opens l Next.Clear) (sym (blank-split 8 (k - 8) k (omega arith))) opens-ff
 
 module _ {im : List ℕ} {a l : ℕ} {gap lost : List ℕ} {h : ℕ} {high : List Rec} {g : ℕ} (s : Straight im a l gap lost h high seg-none (blanks g)) (eight : 8 ≤ g) where

@@ -19,7 +19,7 @@ use Rattle.spec.specs.Demand.{Sound}
 use Rattle.spec.specs.History.{Ledger, with-file}
 use Rattle.history.specs.Lay.{blanks, st-f8, st-00}
 use Rattle.history.specs.Seg.{Seg, seg-none}
-use Rattle.history.specs.Lists.{each-end}
+use Rattle.history.specs.Lists.{each-end, each-at, each-swap}
 use Rattle.history.specs.Store.{alive, Unmarked, f8-alive}
 use Rattle.history.specs.Put.{file}
 use Rattle.history.specs.Safe.{Safe}
@@ -32,17 +32,9 @@ use Rattle.history.specs.PutWrite.{Rest}
 
 -- ---- the first record is START, the others are plain
 
-each-swap : (P : Entry → Type 0) (xs ys : List Entry) (e f : Entry) → (P e → P f) → Each P (xs ++ (e ∷ ys)) → Each P (xs ++ (f ∷ ys))
-each-swap P [] ys e f k p = (k (p .0), p .1)
-each-swap P (x ∷ xs) ys e f k p = (p .0, each-swap P xs ys e f k (p .1))
-
-each-at : (P : Entry → Type 0) (xs ys : List Entry) (e : Entry) → Each P (xs ++ (e ∷ ys)) → P e
-each-at P [] ys e p = p .0
-each-at P (x ∷ xs) ys e p = each-at P xs ys e (p .1)
-
 pub starts-swap : (xs ys : List Entry) (e f : Entry) → f .it .low ≡ e .it .low → Starts (xs ++ (e ∷ ys)) → Starts (xs ++ (f ∷ ys))
 starts-swap [] ys e f k s = (k ∙ s .0, s .1)
-starts-swap (x ∷ xs) ys e f k s = (s .0, each-swap Unmarked xs ys e f (λ m. ap (λ (b : ℕ). is-start b || is-clean b) k ∙ m) (s .1))
+starts-swap (x ∷ xs) ys e f k s = (s .0, each-swap Unmarked xs ys e f (s .1) (ap (λ (b : ℕ). is-start b || is-clean b) k ∙ each-at Unmarked xs ys e (s .1)))
 
 pub starts-end : (es : List Entry) (e : Entry) → Unmarked e → Starts es → Starts (es ++ (e ∷ []))
 starts-end [] e m s = absurd s
@@ -75,9 +67,9 @@ fc-by e c = eqb-true (e .it .status) 252 c
 abbrev pub gone : Entry → Entry
 gone e = record { at = e .at; it = restatus 0 (e .it) }
 
-dead-00 : (e : Entry) → alive (gone e) ≡ false
+pub gone-dead : (e : Entry) → alive (gone e) ≡ false
 unfolding alive named
-dead-00 e = refl
+gone-dead e = refl
 
 pub status-sound : {im : Image} {h S : ℕ} {t : Bool} {seg : Seg} {below free : List ℕ} (xs ys : List Entry) (e : Entry) → Laid im h S t (xs ++ (e ∷ ys)) seg below free → (b : ℕ) → bitAnd b (e .it .status) ≡ b →
     Sound im (program (e .at + 2) b)
@@ -85,15 +77,19 @@ status-sound xs ys e d b k = (omega (arith, entry-inside xs ys e d), subst (λ (
 
 -- ---- a quiet image
 
-pub quiet-inv : {im : Image} {es : List Entry} {l : Ledger} → good-length (length im) ≡ true → Rest im es → Starts es → Ok es l → Inv l im
+pub quiet-inv : {im : Image} {h : ℕ} {es : List Entry} {l : Ledger} → good-length (length im) ≡ true → Rest im h es → Starts es → Ok es l → Inv l im
 quiet-inv g r st ok = record { good = g; kind = quiet (r .B) (r .F) (r .laid) (r .tail) st ok }
 
-pub rest-read : {im : Image} {es : List Entry} → Rest im es → Reading
-rest-read {im} {es} r = read (length im) (r .h) (r .S) (r .t) es Ending.Tail
+pub rest-read : {im : Image} {h : ℕ} {es : List Entry} → Rest im h es → Reading
+rest-read {im} {h} {es} r = read (length im) h (r .S) (r .t) es Ending.Tail
 
-pub rest-rested : {im : Image} {es : List Entry} {l : Ledger} → good-length (length im) ≡ true → (r : Rest im es) → Starts es → Ok es l → Rested l im (rest-read r)
+pub rest-head : {im : Image} {h : ℕ} {es : List Entry} (r : Rest im h es) → rest-read r .place .head ≡ h
 unfolding rest-read
-rest-rested {im} {es} g r st ok = record { good = g; h = r .h; S = r .S; B = r .B; F = r .F; t = r .t; es = es; laid = r .laid; tail = r .tail; starts = st; ok = ok; is = refl }
+rest-head r = refl
+
+pub rest-rested : {im : Image} {h : ℕ} {es : List Entry} {l : Ledger} → good-length (length im) ≡ true → (r : Rest im h es) → Starts es → Ok es l → Rested l im (rest-read r)
+unfolding rest-read
+rest-rested {im} {h} {es} g r st ok = record { good = g; h = h; S = r .S; B = r .B; F = r .F; t = r .t; es = es; laid = r .laid; tail = r .tail; starts = st; ok = ok; is = refl }
 
 -- ---- FC to F8
 
@@ -138,7 +134,7 @@ module _ {im : Image} {h S : ℕ} {t : Bool} (B F : ℕ) (xs ys : List Entry) (e
 
 -- ---- the old file's 00, behind the commit of e
 
-module _ {im : Image} (xs ys : List Entry) (o e : Entry) (l : Ledger) (good : good-length (length im) ≡ true) (r : Rest im ((xs ++ (o ∷ ys)) ++ (e ∷ []))) (st : Starts (xs ++ (o ∷ ys))) (ok : Ok (xs ++ (o ∷ ys)) l)
+module _ {im : Image} {h : ℕ} (xs ys : List Entry) (o e : Entry) (l : Ledger) (good : good-length (length im) ≡ true) (r : Rest im h ((xs ++ (o ∷ ys)) ++ (e ∷ []))) (st : Starts (xs ++ (o ∷ ys))) (ok : Ok (xs ++ (o ∷ ys)) l)
     (f8 : named 0xF8 o ≡ true) (fc : named 0xFC e ≡ true) (same : name-of e ≡ name-of o) (plain : Unmarked e) (b : Bytes (content-of e)) where
   abbrev new : Ledger
   new = with-file (name-of e) (content-of e) l
@@ -146,8 +142,8 @@ module _ {im : Image} (xs ys : List Entry) (o e : Entry) (l : Ledger) (good : go
   joined : (xs ++ (o ∷ ys)) ++ (e ∷ []) ≡ xs ++ (o ∷ (ys ++ (e ∷ [])))
   joined = append-assoc xs (o ∷ ys) (e ∷ [])
 
-  laid : Laid im (r .h) (r .S) (r .t) (xs ++ (o ∷ (ys ++ (e ∷ [])))) seg-none (blanks (r .B)) (blanks (r .F))
-  laid = subst (λ (z : List Entry). Laid im (r .h) (r .S) (r .t) z seg-none (blanks (r .B)) (blanks (r .F))) joined (r .laid)
+  laid : Laid im h (r .S) (r .t) (xs ++ (o ∷ (ys ++ (e ∷ [])))) seg-none (blanks (r .B)) (blanks (r .F))
+  laid = subst (λ (z : List Entry). Laid im h (r .S) (r .t) z seg-none (blanks (r .B)) (blanks (r .F))) joined (r .laid)
 
   starts : Starts (xs ++ (o ∷ (ys ++ (e ∷ []))))
   starts = subst Starts joined (starts-end (xs ++ (o ∷ ys)) e plain st)
@@ -155,8 +151,8 @@ module _ {im : Image} (xs ys : List Entry) (o e : Entry) (l : Ledger) (good : go
   o-bytes : Bytes (content-of o)
   o-bytes = each-at Live-bytes xs ys o (ok .bytes) (f8-alive o f8)
 
-  pub deleted : Rest (set im (o .at + 2) 0) (xs ++ (gone o ∷ (ys ++ (e ∷ []))))
-  deleted = record { h = r .h; S = r .S; B = r .B; F = r .F; t = r .t; laid = restatus-laid xs (ys ++ (e ∷ [])) o laid 0 st-00; tail = r .tail }
+  pub deleted : Rest (set im (o .at + 2) 0) h (xs ++ (gone o ∷ (ys ++ (e ∷ []))))
+  deleted = record { S = r .S; B = r .B; F = r .F; t = r .t; laid = restatus-laid xs (ys ++ (e ∷ [])) o laid 0 st-00; tail = r .tail }
 
   still-good : good-length (length (set im (o .at + 2) 0)) ≡ true
   still-good = ap good-length (length-set im (o .at + 2) 0) ∙ good
@@ -165,7 +161,7 @@ module _ {im : Image} (xs ys : List Entry) (o e : Entry) (l : Ledger) (good : go
   gone-starts = starts-swap xs (ys ++ (e ∷ [])) o (gone o) refl starts
 
   gone-ok : Ok (xs ++ (gone o ∷ (ys ++ (e ∷ [])))) new
-  gone-ok = ok-unshadow xs (ys ++ (e ∷ [])) (gone o) new (ok-over xs ys o e l ok f8 fc same b .0) (dead-00 o)
+  gone-ok = ok-unshadow xs (ys ++ (e ∷ [])) (gone o) new (ok-over xs ys o e l ok f8 fc same b .0) (gone-dead o)
 
   pub delete-safe : Safe (Inv new) im (program (o .at + 2) 0 ∷ [])
   delete-safe = (

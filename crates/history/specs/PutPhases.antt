@@ -28,11 +28,11 @@ use Rattle.history.specs.PutWrite.{Rest, rest-of, good-run, length-open,
 use Rattle.history.specs.PutTurn.{Given, given-tail, given-zero, given, turned-by-marker, marker-safe}
 
 -- the steps before the commit of a record at a, behind the steps `turn`, m of them
-pub record Written (l : Ledger) (im : Image) (es : List Entry) (n c : List ℕ) (turn : List Step) (a m : ℕ) : Type 0 where
+pub record Written (l : Ledger) (im : Image) (h : ℕ) (es : List Entry) (n c : List ℕ) (turn : List Step) (a m : ℕ) : Type 0 where
   pub safe : Safe (Inv l) im (turn ++ moved a (open-steps n c))
   pub count : length (turn ++ moved a (open-steps n c)) ≡ 8 + length n + length c + m
   pub sound : Sound (run im (turn ++ moved a (open-steps n c))) (program (a + 2) 252)
-  pub rest : Rest (apply (run im (turn ++ moved a (open-steps n c))) (program (a + 2) 252)) (es ++ (record { at = a; it = file n c } ∷ []))
+  pub rest : Rest (apply (run im (turn ++ moved a (open-steps n c))) (program (a + 2) 252)) h (es ++ (record { at = a; it = file n c } ∷ []))
 
 small-image : (N : ℕ) → good-length N ≡ true → N ≤ 16777216
 unfolding good-length
@@ -46,7 +46,7 @@ module _ {im : Image} {h S : ℕ} {t : Bool} {es : List Entry} (B F : ℕ) (d : 
   fit-zero : t ≡ false → size-of (length n) (length c) ≤ B → Fit (length c) n
   fit-zero e room = name-fit n (length c) nice (omega (arith, small-image (length im) good, laid-head d, laid-below d e, length-replicate {A = ℕ} B 255))
 
-  at-tail : size-of (length n) (length c) ≤ F → Written l im es n c [] S 0
+  at-tail : size-of (length n) (length c) ≤ F → Written l im h es n c [] S 0
   at-tail room =
       record {
         safe = open-safe B F d n c (fit-tail room) b room l good st ok;
@@ -55,7 +55,7 @@ module _ {im : Image} {h S : ℕ} {t : Bool} {es : List Entry} (B F : ℕ) (d : 
         rest = rest-of B (F - size-of (length n) (length c)) (committed B F d n c (fit-tail room) b room);
       }
 
-  at-zero : t ≡ false → size-of (length n) (length c) ≤ B → 8 ≤ F → Written l im es n c (moved S marker-steps) 0 3
+  at-zero : t ≡ false → size-of (length n) (length c) ≤ B → 8 ≤ F → Written l im h es n c (moved S marker-steps) 0 3
   at-zero e room eight =
       let g : Fit (length c) n = fit-zero e room in
       let s : Laid im h S false es seg-none (blanks B) (blanks F) = subst (λ (u : Bool). Laid im h S u es seg-none (blanks B) (blanks F)) e d in
@@ -70,18 +70,18 @@ module _ {im : Image} {h S : ℕ} {t : Bool} {es : List Entry} (B F : ℕ) (d : 
       }
 
   pub written : (p : Place) → p ≡ place im h S t → Tail h S t seg-none (blanks B) (blanks F) S t → fits p (size-of (length n) (length c)) ≡ true →
-      Written l im es n c (turn-steps p (size-of (length n) (length c))) (address p (size-of (length n) (length c))) (three-if (with-marker p (size-of (length n) (length c))))
+      Written l im h es n c (turn-steps p (size-of (length n) (length c))) (address p (size-of (length n) (length c))) (three-if (with-marker p (size-of (length n) (length c))))
   written p e tl f =
       let z : ℕ = size-of (length n) (length c) in
       let some : 1 ≤ z = omega arith in
       go (subst (Given t S B F z) (sym e) (given B F z d tl some (subst (λ (y : Place). fits y z ≡ true) e f)))
     where
       go : Given t S B F (size-of (length n) (length c)) p →
-          Written l im es n c (turn-steps p (size-of (length n) (length c))) (address p (size-of (length n) (length c))) (three-if (with-marker p (size-of (length n) (length c))))
+          Written l im h es n c (turn-steps p (size-of (length n) (length c))) (address p (size-of (length n) (length c))) (three-if (with-marker p (size-of (length n) (length c))))
       go (given-tail room a w) =
-          subst (λ (y : Bool). Written l im es n c (elim y as (λ x. List Step) [ true ↦ moved (p .tail) marker-steps | false ↦ [] ]) (address p (size-of (length n) (length c))) (three-if y)) (sym w)
-          (subst (λ (k : ℕ). Written l im es n c [] k 0) (sym a) (at-tail room))
+          subst (λ (y : Bool). Written l im h es n c (elim y as (λ x. List Step) [ true ↦ moved (p .tail) marker-steps | false ↦ [] ]) (address p (size-of (length n) (length c))) (three-if y)) (sym w)
+          (subst (λ (k : ℕ). Written l im h es n c [] k 0) (sym a) (at-tail room))
       go (given-zero u room eight a w) =
-          subst (λ (y : Bool). Written l im es n c (elim y as (λ x. List Step) [ true ↦ moved (p .tail) marker-steps | false ↦ [] ]) (address p (size-of (length n) (length c))) (three-if y)) (sym w)
-          (subst (λ (k : ℕ). Written l im es n c (moved (p .tail) marker-steps) k 3) (sym a)
-          (subst (λ (k : ℕ). Written l im es n c (moved k marker-steps) 0 3) (sym (ap (λ (y : Place). y .tail) e)) (at-zero u room eight)))
+          subst (λ (y : Bool). Written l im h es n c (elim y as (λ x. List Step) [ true ↦ moved (p .tail) marker-steps | false ↦ [] ]) (address p (size-of (length n) (length c))) (three-if y)) (sym w)
+          (subst (λ (k : ℕ). Written l im h es n c (moved (p .tail) marker-steps) k 3) (sym a)
+          (subst (λ (k : ℕ). Written l im h es n c (moved k marker-steps) 0 3) (sym (ap (λ (y : Place). y .tail) e)) (at-zero u room eight)))

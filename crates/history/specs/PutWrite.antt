@@ -103,8 +103,7 @@ quiet-of : {im : Image} {l : Ledger} {h S : ℕ} {t : Bool} {es : List Entry} {s
 quiet-of B F d tl st ok = quiet B F d (tl .2) st ok
 
 -- an image with nothing unfinished, as it is read
-pub record Rest (im : Image) (es : List Entry) : Type 0 where
-  pub h : ℕ
+pub record Rest (im : Image) (h : ℕ) (es : List Entry) : Type 0 where
   pub S : ℕ
   pub B : ℕ
   pub F : ℕ
@@ -113,18 +112,18 @@ pub record Rest (im : Image) (es : List Entry) : Type 0 where
   pub tail : Tail h S t seg-none (blanks B) (blanks F) S t
 
 -- a chain that ends at N with sectors below has turned
-pub rest-of : {im : Image} {h S : ℕ} {t : Bool} {es : List Entry} (B F : ℕ) → Laid im h S t es seg-none (blanks B) (blanks F) → Rest im es
+pub rest-of : {im : Image} {h S : ℕ} {t : Bool} {es : List Entry} (B F : ℕ) → Laid im h S t es seg-none (blanks B) (blanks F) → Rest im h es
 rest-of {im} {h} {S} {t} {es} B F d = go (left-of B F d)
   where
-    go : Left h t B F → Rest im es
-    go (left-some f) = record { h = h; S = S; B = B; F = F; t = t; laid = d; tail = tail-clear (blanks (F - 8)) (blank-eight F f) (sym (add-zero S)) refl }
-    go (left-floor z e) = record { h = h; S = S; B = B; F = F; t = t; laid = d; tail = tail-floor (ap blanks z) e (sym (add-zero S)) e }
-    go (left-N z e f) = record { h = h; S = S; B = B; F = F; t = t; laid = d; tail = tail-N (ap blanks z) e f (sym (add-zero S)) e }
+    go : Left h t B F → Rest im h es
+    go (left-some f) = record { S = S; B = B; F = F; t = t; laid = d; tail = tail-clear (blanks (F - 8)) (blank-eight F f) (sym (add-zero S)) refl }
+    go (left-floor z e) = record { S = S; B = B; F = F; t = t; laid = d; tail = tail-floor (ap blanks z) e (sym (add-zero S)) e }
+    go (left-N z e f) = record { S = S; B = B; F = F; t = t; laid = d; tail = tail-N (ap blanks z) e f (sym (add-zero S)) e }
     go (left-turn z e b) =
         let ends : Laid im h S false es seg-none (blanks B) [] =
         subst (λ (u : Bool). Laid im h S u es seg-none (blanks B) []) e (subst (λ (k : ℕ). Laid im h S t es seg-none (blanks B) (blanks k)) z d) in
         let one : 1 ≤ B = omega arith in
-        record { h = h; S = 0; B = 0; F = B; t = true; laid = turn-exact ends one; tail = tail-clear (blanks (B - 8)) (blank-eight B b) refl refl }
+        record { S = 0; B = 0; F = B; t = true; laid = turn-exact ends one; tail = tail-clear (blanks (B - 8)) (blank-eight B b) refl refl }
 
 -- ---- the record
 

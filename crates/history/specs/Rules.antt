@@ -1,26 +1,22 @@
 -- The rules on the records of each kind of image: none is broken.
-use Prim.Native.Nat.{ℕ, zero, suc, _+_}
-use native.Mathlib.Omega.{arith}
-use mathlib.Core.Path.{_≡_, refl, sym, ap, ap₂, _∙_, subst}
-use mathlib.Core.Bool.{Bool, true, false, _&&_, _||_, not}
+use Prim.Native.Nat.{ℕ}
+use mathlib.Core.Path.{_≡_, refl, sym, ap, _∙_}
+use mathlib.Core.Bool.{Bool, true, false, _&&_, _||_}
 use mathlib.Core.List.{List, [], _∷_, _++_}
 use lib.Dec.{eqb}
-use borrow.Author.Tests.{eq-eqb}
-use Rattle.spec.specs.Basics.{same, any, keep, all, Each}
+use Rattle.spec.specs.Basics.{same, any, Each}
 use Rattle.spec.specs.Geometry.{floor}
-use Rattle.spec.specs.Bytes.{is-start, is-clean, is-unfinished}
-use Rattle.spec.specs.Record.{Rec, Entry, name-of}
+use Rattle.spec.specs.Bytes.{is-start, is-clean}
+use Rattle.spec.specs.Record.{Entry, name-of}
 use Rattle.spec.specs.Files.{same-name, named, named-as, has-named, live, doubled}
 use Rattle.spec.specs.Reading.{marked, second-ok, marks-ok, name-legal, names-ok, single}
 use Rattle.spec.specs.History.{Ledger}
 use Rattle.history.specs.Lay.{Fine, finished}
 use Rattle.history.specs.Seg.{Seg, seg-entries, seg-none, seg-torn, seg-cut, seg-held}
-use Rattle.history.specs.Lists.{and-no, any-none, any-insert, all-each, each-map, each-all, each-both, each-left, each-right, each-insert, Pairwise, pairwise-insert}
-use Rattle.history.specs.Store.{alive, Apart, Unique, Well-named, Finished, Unmarked, Calm-store, calm-ruled, calm-and, names-by, unique-single, marks-by, live-alive, doubled-none, fc-alive, f8-alive, fc-not-f8, no-fc, same-sym}
-use Rattle.history.specs.Shadow.{Shadowed, live-same, o-dead, has-same}
+use Rattle.history.specs.Lists.{and-no, any-none, all-each, each-map, each-all, each-both, each-left, each-right, each-insert, Pairwise, pairwise-insert}
+use Rattle.history.specs.Store.{alive, Apart, Well-named, Finished, Unmarked, Calm-store, names-by, unique-single, marks-by, live-alive, fc-alive, f8-alive, fc-not-f8, no-fc, same-sym}
+use Rattle.history.specs.Shadow.{Shadowed, live-same, o-dead}
 use Rattle.history.specs.Legal.{Ruled}
-use Rattle.history.specs.Laid.{Laid}
-use Rattle.history.specs.LaidEdit.{laid-fine}
 use Rattle.history.specs.OkLaws.{same-is}
 use Rattle.history.specs.Kinds.{Ok, Starts}
 

@@ -11,7 +11,7 @@ use Rattle.spec.specs.Record.{Entry}
 use Rattle.spec.specs.Chain.{Reading, read}
 use Rattle.spec.specs.Reading.{head-clean, reading}
 use Rattle.spec.specs.Move.{Work, begin, after}
-use Rattle.spec.specs.Mount.{repair-1, repair-2, repair-3, repair-4, void-steps, last-steps, torn-wrap-steps, delete-step, drop-steps, mended, settled}
+use Rattle.spec.specs.Mount.{repair-1, repair-2, repair-2-on, repair-3, repair-4, void-steps, last-steps, torn-wrap-steps, delete-step, drop-steps, mended, settled}
 use Rattle.spec.specs.Answers.{if-settled, settled-reading}
 use Rattle.history.specs.Store.{Finished, Unmarked, Unique, Calm-store, none-superseded, or-left, or-right}
 
@@ -32,7 +32,7 @@ void-none : (im : Image) (e : Entry) → Finished e → void-steps im e ≡ []
 unfolding void-steps is-unfinished
 void-none im e h = rw (void-steps, or-left (is-erased (e .it .status)) (is-reserved (e .it .status)) h, or-right (is-erased (e .it .status)) (is-reserved (e .it .status)) h)
 
-last-none : (im : Image) (es : List Entry) → Each Finished es → last-steps im es ≡ []
+pub last-none : (im : Image) (es : List Entry) → Each Finished es → last-steps im es ≡ []
 unfolding last-steps
 last-none im [] h = refl
 last-none im (e ∷ []) h = void-none im e (h .0)

@@ -1,5 +1,5 @@
 -- Edits of an image that has not turned: a status or low byte, and a record written at T, cut anywhere.
-use Prim.Native.Nat.{ℕ, _+_, _-_, _≤_}
+use Prim.Native.Nat.{ℕ, zero, suc, _+_, _-_, _*_, _≤_}
 use native.Mathlib.Omega.{arith}
 use native.Mathlib.Nat.{zero-add, add-assoc}
 use mathlib.Core.Path.{_≡_, refl, sym, ap, _∙_}

@@ -1,7 +1,7 @@
 -- The whole reading, with its rules judged, of every kind of image that histories make.
-use Prim.Native.Nat.{ℕ, suc, _+_, _-_, _*_, min, _≤_}
+use Prim.Native.Nat.{ℕ, zero, suc, _+_, _-_, _*_, _/_, min, _≤_, _<_}
 use native.Mathlib.Omega.{arith}
-use native.Mathlib.Nat.{zero-add}
+use native.Mathlib.Nat.{zero-add, add-zero}
 use mathlib.Core.Path.{_≡_, refl, sym, ap, _∙_, subst}
 use mathlib.Core.Bool.{Bool, true, false}
 use mathlib.Core.List.{List, [], _∷_, _++_}
@@ -93,20 +93,6 @@ module _ {im : List ℕ} {a l : ℕ} {gap lost : List ℕ} {h : ℕ} {x : Rec} {
       blank (part T (min (floor T + 4096) (length im)) im) ≡ true → reading im ≡ give (reads T false Ending.Tail)
   straight-whole-clean t e k l r b = straight-by t e k r (free-clean im (length im) h T false E Ending.Tail (is-clean-A0 (x .low) l) b)
 
-  -- full to N, with floor(h) = 0
-  pub full-whole : free ≡ [] → a ≡ 0 → x .low ≡ 0 → Ruled E → reading im ≡ give (reads T false Ending.Tail)
-  full-whole e z l r =
-      reading-by im h (reads T false Ending.Tail) (started l)
-      (rw (s .is)
-      (shape-full [] (x ∷ ys) gap lost (seg-onto seg free) h below here tt (s .fine) (omega arith) (seg-entries (h + sizes (x ∷ ys)) seg) (seg-open seg) T (omega (arith, bottom s, z))
-      (seg-ends Next.Over (h + sizes (x ∷ ys)) seg free (λ o k. ap (chain (suc k) o T) e ∙ stops-over T o k))))
-      refl r
-      (free-straight im (length im) h T E Ending.Tail (is-clean-0 (x .low) l) (ap blank gap-part ∙ empty gap (omega (arith, s .gap-length, z))) (ap blank (free-part ∙ e) ∙ empty [] refl))
-    where
-      empty : (g : List ℕ) → length g ≡ 0 → blank g ≡ true
-      empty [] e = blank-blanks 0
-      empty (y ∷ g) e = absurd (omega arith)
-
   -- an unfinished record that ends at N, with floor(h) > 0: read as turned, T is 0, and still the last thing
   pub last-whole : free ≡ [] → seg-open seg ≡ true → gap ≡ blanks (4096 * a) → 1 ≤ a → x .low ≡ 0 → Ruled E → reading im ≡ give (reads 0 true Ending.Tail)
   last-whole e o g z l r =
@@ -152,3 +138,18 @@ module _ {im : List ℕ} {a l : ℕ} {lost : List ℕ} {h : ℕ} {low : List Rec
   -- turned, head CLEAN, T's own sector FF
   pub turned-whole-clean : head im ≡ give h → x .low ≡ 160 → Ruled E₁ → blank (part T₁ (min (floor T₁ + 4096) (floor h)) im) ≡ true → reading im ≡ give reads₁
   turned-whole-clean k l r b = reading-by im h reads₁ k (turned-reading s) refl r (free-clean im (length im) h T₁ true E₁ Ending.Tail (is-clean-A0 (x .low) l) b)
+
+-- full to N, with floor(h) = 0
+pub full-whole : {im : List ℕ} {a l : ℕ} {gap lost : List ℕ} {h : ℕ} {x : Rec} {ys : List Rec} (s : Straight im a l gap lost h (x ∷ ys) seg-none []) → a ≡ 0 → head im ≡ give h → x .low ≡ 0 → Ruled (entries-of h (x ∷ ys) ++ []) →
+    reading im ≡ give (read (length im) h (h + sizes (x ∷ ys)) false (entries-of h (x ∷ ys) ++ []) Ending.Tail)
+full-whole {im} {a} {l} {gap} {lost} {h} {x} {ys} s z k e r =
+    reading-by im h (read (length im) h (h + sizes (x ∷ ys)) false (entries-of h (x ∷ ys) ++ []) Ending.Tail) k
+    (rw (s .is) (shape-full [] (x ∷ ys) gap lost [] h (below s) (here s) tt (s .fine) (omega arith) [] false (h + sizes (x ∷ ys)) (omega (arith, bottom s, z)) (λ j. stops-over (h + sizes (x ∷ ys)) false (suc j))))
+    refl r
+    (free-straight im (length im) h (h + sizes (x ∷ ys)) (entries-of h (x ∷ ys) ++ []) Ending.Tail (is-clean-0 (x .low) e)
+    (ap blank (gap-part s) ∙ empty gap (omega (arith, s .gap-length, z)))
+    (ap (λ (t : ℕ). blank (part t (length im) im)) (sym (add-zero (h + sizes (x ∷ ys)))) ∙ ap blank (free-part s) ∙ empty [] refl))
+  where
+    empty : (g : List ℕ) → length g ≡ 0 → blank g ≡ true
+    empty [] e = blank-blanks 0
+    empty (y ∷ g) e = absurd (omega arith)
