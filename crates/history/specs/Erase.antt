@@ -1,0 +1,126 @@
+-- Erasing sector by sector, cut anywhere: what is left has no mark if it had none from its second sector on.
+use Prim.Native.Nat.{ℕ, zero, suc, _+_, _-_, _*_, _≤_, _<_}
+use native.Mathlib.Omega.{arith}
+use native.Mathlib.Nat.{not-suc-le-zero}
+use mathlib.Core.Path.{_≡_, refl, sym, ap, ap₂, _∙_, subst}
+use mathlib.Core.List.{List, [], _∷_, _++_, append-assoc, append-nil, map}
+use lib.ListN.{length, take, drop, length-append, length-replicate, length-drop, take-append-drop}
+use lib.Seq.{drop-drop, length-take-le, take-at, drop-at}
+use borrow.Author.Tests.{le-leb, lt-leb}
+use Rattle.spec.specs.Step.{Step, erase, sector, apply, run}
+use Rattle.spec.specs.Geometry.{sectors-by, sectors}
+use Rattle.history.specs.Lay.{blanks, drop-past}
+use Rattle.spec.specs.Record.{Rec}
+use Rattle.history.specs.Lay.{body, onto}
+use Rattle.history.specs.Walk.{Quiet}
+use Rattle.history.specs.Quiet.{blank-split, quiet-blanks, quiet-append, quiet-drop, quiet-take}
+
+abbrev pub erases : ℕ → ℕ → List Step
+erases a zero = []
+erases a (suc j) = erase a ∷ erases (a + 4096) j
+
+sector-more : (j : ℕ) → sector ++ blanks (4096 * j) ≡ blanks (4096 * suc j)
+unfolding sector
+sector-more j = sym (blank-split 4096 (4096 * j) (4096 * suc j) (omega arith))
+
+pub sector-is : sector ≡ blanks 4096
+unfolding sector
+sector-is = refl
+
+pub length-sector : length sector ≡ 4096
+unfolding sector
+length-sector = refl
+
+pub erase-mid : (p q s : List ℕ) (a : ℕ) → length p ≡ a → length q ≡ 4096 → apply (p ++ (q ++ s)) (erase a) ≡ p ++ (sector ++ s)
+erase-mid p q s a e l = rw (take-at p (q ++ s) a e, drop-at p (q ++ s) a e, drop-at q s 4096 l)
+
+-- j sectors of q, from its start
+pub erase-run : (j a : ℕ) (p q s : List ℕ) → length p ≡ a → 4096 * j ≤ length q → run (p ++ (q ++ s)) (erases a j) ≡ p ++ (blanks (4096 * j) ++ (drop (4096 * j) q ++ s))
+erase-run zero a p q s e l = refl
+erase-run (suc j) a p q s e l =
+    let q₁ : List ℕ = take 4096 q in
+    let q₂ : List ℕ = drop 4096 q in
+    let i : 4096 + 4096 * j ≡ 4096 * suc j = omega arith in
+    let c : p ++ (q ++ s) ≡ p ++ (q₁ ++ (q₂ ++ s)) = ap (λ (l : List ℕ). p ++ l) (ap (λ (l : List ℕ). l ++ s) (sym (take-append-drop 4096 q)) ∙ append-assoc q₁ q₂ s) in
+    ap (λ (m : List ℕ). run m (erases a (suc j))) c
+    ∙ ap (λ (m : List ℕ). run m (erases (a + 4096) j)) (erase-mid p q₁ (q₂ ++ s) a e (length-take-le 4096 q (omega arith)) ∙ sym (append-assoc p sector (q₂ ++ s)))
+    ∙ erase-run j (a + 4096) (p ++ sector) q₂ s (omega (arith, length-append p sector, length-sector)) (omega (arith, length-drop 4096 q))
+    ∙ append-assoc p sector (blanks (4096 * j) ++ (drop (4096 * j) q₂ ++ s))
+    ∙ ap (λ (m : List ℕ). p ++ m) (sym (append-assoc sector (blanks (4096 * j)) (drop (4096 * j) q₂ ++ s))
+    ∙ ap₂ (λ (x y : List ℕ). x ++ (y ++ s)) (sector-more j) (drop-drop (4096 * j) 4096 q ∙ ap (λ (n : ℕ). drop n q) i))
+
+-- the sectors of the definitions
+sectors-more : (n k a b : ℕ) → a + 4096 * k ≡ b → k ≤ n → map erase (sectors-by n a b) ≡ erases a k
+unfolding sectors-by
+sectors-more zero zero a b e l = refl
+sectors-more (suc n) zero a b e l = rw (sectors-by, lt-leb (a + 4096) b (omega arith))
+sectors-more zero (suc k) a b e l = absurd (not-suc-le-zero l)
+sectors-more (suc n) (suc k) a b e l = rw (sectors-by, le-leb (a + 4096) b (omega arith)) (ap (λ (m : List Step). erase a ∷ m) (sectors-more n k (a + 4096) b (omega arith) (omega arith)))
+
+pub sectors-are : (k a b : ℕ) → a + 4096 * k ≡ b → map erase (sectors a b) ≡ erases a k
+sectors-are k a b e = sectors-more b k a b e (omega arith)
+
+take-erases : (i k a : ℕ) → i ≤ k → take i (erases a k) ≡ erases a i
+take-erases zero k a h = refl
+take-erases (suc i) zero a h = absurd (not-suc-le-zero h)
+take-erases (suc i) (suc k) a h = ap (λ (m : List Step). erase a ∷ m) (take-erases i k (a + 4096) (omega arith))
+
+-- k sectors of q, of which i are erased
+abbrev pub half-erased : ℕ → ℕ → List ℕ → List ℕ
+half-erased i k q = blanks (4096 * i) ++ take (4096 * (k - i)) (drop (4096 * i) q)
+
+pub half-erased-length : (i k : ℕ) (q : List ℕ) → i ≤ k → 4096 * k ≤ length q → length (half-erased i k q) ≡ 4096 * k
+half-erased-length i k q h l =
+    length-append (blanks (4096 * i)) (take (4096 * (k - i)) (drop (4096 * i) q))
+    ∙ ap₂ _+_ (length-replicate (4096 * i) 255) (length-take-le (4096 * (k - i)) (drop (4096 * i) q) (omega (arith, length-drop (4096 * i) q))) ∙ omega arith
+
+pub all-erased : (k : ℕ) (q : List ℕ) → half-erased k k q ≡ blanks (4096 * k)
+all-erased k q =
+    let z : 4096 * (k - k) ≡ 0 = omega arith in
+    ap (λ (n : ℕ). blanks (4096 * k) ++ take n (drop (4096 * k) q)) z ∙ append-nil (blanks (4096 * k))
+
+-- step (d), cut after i erases
+pub erase-cut : (i k a : ℕ) (pre q s : List ℕ) → length pre ≡ a → 4096 * k ≤ length q → i ≤ k →
+    run (pre ++ (q ++ s)) (take i (erases a k)) ≡ pre ++ (half-erased i k q ++ (drop (4096 * k) q ++ s))
+erase-cut i k a pre q s e l h =
+    let d : List ℕ = drop (4096 * i) q in
+    let m : ℕ = 4096 * (k - i) in
+    let n : 4096 * i + m ≡ 4096 * k = omega arith in
+    let c : d ++ s ≡ take m d ++ (drop (4096 * k) q ++ s) =
+    ap (λ (x : List ℕ). x ++ s) (sym (take-append-drop m d)) ∙ append-assoc (take m d) (drop m d) s
+    ∙ ap (λ (x : List ℕ). take m d ++ (x ++ s)) (drop-drop m (4096 * i) q ∙ ap (λ (y : ℕ). drop y q) n) in
+    ap (run (pre ++ (q ++ s))) (take-erases i k a h) ∙ erase-run i a pre q s e (omega arith)
+    ∙ ap (λ (x : List ℕ). pre ++ (blanks (4096 * i) ++ x)) c ∙ ap (λ (x : List ℕ). pre ++ x) (sym (append-assoc (blanks (4096 * i)) (take m d) (drop (4096 * k) q ++ s)))
+
+-- from the second sector on q has no mark: so neither has what is left
+module _ (k r : ℕ) (q : List ℕ) (long : length q ≡ 4096 * suc k + 8 * r) (quiet : Quiet (512 * k + r) (drop 4096 q)) where
+  later : (i : ℕ) → i ≤ k → Quiet (512 * (k - i) + r) (drop (4096 * suc i) q)
+  later i h =
+      let e : 512 * k + r ≡ 512 * i + (512 * (k - i) + r) = omega arith in
+      let d : 4096 + 8 * (512 * i) ≡ 4096 * suc i = omega arith in
+      subst (λ (n : ℕ). Quiet (512 * (k - i) + r) (drop n q)) d
+      (rw (drop-drop (8 * (512 * i)) 4096 q) at (quiet-drop (512 * i) (512 * (k - i) + r) (drop 4096 q) (subst (λ (n : ℕ). Quiet n (drop 4096 q)) e quiet)))
+
+  pub quiet-lost : Quiet r (drop (4096 * suc k) q)
+  quiet-lost = let e : 512 * (k - k) + r ≡ r = omega arith in subst (λ (n : ℕ). Quiet n (drop (4096 * suc k) q)) e (later k (omega arith))
+
+  pub half-erased-quiet : (i : ℕ) → i ≤ k → Quiet (512 * suc k) (half-erased (suc i) (suc k) q)
+  half-erased-quiet i h =
+      let d : List ℕ = drop (4096 * suc i) q in
+      let m : ℕ = 4096 * (suc k - suc i) in
+      let lm : length (take m d) ≡ 8 * (512 * (k - i)) = length-take-le m d (omega (arith, length-drop (4096 * suc i) q)) ∙ omega arith in
+      let a : Quiet (512 * (k - i)) (take m d) = quiet-take (512 * (k - i)) r (take m d) (drop m d) lm (rw (take-append-drop m d) (later i h)) in
+      let u : 8 * (512 * suc i) ≡ 4096 * suc i = omega arith in
+      let v : 512 * suc i + 512 * (k - i) ≡ 512 * suc k = omega arith in
+      let b : Quiet (512 * suc i) (blanks (4096 * suc i)) = subst (λ (n : ℕ). Quiet (512 * suc i) (blanks n)) u (quiet-blanks (512 * suc i)) in
+      subst (λ (n : ℕ). Quiet n (half-erased (suc i) (suc k) q)) v
+      (quiet-append (512 * suc i) (512 * (k - i)) (blanks (4096 * suc i)) (take m d) (length-replicate (4096 * suc i) 255 ∙ omega arith) b a)
+
+-- the head's first sector holds its header, so the rest of it has no mark
+pub quiet-second : (x : Rec) (lost z : List ℕ) (l w : ℕ) → length lost ≡ 8 * l → 8 * l < 4096 → Quiet (511 - l + w) (body (x .name) (x .content) z) → Quiet w (drop 4096 (lost ++ onto x z))
+quiet-second x lost z l w e h q =
+    let n : 4096 - 8 * l ≡ 8 + 8 * (511 - l) = omega arith in
+    let d : drop 4096 (lost ++ onto x z) ≡ drop (8 * (511 - l)) (body (x .name) (x .content) z) =
+    drop-past lost (onto x z) 4096 (4096 - 8 * l) (omega arith)
+    ∙ ap (λ (m : ℕ). drop m (onto x z)) n ∙ sym (drop-drop (8 * (511 - l)) 8 (onto x z)) in
+    rw d (quiet-drop (511 - l) w (body (x .name) (x .content) z) q)

@@ -1,0 +1,134 @@
+-- On a rested image no repair has a step to do; so mount is the one repair that has some, if it leaves a rested image.
+use Prim.Native.Nat.{ℕ}
+use native.Mathlib.Omega.{arith}
+use mathlib.Core.Path.{_≡_, refl, sym, ap, _∙_, subst}
+use mathlib.Core.Bool.{false}
+use mathlib.Core.List.{List, [], _∷_, _++_}
+use Rattle.spec.specs.Step.{Image, Step, run}
+use Rattle.spec.specs.Basics.{give, Each}
+use Rattle.spec.specs.Record.{Entry}
+use Rattle.spec.specs.Chain.{Reading}
+use Rattle.spec.specs.Reading.{head-clean, reading}
+use Rattle.spec.specs.Move.{Work, begin, reread, after}
+use Rattle.spec.specs.Mount.{repair-1, repair-2, repair-2-on, repair-3, repair-4, mended}
+use Rattle.spec.specs.History.{Ledger}
+use Rattle.history.specs.Safe.{Safe}
+use Rattle.history.specs.Store.{Finished, Unique}
+use Rattle.history.specs.Settled.{one-none, two-none, three-none, four-none}
+use Rattle.history.specs.Whole.{is-clean-0}
+use Rattle.history.specs.Kinds.{Starts, Inv, Rested}
+use Rattle.history.specs.LaidEdit.{laid-fine}
+use Rattle.history.specs.Closes.{Rests}
+use Rattle.history.specs.Rules.{fine-finished}
+
+-- steps that are there
+pub some-behind : {A : Type 0} (xs ys : List A) (y : A) → xs ++ (y ∷ ys) ≡ [] → ⊥
+some-behind [] ys y e = let z : _≡_ {A = ℕ} 0 1 = cc in omega arith
+some-behind (x ∷ xs) ys y e = let z : _≡_ {A = ℕ} 0 1 = cc in omega arith
+
+pub some-append : {A : Type 0} (xs ys : List A) → (ys ≡ [] → ⊥) → xs ++ ys ≡ [] → ⊥
+some-append [] ys n e = n e
+some-append (x ∷ xs) ys n e = let z : _≡_ {A = ℕ} 0 1 = cc in omega arith
+
+pub starts-clean : (es : List Entry) → Starts es → head-clean es ≡ false
+starts-clean [] s = absurd s
+starts-clean (x ∷ es) s = is-clean-0 (x .it .low) (s .0)
+
+pub two-plain : (w : Work) (es : List Entry) → Starts es → repair-2 w es ≡ w
+two-plain w [] s = absurd s
+two-plain w (x ∷ es) s = two-none w x es (s .1)
+
+module _ {l : Ledger} (w : Work) (q : Rested l (w .image) (w .reading)) where
+  entries-is : w .reading .entries ≡ q .es
+  entries-is = ap (λ (r : Reading). r .entries) (q .is)
+
+  pub idle-1 : repair-1 w ≡ w
+  idle-1 = one-none w (ap head-clean entries-is ∙ starts-clean (q .es) (q .starts))
+
+  pub idle-2 : repair-2-on w ≡ w
+  idle-2 = ap (repair-2 w) entries-is ∙ two-plain w (q .es) (q .starts)
+
+  pub idle-3 : repair-3 w ≡ w
+  idle-3 = three-none w (subst (Each Finished) (sym entries-is) (fine-finished (q .es) (laid-fine (q .laid)))) (ap (λ (r : Reading). r .ending) (q .is))
+
+  pub idle-4 : repair-4 w ≡ w
+  idle-4 = four-none w (subst Unique (sym entries-is) (q .ok .unique))
+
+pub after-some : (w : Work) (ss : List Step) (h : ℕ) → (ss ≡ [] → ⊥) → after w ss h ≡ reread w ss (run (w .image) ss) h
+unfolding after
+after-some w [] h n = absurd (n refl)
+after-some w (s ∷ ss) h n = refl
+
+-- ---- mount
+
+-- nothing to do on a rested image, or some step
+pub data Needs (l : Ledger) (im : Image) (r : Reading) : Type 0 where
+  needs-none : Rested l im r → Needs l im r
+  needs-some : (mended im r .steps ≡ [] → ⊥) → Needs l im r
+
+pub record Mends (l : Ledger) (im : Image) : Type 0 where
+  pub r : Reading
+  pub reads : reading im ≡ give r
+  pub needs : Needs l im r
+  pub safe : Safe (Inv l) im (mended im r .steps)
+  pub rested : Rested l (run im (mended im r .steps)) (mended im r .reading)
+
+module _ {l : Ledger} {im : Image} {r : Reading} (reads : reading im ≡ give r) where
+  pub mends-none : Inv l im → Rested l im r → Mends l im
+  unfolding mended
+  mends-none i q =
+      let w : Work = begin im r in
+      let m : mended im r ≡ w =
+      ap (λ (v : Work). repair-4 (repair-3 (repair-2-on v))) (idle-1 w q) ∙ ap (λ (v : Work). repair-4 (repair-3 v)) (idle-2 w q) ∙ ap repair-4 (idle-3 w q) ∙ idle-4 w q in
+      record { r = r; reads = reads; needs = needs-none q; safe = subst (λ (v : Work). Safe (Inv l) im (v .steps)) (sym m) i; rested = subst (λ (v : Work). Rested l (run im (v .steps)) (v .reading)) (sym m) q }
+
+  module _ {ss : List Step} {h : ℕ} (q : Rests l im ss h) (some : ss ≡ [] → ⊥) where
+    -- the image that these steps leave, as it is read
+    left : Work
+    left = reread (begin im r) ss (run im ss) h
+
+    mends-by : mended im r ≡ left → Mends l im
+    unfolding left
+    mends-by m =
+        record {
+          r = r;
+          reads = reads;
+          needs = needs-some (λ e. some (sym (ap (λ (v : Work). v .steps) m) ∙ e));
+          safe = subst (λ (v : Work). Safe (Inv l) im (v .steps)) (sym m) (q .safe);
+          rested = subst (λ (v : Work). Rested l (run im (v .steps)) (v .reading)) (sym m) (q .rested);
+        }
+
+    then-3 : repair-3 left ≡ left
+    unfolding left
+    then-3 = idle-3 (reread (begin im r) ss (run im ss) h) (q .rested)
+
+    then-4 : repair-4 left ≡ left
+    unfolding left
+    then-4 = idle-4 (reread (begin im r) ss (run im ss) h) (q .rested)
+
+    then-2 : repair-2-on left ≡ left
+    unfolding left
+    then-2 = idle-2 (reread (begin im r) ss (run im ss) h) (q .rested)
+
+    done : (w : Work) → w ≡ after (begin im r) ss h → w ≡ left
+    unfolding left
+    done w e = e ∙ after-some (begin im r) ss h some
+
+    pub mends-1 : repair-1 (begin im r) ≡ after (begin im r) ss h → Mends l im
+    unfolding mended
+    mends-1 e = mends-by (ap (λ (v : Work). repair-4 (repair-3 (repair-2-on v))) (done (repair-1 (begin im r)) e) ∙ ap (λ (v : Work). repair-4 (repair-3 v)) then-2 ∙ ap repair-4 then-3 ∙ then-4)
+
+    pub mends-2 : repair-1 (begin im r) ≡ begin im r → repair-2-on (begin im r) ≡ after (begin im r) ss h → Mends l im
+    unfolding mended
+    mends-2 a e =
+        mends-by (ap (λ (v : Work). repair-4 (repair-3 (repair-2-on v))) a ∙ ap (λ (v : Work). repair-4 (repair-3 v)) (done (repair-2-on (begin im r)) e) ∙ ap repair-4 then-3 ∙ then-4)
+
+    pub mends-3 : repair-1 (begin im r) ≡ begin im r → repair-2-on (begin im r) ≡ begin im r → repair-3 (begin im r) ≡ after (begin im r) ss h → Mends l im
+    unfolding mended
+    mends-3 a b e =
+        mends-by (ap (λ (v : Work). repair-4 (repair-3 (repair-2-on v))) a ∙ ap (λ (v : Work). repair-4 (repair-3 v)) b ∙ ap repair-4 (done (repair-3 (begin im r)) e) ∙ then-4)
+
+    pub mends-4 : repair-1 (begin im r) ≡ begin im r → repair-2-on (begin im r) ≡ begin im r → repair-3 (begin im r) ≡ begin im r → repair-4 (begin im r) ≡ after (begin im r) ss h → Mends l im
+    unfolding mended
+    mends-4 a b c e =
+        mends-by (ap (λ (v : Work). repair-4 (repair-3 (repair-2-on v))) a ∙ ap (λ (v : Work). repair-4 (repair-3 v)) b ∙ ap repair-4 c ∙ done (repair-4 (begin im r)) e)

@@ -1,0 +1,92 @@
+-- Step (f) of a move on a laid image: X is forgotten in its own sector, and the head is Y.
+use Prim.Native.Nat.{ℕ, suc, _+_, _-_, _*_, _/_, _<_}
+use native.Mathlib.Omega.{arith}
+use mathlib.Core.Path.{_≡_, refl, sym, ap, _∙_, subst}
+use mathlib.Core.Bool.{Bool}
+use mathlib.Core.List.{List, [], _∷_, _++_, append-assoc}
+use lib.ListN.{length, drop, set, length-append}
+use Rattle.spec.specs.Step.{Image}
+use Rattle.spec.specs.Geometry.{floor}
+use Rattle.spec.specs.Record.{Rec, Entry}
+use Rattle.history.specs.Lay.{onto, lay, rsize, sizes, entries-of, lay-is, length-lay, length-body}
+use Rattle.history.specs.Walk.{Quiet}
+use Rattle.history.specs.Quiet.{quiet-append, mark-second}
+use Rattle.history.specs.Steps.{set-past}
+use Rattle.history.specs.Seg.{Seg, seg-onto, seg-append, length-seg}
+use Rattle.history.specs.Straight.{Straight}
+use Rattle.history.specs.StraightErase.{Cleaned, rsize-words}
+use Rattle.history.specs.Turned.{Turned, End, end-bytes}
+use Rattle.history.specs.Forget.{forgotten, forget}
+use Rattle.history.specs.Laid.{Laid, laid-straight, laid-turned}
+
+left-quiet : (x : Rec) → Cleaned x → Quiet (rsize x / 8) (forgotten x)
+left-quiet x c =
+    let n : suc (rsize x / 8 - 1) ≡ rsize x / 8 = omega arith in
+    subst (λ (m : ℕ). Quiet m (forgotten x)) n (mark-second (x .low) (drop 2 (forgotten x)), c)
+
+-- all that stands before the head, and something behind it
+pub before-head : (low : List Rec) (seg : Seg) (free lost t : List ℕ) → lay low (seg-onto seg (free ++ lost)) ++ t ≡ lay low (seg-onto seg (free ++ (lost ++ t)))
+before-head low seg free lost t =
+    ap (λ (m : List ℕ). m ++ t) (lay-is low (seg-onto seg (free ++ lost))) ∙ append-assoc (lay low []) (seg-onto seg (free ++ lost)) t ∙ sym (lay-is low (seg-onto seg (free ++ lost) ++ t))
+    ∙ ap (lay low) (sym (seg-append seg (free ++ lost) t) ∙ ap (seg-onto seg) (append-assoc free lost t))
+
+pub before-length : {im : List ℕ} {a l : ℕ} {lost : List ℕ} {h : ℕ} {low : List Rec} {seg : Seg} {f : ℕ} {free : List ℕ} {high : List Rec} {end : End} → Turned im a l lost h low seg f free high end →
+    length (lay low (seg-onto seg (free ++ lost))) ≡ h
+before-length {lost = lost} {low = low} {seg} {free = free} s =
+    length-lay low (seg-onto seg (free ++ lost)) ∙ omega (arith, length-seg seg (free ++ lost), length-append free lost, s .free-length, s .lost-length, s .below, s .at)
+
+pub turned-length : {im : List ℕ} {a l : ℕ} {lost : List ℕ} {h : ℕ} {low : List Rec} {seg : Seg} {f : ℕ} {free : List ℕ} {high : List Rec} {end : End} → Turned im a l lost h low seg f free high end →
+    length im ≡ h + (sizes high + length (end-bytes end))
+turned-length {lost = lost} {low = low} {seg} {free = free} {high} {end} s =
+    ap length (s .is ∙ sym (before-head low seg free lost (lay high (end-bytes end)))) ∙ length-append (lay low (seg-onto seg (free ++ lost))) (lay high (end-bytes end))
+    ∙ omega (arith, before-length s, length-lay high (end-bytes end))
+
+module _ {im : List ℕ} {a l : ℕ} {lost : List ℕ} {h : ℕ} {low : List Rec} {seg : Seg} {f : ℕ} {free : List ℕ} {x y : Rec} {ys : List Rec} {end : End} (s : Turned im a l lost h low seg f free (x ∷ y ∷ ys) end)
+    (c : Cleaned x) (near : l + rsize x / 8 < 512) where
+  forget-turned : Turned (set im (h + 1) 0) a (l + rsize x / 8) (lost ++ forgotten x) (h + rsize x) low seg f free (y ∷ ys) end
+  forget-turned =
+      let R : List ℕ = lay (y ∷ ys) (end-bytes end) in
+      let G : List ℕ = lay low (seg-onto seg (free ++ lost)) in
+      let e₁ : im ≡ G ++ onto x R = s .is ∙ sym (before-head low seg free lost (onto x R)) in
+      let e₂ : set (G ++ onto x R) (h + 1) 0 ≡ G ++ set (onto x R) 1 0 = ap (λ (n : ℕ). set (G ++ onto x R) (n + 1) 0) (sym (before-length s)) ∙ set-past G (onto x R) 1 0 in
+      let e₃ : set (onto x R) 1 0 ≡ forgotten x ++ R = ap (λ (l : List ℕ). set l 1 0) (lay-is (x ∷ []) R) in
+      let lf : length (forgotten x) ≡ 8 * (rsize x / 8) = omega (arith, length-body (x .name) (x .content) [], rsize-words x) in
+      record {
+        is = ap (λ (l : List ℕ). set l (h + 1) 0) e₁ ∙ e₂ ∙ ap (λ (l : List ℕ). G ++ l) e₃ ∙ before-head low seg free lost (forgotten x ++ R)
+            ∙ ap (λ (l : List ℕ). lay low (seg-onto seg (free ++ l))) (sym (append-assoc lost (forgotten x) R));
+        at = omega (arith, s .at, rsize-words x);
+        some-below = s .some-below;
+        below = s .below;
+        free-length = s .free-length;
+        free-quiet = s .free-quiet;
+        opened = s .opened;
+        opens = s .opens;
+        lost-length = length-append lost (forgotten x) ∙ omega (arith, s .lost-length, lf);
+        lost-small = near;
+        lost-quiet = quiet-append l (rsize x / 8) lost (forgotten x) (s .lost-length) (s .lost-quiet) (left-quiet x c);
+        fine-low = s .fine-low;
+        walked = s .walked;
+        fine-high = s .fine-high .1;
+      }
+
+-- what is shown of the records, whatever they are
+abbrev Forgets : Image → ℕ → ℕ → Bool → Seg → List ℕ → List ℕ → List Entry → Type 0
+Forgets im h S t seg below free [] = Unit {0}
+Forgets im h S t seg below free (x ∷ []) = Unit {0}
+Forgets im h S t seg below free (x ∷ (y ∷ es)) = Cleaned (x .it) → floor (y .at) ≡ floor h → Laid (set im (x .at + 1) 0) (y .at) S t (y ∷ es) seg below free
+
+pub forget-laid : {im : Image} {h S : ℕ} {t : Bool} {x y : Entry} {es : List Entry} {seg : Seg} {below free : List ℕ} → Laid im h S t (x ∷ y ∷ es) seg below free → Cleaned (x .it) →
+    floor (y .at) ≡ floor h → Laid (set im (x .at + 1) 0) (y .at) S t (y ∷ es) seg below free
+forget-laid {im} {h} {S} {t} {x} {y} {es} {seg} {below} {free} (laid-straight {a} {l} {lost} {x = x₀} {ys} f s t₁ S₁ es₁ lf qf) = go ys s S₁ es₁
+  where
+    go : (ys : List Rec) → Straight im a l below lost h (x₀ ∷ ys) seg free → S ≡ h + sizes (x₀ ∷ ys) → x ∷ y ∷ es ≡ entries-of h (x₀ ∷ ys) → Forgets im h S t seg below free (x ∷ y ∷ es)
+    go [] s S₁ e = let z : _≡_ {A = ℕ} 0 1 = cc in absurd (omega arith)
+    go (y₀ ∷ ys) s S₁ e =
+        subst (Forgets im h S t seg below free) (sym e) (λ c n. laid-straight f (forget s c (omega (arith, n, s .at, s .lost-small, rsize-words x₀))) t₁ (omega arith) refl lf qf)
+forget-laid {im} {h} {S} {t} {x} {y} {es} {seg} {below} {free} (laid-turned {a} {l} {f} {lost} {low} {x = x₀} {ys} {end} s t₁ S₁ es₁ b) = go ys low s S₁ es₁
+  where
+    go : (ys low : List Rec) → Turned im a l lost h low seg f free (x₀ ∷ ys) end → S ≡ sizes low → x ∷ y ∷ es ≡ entries-of h (x₀ ∷ ys) ++ entries-of 0 low → Forgets im h S t seg below free (x ∷ y ∷ es)
+    go [] [] s S₁ e = let z : _≡_ {A = ℕ} 0 1 = cc in absurd (omega arith)
+    go [] (r ∷ low) s S₁ e = subst (Forgets im h S t seg below free) (sym e) (λ c n. absurd (omega (arith, n, s .at, s .lost-small, s .some-below)))
+    go (y₀ ∷ ys) low s S₁ e =
+        subst (Forgets im h S t seg below free) (sym e) (λ c n. laid-turned (forget-turned s c (omega (arith, n, s .at, s .lost-small, rsize-words x₀))) t₁ S₁ refl b)

@@ -1,0 +1,168 @@
+-- What can stand last in a chain: eight FF, the end of the stretch, a marker, a torn wrap, and the unfinished records.
+use Prim.Native.Nat.{ℕ, zero, suc, _+_, _≤_}
+use native.Mathlib.Omega.{arith}
+use native.Mathlib.Nat.{le-of-suc-le-suc, not-suc-le-zero}
+use mathlib.Core.Path.{_≡_, refl, sym, ap, _∙_}
+use mathlib.Core.Bool.{Bool, true, false}
+use mathlib.Core.List.{List, [], _∷_, _++_}
+use lib.ListN.{length, take, drop, replicate, length-append, length-replicate}
+use lib.Seq.{drop-drop, take-append-seam}
+use Rattle.spec.specs.declared.Next.{Next}
+use Rattle.spec.specs.Basics.{long, blank}
+use Rattle.spec.specs.Geometry.{up8}
+use Rattle.spec.specs.Bytes.{is-record, is-wrap, is-start, is-clean, is-high, is-high-begun, is-erased, is-reserved, is-wrapped, is-unfinished, is-spare, is-name-begun, ends-name}
+use Rattle.spec.specs.Record.{status-of, size-of, Rec, rec-of}
+use Rattle.spec.specs.Next.{kind, record-at, torn-at, torn-wrap-at, clear-at, next-at, next}
+use Rattle.spec.specs.Chain.{Chain, add, stop, chain}
+use Rattle.history.specs.Lay.{blanks, pad, lens, onto, Fit, record-at-laid, record-at-onto, drop-past, drop-fill, drop-onto, rec-of-onto, chain-record}
+
+-- ---- the ends
+
+-- from address at, with no unfinished record before it, the chain over s is c
+abbrev pub Ends : ℕ → List ℕ → Chain → Type 0
+Ends at s c = (k : ℕ) → chain (suc (suc k)) false at s ≡ c
+
+-- the chain ends at s with x, behind an unfinished record too; one step's fuel is enough
+abbrev pub Stops : ℕ → List ℕ → Next → Type 0
+Stops at s x = (held : Bool) (k : ℕ) → chain (suc k) held at s ≡ stop held at x
+
+pub stops-clear : (at : ℕ) (s : List ℕ) → Stops at (blanks 8 ++ s) Next.Clear
+unfolding chain next next-at long kind clear-at blank is-record is-wrap is-high is-high-begun is-erased is-spare
+stops-clear at s true k = refl
+stops-clear at s false k = refl
+
+pub stops-over : (at : ℕ) → Stops at [] Next.Over
+unfolding chain next long
+stops-over at true k = refl
+stops-over at false k = refl
+
+abbrev pub wrap : List ℕ → List ℕ
+wrap s = 250 ∷ 90 ∷ 240 ∷ 255 ∷ 255 ∷ 255 ∷ 255 ∷ 255 ∷ s
+
+pub ends-wrap : (at : ℕ) (s : List ℕ) → Ends at (wrap s) (stop false at Next.Wrap)
+unfolding chain next next-at long kind is-record is-wrap is-start is-clean is-high is-high-begun is-erased is-wrapped is-spare
+ends-wrap at s k = refl
+
+pub blank-blanks : (k : ℕ) → blank (blanks k) ≡ true
+unfolding blank
+blank-blanks zero = refl
+blank-blanks (suc k) = blank-blanks k
+
+-- the second byte, before it is written and after
+pub data Begun : ℕ → Type 0 where
+  begun-ff : Begun 255
+  begun-5a : Begun 90
+
+abbrev pub torn-wrap : ℕ → ℕ → List ℕ
+torn-wrap c k = 250 ∷ c ∷ 255 ∷ 255 ∷ 255 ∷ 255 ∷ 255 ∷ 255 ∷ blanks k
+
+torn-wrap-blank : (c k : ℕ) → torn-wrap-at (torn-wrap c k) ≡ Next.TornWrap
+unfolding torn-wrap-at blank
+torn-wrap-blank c k = rw (blank-blanks k, torn-wrap-at)
+
+next-torn-wrap : {c : ℕ} (k : ℕ) → Begun c → next (torn-wrap c k) ≡ Next.TornWrap
+unfolding next next-at long kind is-record is-wrap is-start is-clean is-high is-high-begun is-erased is-wrapped is-spare
+next-torn-wrap k begun-ff = torn-wrap-blank 255 k
+next-torn-wrap k begun-5a = torn-wrap-blank 90 k
+
+chain-torn-wrap : (k at : ℕ) (s : List ℕ) → next s ≡ Next.TornWrap → chain (suc k) false at s ≡ stop false at Next.TornWrap
+unfolding chain
+chain-torn-wrap k at s e = rw (e, chain)
+
+pub ends-torn-wrap : {c : ℕ} (at j : ℕ) → Begun c → Ends at (torn-wrap c j) (stop false at Next.TornWrap)
+ends-torn-wrap {c} at j b k = chain-torn-wrap (suc k) at (torn-wrap c j) (next-torn-wrap j b)
+
+-- ---- unfinished records: behind them only an end may stand
+
+-- an unfinished record, and what follows it
+ends-held : {c : Chain} (at n d : ℕ) (s t : List ℕ) (r : Rec) → next s ≡ Next.Record n d → is-unfinished (status-of s) ≡ true → rec-of s n d ≡ r → drop (size-of n d) s ≡ t →
+    ((k : ℕ) → chain (suc k) true (at + size-of n d) t ≡ c) → Ends at s (add (record { at = at; it = r }) c)
+ends-held at n d s t r e u f g h k = chain-record (suc k) at n d s e ∙ rw (u, f, g) (ap (add (record { at = at; it = r })) (h k))
+
+-- torn: A5, then FF or 5A, any length bytes, 00 or FF
+pub data Name-begun : ℕ → Type 0 where
+  begun-none : Name-begun 255
+  begun-end : Name-begun 0
+
+abbrev pub torn : ℕ → List ℕ → ℕ → List ℕ → List ℕ
+torn c l t s = 165 ∷ c ∷ 255 ∷ 255 ∷ (l ++ (t ∷ (blanks 7 ++ s)))
+
+abbrev pub torn-rec : Rec
+torn-rec = record { low = 165; status = 255; name = []; content = [] }
+
+next-torn : {c t : ℕ} (x y z w : ℕ) (s : List ℕ) → Begun c → Name-begun t → next (torn c (x ∷ y ∷ z ∷ w ∷ []) t s) ≡ Next.Record 0 0
+unfolding next next-at long kind torn-at is-record is-wrap is-high is-high-begun is-erased is-name-begun is-spare
+next-torn x y z w s begun-ff begun-none = refl
+next-torn x y z w s begun-ff begun-end = refl
+next-torn x y z w s begun-5a begun-none = refl
+next-torn x y z w s begun-5a begun-end = refl
+
+unfinished-ff : is-unfinished 255 ≡ true
+unfolding is-unfinished is-erased
+unfinished-ff = refl
+
+pub ends-torn : {c t : ℕ} {d : Chain} (at x y z w : ℕ) (s : List ℕ) → Begun c → Name-begun t → ((k : ℕ) → chain (suc k) true (at + 16) s ≡ d) →
+    Ends at (torn c (x ∷ y ∷ z ∷ w ∷ []) t s) (add (record { at = at; it = torn-rec }) d)
+ends-torn {c} {t} at x y z w s b n e =
+    ends-held at 0 0 (torn c (x ∷ y ∷ z ∷ w ∷ []) t s) s torn-rec (next-torn x y z w s b n) unfinished-ff refl refl e
+
+-- reserved
+next-reserved : (x y z w : ℕ) (s : List ℕ) → next (165 ∷ 90 ∷ 254 ∷ 255 ∷ x ∷ y ∷ z ∷ w ∷ s) ≡ record-at true (165 ∷ 90 ∷ 254 ∷ 255 ∷ x ∷ y ∷ z ∷ w ∷ s)
+unfolding next long kind next-at is-record is-wrap is-start is-clean is-high is-erased is-reserved is-spare
+next-reserved x y z w s = refl
+
+unfinished-fe : is-unfinished 254 ≡ true
+unfolding is-unfinished is-erased is-reserved
+unfinished-fe = refl
+
+-- reserved, with the whole name and as much data as there is
+abbrev pub held : List ℕ → List ℕ → Rec
+held n c = record { low = 165; status = 254; name = n; content = c }
+
+pub ends-whole : {d : Chain} (at : ℕ) (n c s : List ℕ) → Fit (length c) n → ((k : ℕ) → chain (suc k) true (at + size-of (length n) (length c)) s ≡ d) →
+    Ends at (onto (held n c) s) (add (record { at = at; it = held n c }) d)
+ends-whole at n c s f e =
+    ends-held at (length n) (length c) (onto (held n c) s) s (held n c) (next-reserved _ _ _ _ _ ∙ record-at-onto true (held n c) s f) unfinished-fe (rec-of-onto (held n c) s) (drop-onto (held n c) s) e
+
+-- reserved, with a cut name, and as many FF as make its size
+abbrev pub begun : ℕ → List ℕ → List ℕ → List ℕ
+begun d n s = 165 ∷ 90 ∷ 254 ∷ 255 ∷ lens d (n ++ (255 ∷ (blanks (pad (length n + 1)) ++ (blanks (up8 d) ++ s))))
+
+ends-ff : ends-name true 255 ≡ true
+unfolding ends-name
+ends-ff = refl
+
+pub record-at-begun : (d : ℕ) (n s : List ℕ) → Fit d n → record-at true (begun d n s) ≡ Next.Record (length n) d
+record-at-begun d n s f =
+    record-at-laid true 165 90 254 255 255 d n (blanks (pad (length n + 1)) ++ (blanks (up8 d) ++ s)) f ends-ff
+    (simp (length-append, length-replicate) (omega arith))
+
+abbrev pub cut-rec : ℕ → List ℕ → Rec
+cut-rec d n = record { low = 165; status = 254; name = n; content = blanks d }
+
+pub drop-begun : (d : ℕ) (n s : List ℕ) → drop (size-of (length n) d) (begun d n s) ≡ s
+drop-begun d n s =
+    sym (drop-drop (up8 d) (8 + up8 (length n + 1)) (begun d n s))
+    ∙ ap (drop (up8 d)) (sym (drop-drop (up8 (length n + 1)) 8 (begun d n s)) ∙ cut-name d n s)
+    ∙ drop-fill (up8 d) 255 s
+  where
+    cut-name : (d : ℕ) (n s : List ℕ) → drop (up8 (length n + 1)) (drop 8 (begun d n s)) ≡ blanks (up8 d) ++ s
+    cut-name d n s = drop-past n _ (up8 (length n + 1)) (suc (pad (length n + 1))) (omega arith) ∙ drop-fill (pad (length n + 1)) 255 (blanks (up8 d) ++ s)
+
+take-fill : (k m b : ℕ) (s : List ℕ) → k ≤ m → take k (replicate m b ++ s) ≡ replicate k b
+take-fill zero m b s h = refl
+take-fill (suc k) zero b s h = absurd (not-suc-le-zero h)
+take-fill (suc k) (suc m) b s h = ap (λ (l : List ℕ). b ∷ l) (take-fill k m b s (le-of-suc-le-suc h))
+
+rec-of-begun : (d : ℕ) (n s : List ℕ) → rec-of (begun d n s) (length n) d ≡ cut-rec d n
+rec-of-begun d n s =
+    rw (
+      drop-past n (255 ∷ (blanks (pad (length n + 1)) ++ (blanks (up8 d) ++ s))) (up8 (length n + 1)) (suc (pad (length n + 1))) (omega arith),
+      drop-fill (pad (length n + 1)) 255 (blanks (up8 d) ++ s),
+      take-append-seam n,
+      take-fill d (up8 d) 255 s (omega arith),
+    )
+
+pub ends-begun : {c : Chain} (at d : ℕ) (n s : List ℕ) → Fit d n → ((k : ℕ) → chain (suc k) true (at + size-of (length n) d) s ≡ c) → Ends at (begun d n s) (add (record { at = at; it = cut-rec d n }) c)
+ends-begun at d n s f e =
+    ends-held at (length n) d (begun d n s) s (cut-rec d n) (next-reserved _ _ _ _ _ ∙ record-at-begun d n s f) unfinished-fe (rec-of-begun d n s) (drop-begun d n s) e

@@ -1,0 +1,95 @@
+-- The marker: from not turned, by a torn wrap, to turned; and a chain that ends exactly at N, which has turned with the same bytes.
+use Prim.Native.Nat.{ℕ, zero, suc, _+_, _-_, _*_, _/_, _≤_, _<_}
+use native.Mathlib.Omega.{arith}
+use native.Mathlib.Nat.{zero-add}
+use mathlib.Core.Path.{_≡_, refl, sym, ap, _∙_, subst}
+use mathlib.Core.Bool.{true}
+use mathlib.Core.List.{List, [], _∷_, _++_, append-nil}
+use lib.ListN.{length, take, length-replicate}
+use Rattle.spec.specs.declared.Next.{Next}
+use Rattle.spec.specs.declared.Ending.{Ending}
+use Rattle.spec.specs.Step.{run, moved}
+use Rattle.spec.specs.Geometry.{floor}
+use Rattle.spec.specs.Record.{Rec}
+use Rattle.spec.specs.Chain.{read, reading-from}
+use Rattle.spec.specs.Write.{marker-steps}
+use Rattle.history.specs.Lay.{blanks, lay, sizes, entries-of}
+use Rattle.history.specs.Last.{Begun, torn-wrap, ends-torn-wrap, wrap}
+use Rattle.history.specs.Walk.{Quiet}
+use Rattle.history.specs.Quiet.{blank-split}
+use Rattle.history.specs.Shape.{shape-torn-wrap}
+use Rattle.history.specs.Seg.{seg-none}
+use Rattle.history.specs.Steps.{Programs}
+use Rattle.history.specs.Straight.{Straight, bottom}
+use Rattle.history.specs.StraightEdit.{other, run-behind}
+use Rattle.history.specs.Turned.{Turned, exact, marker, Opens, opens-ff}
+
+pub opens-blanks : (k : ℕ) → 8 ≤ k → Opens (blanks k) Next.Clear
+opens-blanks k h = subst (λ (l : List ℕ). Opens l Next.Clear) (sym (blank-split 8 (k - 8) k (omega arith))) opens-ff
+
+module _ {im : List ℕ} {a l : ℕ} {gap lost : List ℕ} {h : ℕ} {high : List Rec} {g : ℕ} (s : Straight im a l gap lost h high seg-none (blanks g)) (eight : 8 ≤ g) where
+  at-tail : (j : ℕ) → j ≤ 3 → run im (moved (h + sizes high) (take j marker-steps)) ≡ gap ++ (lost ++ lay high (run (blanks 8 ++ blanks (g - 8)) (take j marker-steps)))
+  at-tail j l =
+      run-behind high [] (sym (append-nil high)) s (take j marker-steps) (programs j) ∙ ap (λ (x : List ℕ). gap ++ (lost ++ lay high (run x (take j marker-steps)))) (blank-split 8 (g - 8) g (omega arith))
+    where
+      programs : (j : ℕ) → Programs (take j marker-steps)
+      programs zero = tt
+      programs (suc zero) = tt
+      programs (suc (suc zero)) = tt
+      programs (suc (suc (suc zero))) = tt
+      programs (suc (suc (suc (suc j)))) = tt
+
+  -- cut: a torn wrap stands at T
+  pub torn-1 : Straight (run im (moved (h + sizes high) (take 1 marker-steps))) a l gap lost h high seg-none (torn-wrap 255 (g - 8))
+  torn-1 = other (run im (moved (h + sizes high) (take 1 marker-steps))) s (at-tail 1 (omega arith)) (s .fine)
+
+  pub torn-2 : Straight (run im (moved (h + sizes high) (take 2 marker-steps))) a l gap lost h high seg-none (torn-wrap 90 (g - 8))
+  torn-2 = other (run im (moved (h + sizes high) (take 2 marker-steps))) s (at-tail 2 (omega arith)) (s .fine)
+
+  -- done: the chain has turned, T is 0
+  pub turned-by : gap ≡ blanks (4096 * a) → 1 ≤ a → Turned (run im (moved (h + sizes high) marker-steps)) a l lost h [] seg-none (512 * a) (blanks (4096 * a)) high (marker (g - 8))
+  turned-by e b =
+      record {
+        is = at-tail 3 (omega arith) ∙ ap (λ (x : List ℕ). x ++ (lost ++ lay high (wrap (blanks (g - 8))))) e;
+        at = s .at;
+        some-below = b;
+        below = omega arith;
+        free-length = length-replicate {A = ℕ} (4096 * a) 255 ∙ omega arith;
+        free-quiet = subst (λ (l : List ℕ). Quiet (512 * a) l) e (s .gap-quiet);
+        opened = Next.Clear;
+        opens = opens-blanks (4096 * a) (omega arith);
+        lost-length = s .lost-length;
+        lost-small = s .lost-small;
+        lost-quiet = s .lost-quiet;
+        fine-low = tt;
+        walked = tt;
+        fine-high = s .fine;
+      }
+
+-- a chain that ends at N with floor(h) > 0 has turned: the same bytes
+pub turned-exact : {im : List ℕ} {a l : ℕ} {gap lost : List ℕ} {h : ℕ} {high : List Rec} (s : Straight im a l gap lost h high seg-none []) → gap ≡ blanks (4096 * a) → 1 ≤ a → Turned im a l lost h [] seg-none (512 * a) (blanks (4096 * a)) high exact
+turned-exact {a = a} {lost = lost} {high = high} s e b =
+    record {
+      is = s .is ∙ ap (λ (x : List ℕ). x ++ (lost ++ lay high [])) e;
+      at = s .at;
+      some-below = b;
+      below = omega arith;
+      free-length = length-replicate {A = ℕ} (4096 * a) 255 ∙ omega arith;
+      free-quiet = subst (λ (l : List ℕ). Quiet (512 * a) l) e (s .gap-quiet);
+      opened = Next.Clear;
+      opens = opens-blanks (4096 * a) (omega arith);
+      lost-length = s .lost-length;
+      lost-small = s .lost-small;
+      lost-quiet = s .lost-quiet;
+      fine-low = tt;
+      walked = tt;
+      fine-high = s .fine;
+    }
+
+-- the reading of a torn wrap
+pub torn-reading : (k : ℕ) {im : List ℕ} {a l : ℕ} {gap lost : List ℕ} {h c : ℕ} {x : Rec} {ys : List Rec} (s : Straight im a l gap lost h (x ∷ ys) seg-none (torn-wrap c k)) → Begun c → 1 ≤ a →
+    reading-from im h ≡ read (length im) h 0 true (entries-of h (x ∷ ys)) (Ending.TornWrap (h + sizes (x ∷ ys)))
+torn-reading k {im} {a} {l} {gap} {lost} {h} {c} {x} {ys} s b z =
+    rw (s .is)
+    (shape-torn-wrap [] (x ∷ ys) gap lost (torn-wrap c k) h (zero-add (length gap) ∙ s .gap-length ∙ sym (bottom s)) (omega (arith, bottom s, s .at, s .lost-length)) tt (s .fine) (omega arith)
+    (h + sizes (x ∷ ys)) (λ w. omega (arith, bottom s)) (ends-torn-wrap (h + sizes (x ∷ ys)) k b))

@@ -1,0 +1,221 @@
+-- A record written where FF stands, cut anywhere: before the commit it is one of the unfinished things (Seg), after it a record.
+use Prim.Native.Nat.{ℕ, zero, suc, _+_, _-_, _≤_, _<_}
+use native.Mathlib.Omega.{arith}
+use native.Mathlib.Nat.{zero-add, add-zero}
+use mathlib.Core.Path.{_≡_, refl, sym, ap, _∙_, subst}
+use mathlib.Core.List.{List, [], _∷_, _++_, append-assoc, append-nil}
+use lib.ListN.{length, take, set, length-append, length-replicate}
+use lib.Seq.{take-nil, length-take-le, take-all, take-length, take-append-le}
+use Rattle.spec.specs.Step.{Step, program, apply, run, bytes-at}
+use Rattle.spec.specs.Geometry.{up8}
+use Rattle.spec.specs.Record.{size-of, Rec}
+use Rattle.spec.specs.Write.{header-steps, name-steps, data-steps, commit-steps, record-steps}
+use Rattle.history.specs.Lay.{blanks, pad, lens, onto, Plain, Fit}
+use Rattle.history.specs.Last.{Begun, begun-ff, begun-5a, begun-none, held}
+use Rattle.history.specs.Quiet.{blank-split}
+use Rattle.history.specs.Steps.{cut-one, cut-append, run-append, Programs, length-bytes, write-over, write-blank}
+use Rattle.history.specs.Seg.{Seg, seg-none, seg-torn, seg-cut, seg-held, seg-onto, seg-size}
+
+-- ---- the states of a record under way, each with f bytes from its start to what follows, s
+
+-- (M bounds the part that counts as taken)
+pub record Opened (M f : ℕ) (s l : List ℕ) : Type 0 where
+  pub seg : Seg
+  pub left : ℕ
+  pub is : l ≡ seg-onto seg (blanks left ++ s)
+  pub sum : seg-size seg + left ≡ f
+  pub bound : seg-size seg ≤ M
+
+abbrev header : ℕ → List ℕ → List ℕ
+header d t = 165 ∷ 90 ∷ 254 ∷ 255 ∷ lens d t
+
+-- FF after FF
+joined-blanks : (a b c m : ℕ) (s : List ℕ) → m ≡ suc (a + (b + c)) → blanks m ++ s ≡ 255 ∷ (blanks a ++ (blanks b ++ (blanks c ++ s)))
+joined-blanks a b c m s e =
+    ap (λ (n : ℕ). blanks n ++ s) e
+    ∙ ap (λ (l : List ℕ). 255 ∷ l) (ap (λ (l : List ℕ). l ++ s) (blank-split a (b + c) (a + (b + c)) refl) ∙ append-assoc (blanks a) (blanks (b + c)) s
+    ∙ ap (λ (l : List ℕ). blanks a ++ l) (ap (λ (l : List ℕ). l ++ s) (blank-split b c (b + c) refl) ∙ append-assoc (blanks b) (blanks c) s))
+
+take-plain : (j : ℕ) (n : List ℕ) → Plain n → Plain (take j n)
+take-plain zero n p = tt
+take-plain (suc j) [] p = tt
+take-plain (suc j) (x ∷ n) p = (p .0, take-plain j n (p .1))
+
+-- a name with j bytes written
+cut-state : (M d j f m : ℕ) (n s : List ℕ) → length n ≡ j → j < 64 → Plain n → d < 4294967296 → size-of j d ≤ f → m + j + 8 ≡ f → size-of j d ≤ M → Opened M f s (header d (n ++ (blanks m ++ s)))
+cut-state M d j f m n s e h p l i k o =
+    let left : ℕ = f - size-of j d in
+    record {
+      seg = seg-cut d n (record { short = omega arith; plain = p; small = l });
+      left = left;
+      is = ap (λ (z : List ℕ). header d (n ++ z)) (joined-blanks (pad (length n + 1)) (up8 d) left m s (omega arith));
+      sum = rw e (omega arith);
+      bound = rw e o;
+    }
+
+torn-state : (M c x y z w f : ℕ) (s : List ℕ) → Begun c → 16 ≤ f → 16 ≤ M → Opened M f s (165 ∷ c ∷ 255 ∷ 255 ∷ x ∷ y ∷ z ∷ w ∷ (blanks (f - 8) ++ s))
+torn-state M c x y z w f s b h o =
+    record {
+      seg = seg-torn c x y z w 255 b begun-none;
+      left = f - 16;
+      is = ap (λ (l : List ℕ). 165 ∷ c ∷ 255 ∷ 255 ∷ x ∷ y ∷ z ∷ w ∷ l) (ap (λ (l : List ℕ). l ++ s) (blank-split 8 (f - 16) (f - 8) (omega arith)));
+      sum = omega arith;
+      bound = o;
+    }
+
+-- the header
+header-cut : (M d f : ℕ) (s : List ℕ) → d < 4294967296 → size-of 0 d ≤ f → size-of 0 d ≤ M → (k : ℕ) → k ≤ 7 → Opened M f s (run (blanks 8 ++ (blanks (f - 8) ++ s)) (take k (header-steps d)))
+header-cut M d f s l h o zero i =
+    record { seg = seg-none; left = f; is = sym (append-assoc (blanks 8) (blanks (f - 8)) s) ∙ ap (λ (z : List ℕ). z ++ s) (sym (blank-split 8 (f - 8) f (omega arith))); sum = zero-add f; bound = omega arith }
+header-cut M d f s l h o (suc zero) i = torn-state M 255 255 255 255 255 f s begun-ff (omega arith) (omega arith)
+header-cut M d f s l h o (suc (suc zero)) i = torn-state M 90 255 255 255 255 f s begun-5a (omega arith) (omega arith)
+header-cut M d f s l h o (suc (suc (suc zero))) i = torn-state M 90 _ 255 255 255 f s begun-5a (omega arith) (omega arith)
+header-cut M d f s l h o (suc (suc (suc (suc zero)))) i = torn-state M 90 _ _ 255 255 f s begun-5a (omega arith) (omega arith)
+header-cut M d f s l h o (suc (suc (suc (suc (suc zero))))) i = torn-state M 90 _ _ _ 255 f s begun-5a (omega arith) (omega arith)
+header-cut M d f s l h o (suc (suc (suc (suc (suc (suc zero)))))) i = torn-state M 90 _ _ _ _ f s begun-5a (omega arith) (omega arith)
+header-cut M d f s l h o (suc (suc (suc (suc (suc (suc (suc zero))))))) i = cut-state M d 0 f (f - 8) [] s refl (omega arith) tt l h (omega arith) o
+header-cut M d f s l h o (suc (suc (suc (suc (suc (suc (suc (suc k)))))))) i = absurd (omega arith)
+
+-- the name
+name-cut : (d f : ℕ) (n s : List ℕ) → length n < 64 → Plain n → d < 4294967296 → size-of (length n) d ≤ f → (j : ℕ) → j ≤ length n → Opened (size-of (length n) d) f s (run (header d (blanks (f - 8) ++ s)) (take j (bytes-at 8 n)))
+name-cut d f n s h p l i j k =
+    let e : run (header d (blanks (f - 8) ++ s)) (take j (bytes-at 8 n)) ≡ header d (take j n ++ (blanks (f - 8 - j) ++ s)) =
+    write-blank (header d []) n s 8 j (f - 8 - j) (f - 8) refl k (omega arith) in
+    rw e (cut-state (size-of (length n) d) d j f (f - 8 - j) (take j n) s (length-take-le j n k) (omega arith) (take-plain j n p) l (omega arith) (omega arith) (omega arith))
+
+bytes-append : (a : ℕ) (v w : List ℕ) → bytes-at a (v ++ w) ≡ bytes-at a v ++ bytes-at (a + length v) w
+bytes-append a [] w = rw (add-zero a)
+bytes-append a (x ∷ v) w =
+    let e : a + 1 + length v ≡ a + suc (length v) = omega arith in
+    ap (λ (l : List Step). program a x ∷ l) (bytes-append (a + 1) v w ∙ ap (λ (i : ℕ). bytes-at (a + 1) v ++ bytes-at i w) e)
+
+-- the name and its 00: a held record with no data yet
+named : (n c s : List ℕ) (f : ℕ) → size-of (length n) (length c) ≤ f →
+    run (header (length c) (blanks (f - 8) ++ s)) (name-steps n) ≡ onto (held n (blanks (length c))) (blanks (f - size-of (length n) (length c)) ++ s)
+named n c s f h =
+    let d : ℕ = length c in
+    let p : ℕ = pad (length n + 1) in
+    let r : ℕ = f - size-of (length n) d in
+    let l : length (blanks d) ≡ d = length-replicate d 255 in
+    let w : length (blanks (length n + 1)) ≡ length (n ++ (0 ∷ [])) = simp (length-append, length-replicate) in
+    let b : blanks (f - 8) ++ s ≡ blanks (length n + 1) ++ (blanks p ++ (blanks d ++ (blanks (pad d) ++ (blanks r ++ s)))) =
+    ap (λ (z : List ℕ). z ++ s) (blank-split (length n + 1) (p + (d + (pad d + r))) (f - 8) (omega arith)
+    ∙ ap (λ (z : List ℕ). blanks (length n + 1) ++ z) (blank-split p (d + (pad d + r)) (p + (d + (pad d + r))) refl
+    ∙ ap (λ (z : List ℕ). blanks p ++ z) (blank-split d (pad d + r) (d + (pad d + r)) refl ∙ ap (λ (z : List ℕ). blanks d ++ z) (blank-split (pad d) r (pad d + r) refl))))
+    ∙ simp append-assoc in
+    rw (l, b, ← (bytes-append 8 n (0 ∷ [])))
+    (write-over (header d []) (blanks (length n + 1)) (n ++ (0 ∷ [])) (blanks p ++ (blanks d ++ (blanks (pad d) ++ (blanks r ++ s)))) 8 refl w ∙ simp append-assoc)
+
+-- j data bytes
+data-done : (n c s : List ℕ) (j m : ℕ) → j ≤ length c → length c ≡ j + m →
+    run (onto (held n (blanks (length c))) s) (take j (data-steps (length n) c)) ≡ onto (held n (take j c ++ blanks m)) s
+data-done n c s j m h e =
+    let d : ℕ = length c in
+    let p : List ℕ = header d (n ++ (0 ∷ blanks (pad (length n + 1)))) in
+    let a : length p ≡ 8 + up8 (length n + 1) = simp (length-append, length-replicate) (omega arith) in
+    let l₁ : length (blanks d) ≡ d = length-replicate d 255 in
+    let l₂ : length (take j c ++ blanks m) ≡ d = simp (length-append, length-replicate, length-take-le j c h) (omega arith) in
+    rw (l₁, l₂) (simp append-assoc (simp append-assoc at (write-blank p c (blanks (pad d) ++ s) (8 + up8 (length n + 1)) j m d a h e)))
+
+data-cut : (n c s : List ℕ) (f : ℕ) → Fit (length c) n → size-of (length n) (length c) ≤ f → (j : ℕ) → j ≤ length c →
+    Opened (size-of (length n) (length c)) f s (run (onto (held n (blanks (length c))) (blanks (f - size-of (length n) (length c)) ++ s)) (take j (data-steps (length n) c)))
+data-cut n c s f g h j i =
+    let l : length (take j c ++ blanks (length c - j)) ≡ length c = simp (length-append, length-replicate, length-take-le j c i) (omega arith) in
+    rw (data-done n c (blanks (f - size-of (length n) (length c)) ++ s) j (length c - j) i (omega arith))
+    (record {
+      seg = seg-held n (take j c ++ blanks (length c - j)) (record { short = g .short; plain = g .plain; small = rw l (g .small) });
+      left = f - size-of (length n) (length c);
+      is = refl;
+      sum = rw l (omega arith);
+      bound = rw l (omega arith);
+    })
+
+-- name and data
+abbrev body-steps : List ℕ → List ℕ → List Step
+body-steps n c = name-steps n ++ data-steps (length n) c
+
+-- all but the commit
+abbrev pub open-steps : List ℕ → List ℕ → List Step
+open-steps n c = header-steps (length c) ++ body-steps n c
+
+names-cut : (n c s : List ℕ) (f : ℕ) → Fit (length c) n → size-of (length n) (length c) ≤ f → (k : ℕ) → k ≤ length n + 1 →
+    Opened (size-of (length n) (length c)) f s (run (header (length c) (blanks (f - 8) ++ s)) (take k (name-steps n)))
+names-cut n c s f g h k i =
+    let H : List ℕ = header (length c) (blanks (f - 8) ++ s) in
+    let R : List ℕ = onto (held n (blanks (length c))) (blanks (f - size-of (length n) (length c)) ++ s) in
+    let names : (j : ℕ) → j ≤ length n → Opened (size-of (length n) (length c)) f s (run H (take j (bytes-at 8 n))) = name-cut (length c) f n s (g .short) (g .plain) (g .small) h in
+    let all : take (length n) (bytes-at 8 n) ≡ bytes-at 8 n = take-all (length n) (bytes-at 8 n) (omega (arith, length-bytes 8 n)) in
+    let a : Opened (size-of (length n) (length c)) f s (run H (bytes-at 8 n)) = rw all at (names (length n) (omega arith)) in
+    let e : apply (run H (bytes-at 8 n)) (program (8 + length n) 0) ≡ R = sym (run-append H (bytes-at 8 n) (program (8 + length n) 0 ∷ [])) ∙ named n c s f h in
+    cut-append (Opened (size-of (length n) (length c)) f s) H (bytes-at 8 n) (program (8 + length n) 0 ∷ [])
+    (λ j l. names j (omega (arith, length-bytes 8 n)))
+    (cut-one (Opened (size-of (length n) (length c)) f s) (run H (bytes-at 8 n)) (program (8 + length n) 0) [] a
+    (λ j l. subst (λ (m : List ℕ). Opened (size-of (length n) (length c)) f s m) (sym e ∙ ap (run (apply (run H (bytes-at 8 n)) (program (8 + length n) 0))) (sym (take-nil j))) (data-cut n c s f g h 0 (omega arith))))
+    k (omega (arith, length-bytes 8 n))
+
+body-cut : (n c s : List ℕ) (f : ℕ) → Fit (length c) n → size-of (length n) (length c) ≤ f → (k : ℕ) → k ≤ length n + suc (length c) →
+    Opened (size-of (length n) (length c)) f s (run (header (length c) (blanks (f - 8) ++ s)) (take k (body-steps n c)))
+body-cut n c s f g h k i =
+    let ln : length (name-steps n) ≡ length n + 1 = length-append (bytes-at 8 n) (program (8 + length n) 0 ∷ []) ∙ omega (arith, length-bytes 8 n) in
+    cut-append (Opened (size-of (length n) (length c)) f s) (header (length c) (blanks (f - 8) ++ s)) (name-steps n) (data-steps (length n) c)
+    (λ j l. names-cut n c s f g h j (omega (arith, ln)))
+    (λ j l. subst (λ (m : List ℕ). Opened (size-of (length n) (length c)) f s (run m (take j (data-steps (length n) c)))) (sym (named n c s f h))
+    (data-cut n c s f g h j (omega (arith, length-bytes (8 + up8 (length n + 1)) c))))
+    k (omega (arith, ln, length-bytes (8 + up8 (length n + 1)) c))
+
+length-body : (n c : List ℕ) → length (body-steps n c) ≡ length n + suc (length c)
+length-body n c = simp (length-append, length-bytes) (omega arith)
+
+-- all steps before the commit
+pub open-cut : (n c s : List ℕ) (f : ℕ) → Fit (length c) n → size-of (length n) (length c) ≤ f → (k : ℕ) → k ≤ 8 + length n + length c → Opened (size-of (length n) (length c)) f s (run (blanks f ++ s) (take k (open-steps n c)))
+open-cut n c s f g h k i =
+    let b : blanks f ++ s ≡ blanks 8 ++ (blanks (f - 8) ++ s) = ap (λ (z : List ℕ). z ++ s) (blank-split 8 (f - 8) f (omega arith)) ∙ append-assoc (blanks 8) (blanks (f - 8)) s in
+    rw b
+    (cut-append (Opened (size-of (length n) (length c)) f s) (blanks 8 ++ (blanks (f - 8) ++ s)) (header-steps (length c)) (body-steps n c)
+    (λ j l. header-cut (size-of (length n) (length c)) (length c) f s (g .small) (omega arith) (omega arith) j l)
+    (λ j l. body-cut n c s f g h j (omega (arith, length-body n c)))
+    k (omega (arith, length-body n c)))
+
+abbrev pub file : List ℕ → List ℕ → Rec
+file n c = record { low = 165; status = 252; name = n; content = c }
+
+pub open-done : (n c s : List ℕ) (f : ℕ) → size-of (length n) (length c) ≤ f → run (blanks f ++ s) (open-steps n c) ≡ onto (held n c) (blanks (f - size-of (length n) (length c)) ++ s)
+open-done n c s f h =
+    let r : List ℕ = blanks (f - size-of (length n) (length c)) ++ s in
+    let b : blanks f ++ s ≡ blanks 8 ++ (blanks (f - 8) ++ s) = ap (λ (z : List ℕ). z ++ s) (blank-split 8 (f - 8) f (omega arith)) ∙ append-assoc (blanks 8) (blanks (f - 8)) s in
+    let H : List ℕ = header (length c) (blanks (f - 8) ++ s) in
+    let D : List Step = data-steps (length n) c in
+    let all : take (length c) D ≡ D = take-all (length c) D (omega (arith, length-bytes (8 + up8 (length n + 1)) c)) in
+    ap (λ (z : List ℕ). run z (open-steps n c)) b
+    ∙ run-append H (name-steps n) D ∙ ap (λ (l : List ℕ). run l D) (named n c s f h)
+    ∙ (rw (all, take-length c, append-nil c) at (data-done n c r (length c) 0 (omega arith) (omega arith)))
+
+-- the commit is the last step of a record
+split-record : (n c : List ℕ) → record-steps n c ≡ open-steps n c ++ commit-steps
+split-record n c =
+    ap (λ (ss : List Step). header-steps (length c) ++ ss) (sym (append-assoc (name-steps n) (data-steps (length n) c) commit-steps))
+    ∙ sym (append-assoc (header-steps (length c)) (body-steps n c) commit-steps)
+
+-- with the commit
+pub record-done : (n c s : List ℕ) (f : ℕ) → size-of (length n) (length c) ≤ f → run (blanks f ++ s) (record-steps n c) ≡ onto (file n c) (blanks (f - size-of (length n) (length c)) ++ s)
+record-done n c s f h =
+    ap (run (blanks f ++ s)) (split-record n c)
+    ∙ run-append (blanks f ++ s) (open-steps n c) commit-steps ∙ ap (λ (l : List ℕ). set l 2 252) (open-done n c s f h)
+
+pub length-record : (n c : List ℕ) → length (record-steps n c) ≡ 9 + length n + length c
+length-record n c = simp (length-append, length-bytes) (omega arith)
+
+programs-bytes : (a : ℕ) (w : List ℕ) (ss : List Step) → Programs ss → Programs (bytes-at a w ++ ss)
+programs-bytes a [] ss p = p
+programs-bytes a (x ∷ w) ss p = programs-bytes (a + 1) w ss p
+
+pub record-programs : (n c : List ℕ) → Programs (record-steps n c)
+record-programs n c = rw (append-assoc (bytes-at 8 n)) (programs-bytes 8 n _ (programs-bytes (8 + up8 (length n + 1)) c _ tt))
+
+length-open : (n c : List ℕ) → length (open-steps n c) ≡ 8 + length n + length c
+length-open n c = simp (length-append, length-bytes) (omega arith)
+
+pub take-open : (n c : List ℕ) (k : ℕ) → k ≤ 8 + length n + length c → take k (record-steps n c) ≡ take k (open-steps n c)
+take-open n c k h =
+    ap (take k) (split-record n c)
+    ∙ take-append-le k (open-steps n c) commit-steps (omega (arith, length-open n c))

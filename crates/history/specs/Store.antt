@@ -1,0 +1,186 @@
+-- The files of a list of entries in which no name is alive twice, and the rules on such entries. Nothing here knows of bytes on the image.
+use Prim.Native.Nat.{ℕ, _≤_, _<_}
+use native.Mathlib.Omega.{arith}
+use mathlib.Core.Path.{_≡_, refl, sym, ap, _∙_}
+use mathlib.Core.Bool.{Bool, true, false, _&&_, _||_, not}
+use mathlib.Core.List.{List, [], _∷_, _++_}
+use lib.Dec.{eqb}
+use borrow.Author.Tests.{ne-eqb, eqb-true, eqb-false}
+use Rattle.spec.specs.Basics.{empty, same, any, keep, Each}
+use Rattle.spec.specs.Bytes.{is-start, is-clean, is-unfinished}
+use Rattle.spec.specs.Record.{name-ok, Entry, name-of}
+use Rattle.spec.specs.Files.{same-name, named, named-as, has-named, live, superseded, files, doubled}
+use Rattle.spec.specs.Reading.{marked, second-ok, marks-ok, name-legal, names-ok, single}
+use Rattle.history.specs.Lists.{and-left, and-no, any-none, all-each, keep-none, keep-same, each-map, each-both, each-end, each-all, Pairwise, all-pairs, pairwise-end}
+use Rattle.history.specs.Legal.{Ruled}
+
+-- ---- names
+
+pub same-sym : (s t : List ℕ) → same s t ≡ same t s
+unfolding same
+same-sym [] [] = refl
+same-sym [] (y ∷ t) = refl
+same-sym (x ∷ s) [] = refl
+same-sym (x ∷ s) (y ∷ t) = go (eqb x y) (eqb y x) refl refl (same-sym s t)
+  where
+    go : (b c : Bool) → eqb x y ≡ b → eqb y x ≡ c → same s t ≡ same t s → same (x ∷ s) (y ∷ t) ≡ same (y ∷ t) (x ∷ s)
+    go true true e f i = rw (same, e, f) i
+    go false false e f i = rw (same, e, f)
+    go true false e f i = absurd (eqb-false y x f (sym (eqb-true x y e)))
+    go false true e f i = absurd (eqb-false x y e (sym (eqb-true y x f)))
+
+-- ---- alive: FC or F8, with a name
+
+unfoldable pub alive : Entry → Bool
+alive e = named 0xFC e || named 0xF8 e
+
+abbrev pub Apart : Entry → Entry → Type 0
+Apart e f = alive e ≡ true → alive f ≡ true → same (name-of e) (name-of f) ≡ false
+
+abbrev pub Unique : List Entry → Type 0
+Unique es = Pairwise Apart es
+
+pub fc-alive : (e : Entry) → named 0xFC e ≡ true → alive e ≡ true
+unfolding alive
+fc-alive e h = rw h
+
+pub f8-alive : (e : Entry) → named 0xF8 e ≡ true → alive e ≡ true
+unfolding alive
+f8-alive e h = rw h (or-true (named 0xFC e))
+  where
+    or-true : (b : Bool) → (b || true) ≡ true
+    or-true true = refl
+    or-true false = refl
+
+-- F8 is not FC
+pub fc-not-f8 : (e : Entry) → named 0xF8 e ≡ true → named 0xFC e ≡ false
+unfolding named
+fc-not-f8 e h =
+    let k : e .it .status ≡ 248 = eqb-true (e .it .status) 248 (and-left (eqb (e .it .status) 248) (not (empty (name-of e))) h) in
+    rw (ne-eqb (e .it .status) 252 (λ f. omega arith))
+
+pub doubled-none : (st : ℕ) → ((e : Entry) → named st e ≡ true → alive e ≡ true) → (es : List Entry) → Unique es → doubled st es ≡ false
+unfolding doubled has-named
+doubled-none st a [] u = refl
+doubled-none st a (e ∷ es) u =
+    rw (
+      doubled,
+      and-no (named st e) (any (named-as st e) es)
+          (λ h. any-none (named-as st e) es (each-map es (λ f q. and-no (named st f) (same-name e f) (λ k. q (a e h) (a f k))) (u .0))),
+    )
+    (doubled-none st a es (u .1))
+
+pub unique-single : (es : List Entry) → Unique es → single es ≡ true
+unfolding single
+unique-single es u = rw (single, doubled-none 0xFC fc-alive es u, doubled-none 0xF8 f8-alive es u)
+
+-- no F8 has an FC of its name
+abbrev Over : Entry → Entry → Type 0
+Over e f = named 0xF8 e ≡ true → named-as 0xFC e f ≡ false
+
+none-over : (es : List Entry) → Unique es → Each (λ e. Each (Over e) es) es
+none-over es u =
+    all-pairs Over Apart (λ e h. rw (fc-not-f8 e h))
+    (λ e f q h. and-no (named 0xFC f) (same-name e f) (λ k. q (f8-alive e h) (fc-alive f k)))
+    (λ e f q h. and-no (named 0xFC e) (same-name f e) (λ k. same-sym (name-of f) (name-of e) ∙ q (fc-alive e k) (f8-alive f h)))
+    es u
+
+pub no-fc : (es : List Entry) → Unique es → Each (λ e. named 0xF8 e ≡ true → has-named 0xFC es e ≡ false) es
+unfolding has-named
+no-fc es u = each-map es (λ e h k. any-none (named-as 0xFC e) es (each-map es (λ f o. o k) h)) (none-over es u)
+
+pub live-alive : (es : List Entry) → Unique es → Each (λ e. live es e ≡ alive e) es
+unfolding live alive
+live-alive es u = each-map es (λ e h. go (named 0xFC e) (named 0xF8 e) (has-named 0xFC es e) h) (no-fc es u)
+  where
+    go : (a b c : Bool) → (b ≡ true → c ≡ false) → (a || (b && not c)) ≡ (a || b)
+    go true b c h = refl
+    go false true c h = rw (h refl)
+    go false false c h = refl
+
+pub files-alive : (es : List Entry) → Unique es → files es ≡ keep alive es
+files-alive es u = keep-same (live es) alive es (live-alive es u)
+
+pub none-superseded : (es : List Entry) → Unique es → keep (superseded es) es ≡ []
+unfolding superseded
+none-superseded es u = keep-none (superseded es) es (each-map es (λ e h. and-no (named 0xF8 e) (has-named 0xFC es e) h) (no-fc es u))
+
+-- ---- the rules of a quiet store
+
+-- a live name is a file name
+abbrev pub Well-named : Entry → Type 0
+Well-named e = alive e ≡ true → name-ok (name-of e) ≡ true
+
+abbrev pub Finished : Entry → Type 0
+Finished e = is-unfinished (e .it .status) ≡ false
+
+abbrev pub Unmarked : Entry → Type 0
+Unmarked e = marked e ≡ false
+
+pub record Calm-store (x : Entry) (es : List Entry) : Type 0 where
+  pub unique : Unique (x ∷ es)
+  pub well-named : Each Well-named (x ∷ es)
+  pub finished : Each Finished (x ∷ es)
+  pub unmarked : Each Unmarked es
+
+name-legal-by : (es : List Entry) (e : Entry) → live es e ≡ alive e → Well-named e → name-legal es e ≡ true
+unfolding name-legal
+name-legal-by es e h n = go (alive e) refl
+  where
+    go : (b : Bool) → alive e ≡ b → name-legal es e ≡ true
+    go true k = rw (name-legal, h, k) (n k)
+    go false k = rw (name-legal, h, k)
+
+pub names-by : (es : List Entry) → Unique es → Each Well-named es → names-ok es ≡ true
+unfolding names-ok
+names-by es u h =
+    all-each (name-legal es) es (each-map es (λ e p. name-legal-by es e (p .0) (p .1)) (each-both (λ e. live es e ≡ alive e) Well-named es (live-alive es u) h))
+
+pub or-left : (a b : Bool) → (a || b) ≡ false → a ≡ false
+or-left true b h = h
+or-left false b h = refl
+
+pub or-right : (a b : Bool) → (a || b) ≡ false → b ≡ false
+or-right true b h = cc
+or-right false b h = h
+
+pub second-plain : (es : List Entry) (x y : Entry) → Unmarked y → second-ok es x y ≡ true
+unfolding second-ok
+second-plain es x y h = rw (second-ok, or-left (is-start (y .it .low)) (is-clean (y .it .low)) h, or-right (is-start (y .it .low)) (is-clean (y .it .low)) h)
+
+pub marks-by : (x : Entry) (es : List Entry) → Each Unmarked es → marks-ok (x ∷ es) ≡ true
+unfolding marks-ok
+marks-by x [] h = refl
+marks-by x (y ∷ es) h = rw (marks-ok, second-plain (x ∷ (y ∷ es)) x y (h .0), any-none marked es (h .1))
+
+pub calm-ruled : (x : Entry) (es : List Entry) → Calm-store x es → Ruled (x ∷ es)
+calm-ruled x es c =
+    record { names = names-by (x ∷ es) (c .unique) (c .well-named); singles = unique-single (x ∷ es) (c .unique); marks = marks-by x es (c .unmarked) }
+
+-- a dead one is apart from any other
+pub dead-apart : (u : Entry) → alive u ≡ false → (e : Entry) → Apart e u
+dead-apart u a e p q = let z : false ≡ true = sym a ∙ q in cc
+
+pub dead-named : (u : Entry) → alive u ≡ false → Well-named u
+dead-named u a q = let z : false ≡ true = sym a ∙ q in cc
+
+-- with an unfinished record behind
+pub calm-and : (x u : Entry) (es : List Entry) → Calm-store x es → alive u ≡ false → Unmarked u → Ruled (x ∷ (es ++ (u ∷ [])))
+calm-and x u es c a m =
+    let un : Unique (x ∷ (es ++ (u ∷ []))) = pairwise-end Apart (x ∷ es) u (c .unique) (each-all (λ e. Apart e u) (dead-apart u a) (x ∷ es)) in
+    record {
+      names = names-by (x ∷ (es ++ (u ∷ []))) un (each-end Well-named (x ∷ es) u (c .well-named) (dead-named u a));
+      singles = unique-single (x ∷ (es ++ (u ∷ []))) un;
+      marks = marks-by x (es ++ (u ∷ [])) (each-end Unmarked es u (c .unmarked) m);
+    }
+
+-- a new live record behind
+pub calm-new : (x e : Entry) (es : List Entry) → Calm-store x es → Each (λ f. alive f ≡ true → same (name-of f) (name-of e) ≡ false) (x ∷ es) → name-ok (name-of e) ≡ true → Finished e → Unmarked e →
+    Calm-store x (es ++ (e ∷ []))
+calm-new x e es c a n f m =
+    record {
+      unique = pairwise-end Apart (x ∷ es) e (c .unique) (each-map (x ∷ es) (λ y h k j. h k) a);
+      well-named = each-end Well-named (x ∷ es) e (c .well-named) (λ k. n);
+      finished = each-end Finished (x ∷ es) e (c .finished) f;
+      unmarked = each-end Unmarked es e (c .unmarked) m;
+    }
