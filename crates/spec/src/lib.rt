@@ -1,6 +1,8 @@
 // Document 01 as definitions (specs/), and the types and named bytes that all layers share.
 // Nothing here reads or writes an image; the layers above are proved against what stands here.
 ghost use mathlib.Core.Path.{_≡_};
+ghost use Rattle.spec.specs.Reading.{limit};
+ghost use Rattle.spec.specs.Placed.{placed, Sound, with-tail};
 
 // What the first four bytes say of what stands there.
 pub enum Kind {
@@ -37,6 +39,53 @@ pub struct Place {
     pub tail: usize,
     pub turned: bool,
     pub length: usize,
+}
+
+// A size placed: its address, whether a wrap marker goes to the tail before it, and the place after it. Or it doesn't fit.
+pub enum Placed {
+    At(usize, bool, Place),
+    Full,
+}
+
+impl Place {
+    // Where the stretch of the free run that begins at the tail ends.
+    fn limit(self) -> usize
+        ensures { λ r. ⌜ r ≡ limit self ⌝ }
+    {
+        if self.turned {
+            return self.head / SECTOR * SECTOR;
+        }
+        self.length
+    }
+
+    // At the tail if it fits there; before the turn also at 0, up to the head's sector. Any size may be asked for.
+    pub fn after(self, size: usize) -> Placed
+        requires { ⌜ Sound self ⌝ }
+        ensures { λ r. ⌜ r ≡ placed self size ⌝ }
+    {
+        if size <= self.limit() - self.tail {
+            return Placed::At(self.tail, false, self.moved(self.tail + size, self.turned));
+        }
+        if self.turned {
+            return Placed::Full;
+        }
+        if size <= self.head / SECTOR * SECTOR {
+            return Placed::At(0, self.tail < self.length, self.moved(size, true));
+        }
+        Placed::Full
+    }
+
+    // The same with another tail.
+    fn moved(self, tail: usize, turned: bool) -> Place
+        ensures { λ r. ⌜ r ≡ with-tail self tail turned ⌝ }
+    {
+        Place {
+            head: self.head,
+            tail: tail,
+            turned: turned,
+            length: self.length,
+        }
+    }
 }
 
 // A record's status byte.

@@ -1,0 +1,53 @@
+-- The four ways in which a size is placed or not, and what a place keeps.
+use Rattle.spec.specs.Prelude.{ℕ, _+_, _≤_, _<_, _≡_, Bool, true, false, _||_, not, ltb}
+use Rattle.spec.specs.declared.Place.{Place}
+use Rattle.spec.specs.declared.Placed.the-variants.{At, Full}
+use Rattle.spec.specs.Geometry.{floor}
+use Rattle.spec.specs.Reading.{limit}
+use Rattle.spec.specs.Place.{fits-at-tail, fits, address, with-marker, place-after}
+use Rattle.spec.specs.Placed.{placed, with-tail}
+use mathlib.Core.Path.{ap, ap₂, _∙_}
+use mathlib.Core.Bool.{or-false}
+use native.Mathlib.Nat.{zero-add}
+use borrow.Author.Tests.{le-leb, lt-leb}
+
+at-tail : (p : Place) (s : ℕ) → p .tail + s ≤ limit p → fits-at-tail p s ≡ true
+unfolding fits-at-tail
+at-tail p s h = le-leb (p .tail + s) (limit p) h
+
+past-limit : (p : Place) (s : ℕ) → limit p < p .tail + s → fits-at-tail p s ≡ false
+unfolding fits-at-tail
+past-limit p s h = lt-leb (p .tail + s) (limit p) h
+
+after-as : (p : Place) (s a : ℕ) (t : Bool) → fits-at-tail p s ≡ t → address p s ≡ a → place-after p s ≡ with-tail p (a + s) (p .turned || not t)
+unfolding place-after
+after-as p s a t e ea = ap₂ (λ (n : ℕ) (b : Bool). with-tail p (n + s) (p .turned || not b)) ea e
+
+placed-as : (p : Place) (s a : ℕ) (k : Bool) (q : Place) → fits p s ≡ true → address p s ≡ a → with-marker p s ≡ k → place-after p s ≡ q → placed p s ≡ At a k q
+unfolding placed
+placed-as p s a k q e ea ek eq = rw (e, placed) (cc)
+
+pub placed-at-tail : (p : Place) (s : ℕ) → p .tail + s ≤ limit p → placed p s ≡ At (p .tail) false (with-tail p (p .tail + s) (p .turned))
+unfolding fits address with-marker
+placed-at-tail p s h =
+    let e = at-tail p s h in
+    let a : address p s ≡ p .tail = rw (e, address) in
+    placed-as p s (p .tail) false (with-tail p (p .tail + s) (p .turned)) (rw (e, fits)) a (rw (e, with-marker))
+    (after-as p s (p .tail) true e a ∙ ap (with-tail p (p .tail + s)) (or-false (p .turned)))
+
+pub placed-turned : (p : Place) (s : ℕ) → p .turned ≡ true → limit p < p .tail + s → placed p s ≡ Full
+unfolding placed fits
+placed-turned p s t h = rw (past-limit p s h, t, placed, fits)
+
+pub placed-at-start : (p : Place) (s : ℕ) → p .turned ≡ false → limit p < p .tail + s → s ≤ floor (p .head)
+    → placed p s ≡ At 0 (ltb (p .tail) (p .length)) (with-tail p s true)
+unfolding fits address with-marker
+placed-at-start p s t h z =
+    let e = past-limit p s h in
+    let a : address p s ≡ 0 = rw (e, address) in
+    placed-as p s 0 (ltb (p .tail) (p .length)) (with-tail p s true) (rw (e, t, le-leb s (floor (p .head)) z, fits)) a (rw (e, with-marker))
+    (after-as p s 0 false e a ∙ ap₂ (with-tail p) (zero-add s) (ap (λ (b : Bool). b || true) t))
+
+pub placed-nowhere : (p : Place) (s : ℕ) → p .turned ≡ false → limit p < p .tail + s → floor (p .head) < s → placed p s ≡ Full
+unfolding placed fits
+placed-nowhere p s t h z = rw (past-limit p s h, t, lt-leb s (floor (p .head)) z, placed, fits)
