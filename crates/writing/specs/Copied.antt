@@ -12,7 +12,7 @@ use Rattle.spec.specs.Write.{header-steps, name-steps, data-steps, commit-steps
 use Rattle.flash.specs.Did.{Did, did-both, length-moved}
 use Rattle.flash.specs.declared.Meter.{Meter}
 use Rattle.writing.specs.Steps.{length-bytes, length-name, bytes-more, moved-append, moved-bytes}
-use Rattle.writing.specs.Kept.{Off, Apart, Inside, off-part, take-drop, length-part, inside-bytes, inside-append, inside-moved, kept}
+use Rattle.writing.specs.Kept.{Apart, off-part, take-drop, length-part, Avoids, kept, Inside, inside-bytes, inside-append, inside-moved, inside-avoids}
 
 -- ---- byte by byte
 
@@ -26,7 +26,7 @@ copy-next {s} {t} from to n j o h l d =
     let w = take n (drop from s) in
     let short : length (take j w) ≡ j = length-take-le j w (omega (arith, length-part from n s l)) in
     getD-part from n j t h
-    ∙ ap (λ (v : List ℕ). getD v j 0) (kept to (to + n) from n d (inside-bytes to (to + n) to (take j w) (omega arith) (omega arith)) o)
+    ∙ ap (λ (v : List ℕ). getD v j 0) (kept from n d (inside-avoids to (to + n) from n (bytes-at to (take j w)) o (inside-bytes to (to + n) to (take j w) (omega arith) (omega arith))))
 
 -- one byte more
 pub copy-more : {s t u : Image} {m q r : Meter} (from to n j : ℕ) → Apart from to n → j < n → from + n ≤ length s
@@ -80,9 +80,9 @@ same-content n d s t e =
     let h : up8 (n + 1) + d ≤ up8 (n + 1) + up8 d = omega arith in
     part-of (up8 (n + 1) + up8 d) (up8 (n + 1)) d (drop 8 t) h ∙ ap (λ (w : List ℕ). take d (drop (up8 (n + 1)) w)) e ∙ sym (part-of (up8 (n + 1) + up8 d) (up8 (n + 1)) d (drop 8 s) h)
 
-pub same-body : {s t : Image} {m r : Meter} {ss : List Step} (a b from n d : ℕ) → Did s m ss t r → Inside a b ss → Off a b (from + 8) (up8 (n + 1) + up8 d)
+pub same-body : {s t : Image} {m r : Meter} {ss : List Step} (from n d : ℕ) → Did s m ss t r → Avoids (from + 8) (up8 (n + 1) + up8 d) ss
     → body n d (drop from t) ≡ body n d (drop from s)
-same-body {s} {t} a b from n d e p o = rw (drop-drop 8 from t, drop-drop 8 from s) (kept a b (from + 8) (up8 (n + 1) + up8 d) e p o)
+same-body {s} {t} from n d e p = rw (drop-drop 8 from t, drop-drop 8 from s) (kept (from + 8) (up8 (n + 1) + up8 d) e p)
 
 -- ---- the whole record
 
@@ -98,8 +98,9 @@ inside-name b w h = inside-append 0 b (bytes-at 8 w) (program (8 + length w) 0 �
 copy-keeps : {s t : Image} {m r : Meter} (ss : List Step) (from to n d e : ℕ) → Apart from to (size-of n d) → e ≤ size-of n d → Did s m (moved to ss) t r → Inside 0 e ss
     → body n d (drop from t) ≡ body n d (drop from s)
 copy-keeps ss from to n d e o h did p =
-    same-body (to + 0) (to + e) from n d did (inside-moved to 0 e ss p)
+    same-body from n d did (inside-avoids (to + 0) (to + e) (from + 8) (up8 (n + 1) + up8 d) (moved to ss)
     (off-part to (to + size-of n d) from (size-of n d) 8 (up8 (n + 1) + up8 d) (to + 0) (to + e) o (omega arith) (omega arith) (omega arith))
+    (inside-moved to 0 e ss p))
 
 -- the steps of a record with n name bytes and d data bytes, phase by phase
 record-moved : (to : ℕ) (name content : List ℕ) (n d : ℕ) → length name ≡ n → length content ≡ d

@@ -5,7 +5,7 @@ use native.Mathlib.Nat.{zero-add}
 use mathlib.Core.Path.{_≡_, refl, sym, ap, _∙_}
 use mathlib.Core.Logic.{_⊎_, inl, inr, ⊎-elim}
 use mathlib.Core.List.{List, [], _∷_, _++_}
-use lib.ListN.{length, take, drop, length-drop}
+use lib.ListN.{length, take, drop, set, length-drop}
 use lib.Seq.{length-take-le, take-set-le, drop-set-lt, take-nil}
 use Rattle.spec.specs.Step.{Image, Step, program, erase, run, bytes-at, moved}
 use Rattle.flash.specs.Did.{Did}
@@ -33,6 +33,39 @@ take-drop (suc i) n (x ∷ l) = let e : suc i + n ≡ suc (i + n) = omega arith 
 pub length-part : (i n : ℕ) (l : List ℕ) → i + n ≤ length l → length (take n (drop i l)) ≡ n
 length-part i n l h = length-take-le n (drop i l) (rw length-drop (omega arith))
 
+-- ---- steps that program none of the n bytes from i on
+
+abbrev pub Avoids : ℕ → ℕ → List Step → Type 0
+Avoids i n [] = Unit {0}
+Avoids i n (program k x ∷ ss) = ((k < i) ⊎ (i + n ≤ k)) × Avoids i n ss
+Avoids i n (erase k ∷ ss) = ⊥
+
+pub avoids-append : (i n : ℕ) (s t : List Step) → Avoids i n s → Avoids i n t → Avoids i n (s ++ t)
+avoids-append i n [] t p q = q
+avoids-append i n (program k x ∷ s) t p q = (p .0, avoids-append i n s t (p .1) q)
+avoids-append i n (erase k ∷ s) t p q = absurd p
+
+avoids-take : (j i n : ℕ) (ss : List Step) → Avoids i n ss → Avoids i n (take j ss)
+avoids-take zero i n ss p = tt
+avoids-take (suc j) i n [] p = tt
+avoids-take (suc j) i n (program k x ∷ ss) p = (p .0, avoids-take j i n ss (p .1))
+avoids-take (suc j) i n (erase k ∷ ss) p = absurd p
+
+set-kept : (s : Image) (i n k x : ℕ) → (k < i) ⊎ (i + n ≤ k) → take n (drop i (set s k x)) ≡ take n (drop i s)
+set-kept s i n k x (inl h) = ap (take n) (drop-set-lt i s k x h)
+set-kept s i n k x (inr h) = take-drop i n (set s k x) ∙ ap (drop i) (take-set-le (i + n) s k x h) ∙ sym (take-drop i n s)
+
+run-kept : (s : Image) (i n : ℕ) (ss : List Step) → Avoids i n ss → take n (drop i (run s ss)) ≡ take n (drop i s)
+run-kept s i n [] p = refl
+run-kept s i n (program k x ∷ ss) p = run-kept (set s k x) i n ss (p .1) ∙ set-kept s i n k x (p .0)
+run-kept s i n (erase k ∷ ss) p = absurd p
+
+-- what the steps avoid stays as it was
+pub kept : {s t : Image} {m r : Meter} {ss : List Step} (i n : ℕ) → Did s m ss t r → Avoids i n ss → take n (drop i t) ≡ take n (drop i s)
+kept {s} {t} {m} {r} {ss} i n d p =
+    let k = m .allowance - m .asked in
+    rw (d .bytes) (run-kept s i n (take k ss) (avoids-take k i n ss p))
+
 -- ---- steps that program from a on, below b
 
 abbrev pub Inside : ℕ → ℕ → List Step → Type 0
@@ -54,28 +87,8 @@ inside-moved k a b [] p = tt
 inside-moved k a b (program i x ∷ ss) p = (omega arith, omega arith, inside-moved k a b ss (p .2))
 inside-moved k a b (erase i ∷ ss) p = absurd p
 
-pub inside-take : (k a b : ℕ) (ss : List Step) → Inside a b ss → Inside a b (take k ss)
-inside-take zero a b ss p = tt
-inside-take (suc k) a b [] p = tt
-inside-take (suc k) a b (program i x ∷ ss) p = (p .0, p .1, inside-take k a b ss (p .2))
-inside-take (suc k) a b (erase i ∷ ss) p = absurd p
-
-before-kept : (s : Image) (a b n : ℕ) (ss : List Step) → Inside a b ss → n ≤ a → take n (run s ss) ≡ take n s
-before-kept s a b n [] p h = refl
-before-kept s a b n (program i x ∷ ss) p h = before-kept _ a b n ss (p .2) h ∙ take-set-le n s i x (omega arith)
-before-kept s a b n (erase i ∷ ss) p h = absurd p
-
-behind-kept : (s : Image) (a b n : ℕ) (ss : List Step) → Inside a b ss → b ≤ n → drop n (run s ss) ≡ drop n s
-behind-kept s a b n [] p h = refl
-behind-kept s a b n (program i x ∷ ss) p h = behind-kept _ a b n ss (p .2) h ∙ drop-set-lt n s i x (omega arith)
-behind-kept s a b n (erase i ∷ ss) p h = absurd p
-
--- what stands off the steps stays as it was
-pub kept : {s t : Image} {m r : Meter} {ss : List Step} (a b i n : ℕ) → Did s m ss t r → Inside a b ss → Off a b i n → take n (drop i t) ≡ take n (drop i s)
-kept {s} {t} {m} {r} {ss} a b i n d p o =
-    let done = take (m .allowance - m .asked) ss in
-    let inside = inside-take (m .allowance - m .asked) a b ss p in
-    rw (d .bytes) (⊎-elim
-    (λ (q : i + n ≤ a). take-drop i n (run s done) ∙ ap (drop i) (before-kept s a b (i + n) done inside q) ∙ sym (take-drop i n s))
-    (λ (q : b ≤ i). ap (take n) (behind-kept s a b i done inside q))
-    o)
+pub inside-avoids : (a b i n : ℕ) (ss : List Step) → Off a b i n → Inside a b ss → Avoids i n ss
+inside-avoids a b i n [] o p = tt
+inside-avoids a b i n (program k x ∷ ss) o p =
+    (⊎-elim (λ (q : i + n ≤ a). inr (omega arith)) (λ (q : b ≤ i). inl (omega arith)) o, inside-avoids a b i n ss o (p .2))
+inside-avoids a b i n (erase k ∷ ss) o p = absurd p

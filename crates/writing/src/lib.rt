@@ -23,6 +23,7 @@ ghost use Rattle.spec.specs.Write.{migrate-steps, delete-steps, put-steps};
 ghost use Rattle.flash.specs.Did.{Did};
 ghost use Rattle.writing.specs.Old.{entry-of, Lies};
 ghost use Rattle.writing.specs.Put.{marks, Ready};
+ghost use Rattle.writing.specs.Head.{HeadEnds, entry-at, copy-of};
 
 // The file that a put replaces: its address and its status, or none.
 pub enum Old {
@@ -114,5 +115,20 @@ pub fn write_file(image: &mut [u8], place: Place, old: Old, name: &[u8], content
     };
     let a = prepare(image, old, place.tail, marker, m);
     let b = write_record(image, at, name, content, a);
+    delete(image, old, b)
+}
+
+// The record at the head, with n name bytes and d data bytes, copied as in a put: the first part of a move.
+pub fn copy_head(image: &mut [u8], place: Place, n: usize, d: usize, m: Meter) -> Meter
+    requires { ⌜ Ready place (length (now image)) n d (m .asked) × HeadEnds place (size-of n d) ⌝ }
+    ensures { λ r. ⌜ Did (now (image .entry)) m (copy-of place (entry-at (now (image .entry)) (place .head) n d)) (now (image .exit)) r ⌝ }
+{
+    let Placed::At(at, marker, _) = place.after(size(n, d)) else {
+        return m;
+    };
+    let head = place.head;
+    let old = Old::At(head, image[head + 2]);
+    let a = prepare(image, old, place.tail, marker, m);
+    let b = copy_record(image, head, at, n, d, a);
     delete(image, old, b)
 }
