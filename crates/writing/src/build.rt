@@ -17,7 +17,7 @@ ghost use Rattle.spec.specs.Write.{marker-steps, header-steps, name-steps, data
 ghost use Rattle.flash.specs.Did.{Did};
 
 // Programs the bytes one after another from this address on.
-fn write_bytes(part: &mut [u8], at: usize, bytes: &[u8], m: Meter) -> Meter
+pub fn write_bytes(part: &mut [u8], at: usize, bytes: &[u8], m: Meter) -> Meter
     requires { ⌜ (at + length (now bytes) ≤ length (now part)) × (m .asked + length (now bytes) ≤ 2 ^ 32) ⌝ }
     ensures { λ r. ⌜ Did (now (part .entry)) m (bytes-at at (now (bytes .entry))) (now (part .exit)) r ⌝ }
 {
