@@ -87,9 +87,16 @@ same-body {s} {t} from n d e p = rw (drop-drop 8 from t, drop-drop 8 from s) (ke
 -- ---- the whole record
 
 inside-header : (d : ℕ) → Inside 0 8 (header-steps d)
-inside-header d =
-    (omega arith, omega arith, (omega arith, omega arith, inside-append 0 8 (bytes-at 4 (four d)) (program 2 0xFE ∷ [])
-    (inside-bytes 0 8 4 (four d) (omega arith) (omega arith)) (omega arith, omega arith, tt)))
+inside-header d = (
+  omega arith,
+  omega arith,
+  (
+    omega arith,
+    omega arith,
+    inside-append 0 8 (bytes-at 4 (four d)) (program 2 0xFE ∷ [])
+        (inside-bytes 0 8 4 (four d) (omega arith) (omega arith)) (omega arith, omega arith, tt),
+  ),
+)
 
 inside-name : (b : ℕ) (w : List ℕ) → 8 + length w < b → Inside 0 b (name-steps w)
 inside-name b w h = inside-append 0 b (bytes-at 8 w) (program (8 + length w) 0 ∷ []) (inside-bytes 0 b 8 w (omega arith) (omega arith)) (omega arith, h, tt)

@@ -72,8 +72,12 @@ pub copy-count : (s : Image) (a from n d : ℕ) → from + size-of n d ≤ lengt
     → length (moved a (record-steps (rec-of (drop from s) n d .name) (rec-of (drop from s) n d .content))) ≡ n + d + 9
 copy-count s a from n d h =
     let own = rec-of (drop from s) n d in
-    omega (arith, record-count a (own .name) (own .content), length-take-le n (drop 8 (drop from s)) (simp length-drop (omega arith)),
-    length-take-le d (drop (up8 (n + 1)) (drop 8 (drop from s))) (simp length-drop (omega arith)))
+    omega (
+      arith,
+      record-count a (own .name) (own .content),
+      length-take-le n (drop 8 (drop from s)) (simp length-drop (omega arith)),
+      length-take-le d (drop (up8 (n + 1)) (drop 8 (drop from s))) (simp length-drop (omega arith)),
+    )
 
 module _ {s s₁ s₂ t : Image} {m a b r : Meter} (p : Place) (n d at : ℕ) (k : Bool) (q : Place)
     (ends : HeadEnds p (size-of n d)) (whole : p .length ≡ length s) (taken : fits p (size-of n d) ≡ true) (e : placed p (size-of n d) ≡ placed-as.At at k q) where

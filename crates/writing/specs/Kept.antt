@@ -27,7 +27,7 @@ off-part a b i n j k c e o h l p = ⊎-elim (λ (q : i + n ≤ a). inl (omega ar
 
 pub take-drop : (i n : ℕ) (l : List ℕ) → take n (drop i l) ≡ drop i (take (i + n) l)
 take-drop zero n l = rw zero-add
-take-drop (suc i) n [] = rw (take-nil, take-nil)
+take-drop (suc i) n [] = take-nil n ∙ sym (ap (drop (suc i)) (take-nil (suc i + n)))
 take-drop (suc i) n (x ∷ l) = let e : suc i + n ≡ suc (i + n) = omega arith in rw e (take-drop i n l)
 
 pub length-part : (i n : ℕ) (l : List ℕ) → i + n ≤ length l → length (take n (drop i l)) ≡ n

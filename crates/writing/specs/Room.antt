@@ -11,7 +11,8 @@ use Rattle.spec.specs.declared.Placed.{Placed}
 use Rattle.spec.specs.declared.Placed.the-variants.{At, Full}
 use Rattle.spec.specs.Geometry.{floor}
 use Rattle.spec.specs.Reading.{limit}
-use Rattle.spec.specs.Place.{fits-at-tail, fits, address, with-marker, place-after, fits-all, room}
+use Rattle.spec.specs.Place.{fits-at-tail, fits, address, with-marker, place-after, fits-all, largest}
+use Rattle.spec.specs.Record.{Entry, size}
 use Rattle.spec.specs.Placed.{placed, Sound, with-tail}
 use Rattle.spec.proofs.Ways.{after-as}
 
@@ -103,3 +104,8 @@ nowhere p s h l =
 pub too-long : (p : Place) (s : ℕ) (ss : List ℕ) → Sound p → p .length < s → fits-all p (s ∷ ss) ≡ false
 unfolding fits-all
 too-long p s ss h l = rw (nowhere p s h l, fits-all)
+
+-- the new record's size may be compared last
+pub largest-max : (s : ℕ) (es : List Entry) → largest s es ≡ max s (largest 0 es)
+largest-max s [] = omega arith
+largest-max s (e ∷ es) = largest-max (max s (size e)) es ∙ omega (arith, largest-max (max 0 (size e)) es)

@@ -31,8 +31,14 @@ length-name name = length-append (bytes-at 8 name) _ ∙ ap (λ (n : ℕ). n + 1
 pub record-count : (a : ℕ) (name content : List ℕ) → length (moved a (record-steps name content)) ≡ length name + length content + 9
 record-count a name content =
     let rest = data-steps (length name) content ++ commit-steps in
-    omega (arith, length-moved a (record-steps name content), length-append (name-steps name) rest, length-name name,
-    length-append (data-steps (length name) content) commit-steps, length-bytes (8 + up8 (length name + 1)) content)
+    omega (
+      arith,
+      length-moved a (record-steps name content),
+      length-append (name-steps name) rest,
+      length-name name,
+      length-append (data-steps (length name) content) commit-steps,
+      length-bytes (8 + up8 (length name + 1)) content,
+    )
 
 pub moved-append : (a : ℕ) (s t : List Step) → moved a (s ++ t) ≡ moved a s ++ moved a t
 moved-append a [] t = refl

@@ -58,7 +58,12 @@ fn low_byte(x: usize) -> u8
 fn four_of(d: usize) -> [u8; 4]
     ensures { λ r. ⌜ r ≡ four d ⌝ }
 {
-    [low_byte(d), low_byte(d / 256), low_byte(d / 65536), low_byte(d / 16777216)]
+    [
+        low_byte(d),
+        low_byte(d / 256),
+        low_byte(d / 65536),
+        low_byte(d / 16777216),
+    ]
 }
 
 // The header of a record with d data bytes, up to its reservation.

@@ -3,6 +3,7 @@
 pub mod build;
 pub mod copy;
 pub mod sectors;
+
 use build::set_status;
 use build::write_marker;
 use build::write_record;
@@ -107,7 +108,14 @@ fn delete(image: &mut [u8], old: Old, m: Meter) -> Meter
 }
 
 // A file in the place of an old one, step by step. The old one is deleted after the commit, so that a cut loses neither.
-pub fn write_file(image: &mut [u8], place: Place, old: Old, name: &[u8], content: &[u8], m: Meter) -> Meter
+pub fn write_file(
+    image: &mut [u8],
+    place: Place,
+    old: Old,
+    name: &[u8],
+    content: &[u8],
+    m: Meter,
+) -> Meter
     requires { ⌜ Ready place (length (now image)) (length (now name)) (length (now content)) (m .asked) × Lies old (length (now image)) ⌝ }
     ensures { λ r. ⌜ Did (now (image .entry)) m (put-steps place (entry-of old) (now (name .entry)) (now (content .entry))) (now (image .exit)) r ⌝ }
 {

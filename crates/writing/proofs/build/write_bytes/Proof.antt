@@ -1,5 +1,5 @@
 use Prim.Native.Nat.{_-_, _≤_}
-use mathlib.Core.Path.{_≡_, refl, _∙_}
+use mathlib.Core.Path.{_≡_, refl}
 use lib.ListN.{length, take}
 use lib.Seq.{take-all, length-take-le}
 use Rattle.flash.specs.Did.{Did, did-none, did-both}
@@ -9,9 +9,6 @@ use borrow.Author.Needs.{needs}
 use native.Mathlib.Omega.{arith}
 use Rattle.writing.proofs.build.write_bytes.Statement.{statement}
 use Rattle.writing.proofs.build.write_bytes.Tie as tie
-use Rattle.writing.proofs.build.write_bytes.Reads as reads
-use Rattle.writing.proofs.build.write_bytes.Lts as lts
-use Rattle.flash.proofs.program.Reads as program-reads
 
 abbrev Inv-loop : tie.InvT-loop
 Inv-loop part₀ at bytes q₀ i₀ part q i = (i ≤ length bytes) × (length part ≡ length part₀) × Did part₀ q₀ (bytes-at at (take i bytes)) part q
@@ -19,39 +16,30 @@ Inv-loop part₀ at bytes q₀ i₀ part q i = (i ≤ length bytes) × (length p
 abbrev μ-loop : tie.MeasureT-loop
 μ-loop part₀ at bytes q₀ i₀ part q i = length bytes - i
 
--- src/build.rt:26:5
 loop-holds : tie.Need-loop-holds Inv-loop μ-loop
 loop-holds c = (omega arith, refl, did-none (c .before .before .args .part .now) (c .before .before .args .m))
 
--- src/build.rt:27:27
 add-program : tie.Need-add-program Inv-loop μ-loop
 add-program c = search needs
 
--- src/build.rt:27:35
 shared-slice-read-program : tie.Need-shared-slice-read-program Inv-loop μ-loop
 shared-slice-read-program c = search needs
 
--- src/build.rt:27:9
 program-requires : tie.Need-program-requires Inv-loop μ-loop
 program-requires c κs = let a = c .before .before .before .before .before .before .args in let i = c .before .before .before .loop .i in omega (arith, length-bytes (a .at) (take i (a .bytes .now)), length-take-le i (a .bytes .now) (omega arith))
 
--- src/build.rt:28:9
 add-i : tie.Need-add-i Inv-loop μ-loop
 add-i c = search needs
 
--- src/build.rt:26:5
 loop-less : tie.Need-loop-less Inv-loop μ-loop
 loop-less c = search needs
 
--- src/build.rt:26:5
 loop-again : tie.Need-loop-again Inv-loop μ-loop
 loop-again c = let a = c .before .before .before .before .before .before .before .before .before .args in (omega arith, omega arith, rw (bytes-more (a .at) (a .bytes .now) (c .before .before .before .before .before .before .loop .i) (omega arith)) (did-both (c .before .before .before .before .before .before .loop .inv .2) (c .before .before .program .ensures)))
 
--- src/build.rt:20:1
 same-length : tie.Need-same-length Inv-loop μ-loop
 same-length c = search needs
 
--- src/build.rt:20:1
 returns : tie.Need-returns Inv-loop μ-loop
 returns c = rw (take-all (c .before .loop .i) (c .before .before .before .before .args .bytes .now) (omega arith)) at (c .before .loop .inv .2)
 

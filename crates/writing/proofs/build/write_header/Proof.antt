@@ -8,42 +8,28 @@ use native.Mathlib.Omega.{arith}
 use borrow.Author.Needs.{needs}
 use Rattle.writing.proofs.build.write_header.Statement.{statement}
 use Rattle.writing.proofs.build.write_header.Tie as tie
-use Rattle.writing.proofs.build.write_header.Reads as reads
-use Rattle.writing.proofs.build.write_header.Lts as lts
-use Rattle.flash.proofs.program.Reads as program-reads
-use Rattle.writing.proofs.build.four_of.Reads as four-of-reads
-use Rattle.writing.proofs.build.set_status.Reads as set-status-reads
-use Rattle.writing.proofs.build.write_bytes.Reads as write-bytes-reads
 
--- src/build.rt:69:16
 four-of-requires : tie.Need-four-of-requires
 four-of-requires c κs = search needs
 
--- src/build.rt:70:9
 program-requires : tie.Need-program-requires
 program-requires c κs = search needs
 
--- src/build.rt:71:9
 program-requires-2 : tie.Need-program-requires-2
 program-requires-2 c κs = search needs
 
--- src/build.rt:72:34
 slice-aggregate-write-bytes : tie.Need-slice-aggregate-write-bytes
 slice-aggregate-write-bytes c = search needs
 
--- src/build.rt:72:9
 write-bytes-requires : tie.Need-write-bytes-requires
 write-bytes-requires c κs = search needs
 
--- src/build.rt:73:5
 set-status-requires : tie.Need-set-status-requires
 set-status-requires c κs = omega (arith, ap (λ (l : List ℕ). length (bytes-at 4 l)) (c .before .before .before .before .before .before .before .before .before .before .before .before .before .before .four-of .ensures))
 
--- src/build.rt:65:1
 same-length : tie.Need-same-length
 same-length c = search needs
 
--- src/build.rt:65:1
 returns : tie.Need-returns
 returns c = did-both (did-both (did-both (c .before .before .before .before .before .before .before .before .before .before .before .before .before .before .before .program .ensures) (c .before .before .before .before .before .before .before .before .before .before .before .program2 .ensures)) (rw (c .before .before .before .before .before .before .before .before .before .before .before .before .before .before .before .before .before .four-of .ensures) at (c .before .before .before .before .before .before .write-bytes .ensures))) (c .before .before .set-status .ensures)
 

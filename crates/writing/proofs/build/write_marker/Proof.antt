@@ -3,31 +3,22 @@ use native.Mathlib.Omega.{arith}
 use borrow.Author.Needs.{needs}
 use Rattle.writing.proofs.build.write_marker.Statement.{statement}
 use Rattle.writing.proofs.build.write_marker.Tie as tie
-use Rattle.writing.proofs.build.write_marker.Reads as reads
-use Rattle.writing.proofs.build.write_marker.Lts as lts
-use Rattle.writing.proofs.build.build_marker.Reads as build-marker-reads
 
--- src/build.rt:125:18
 sub-build-marker : tie.Need-sub-build-marker
 sub-build-marker c = search needs
 
--- src/build.rt:125:18
 part-build-marker-start : tie.Need-part-build-marker-start
 part-build-marker-start c = search needs
 
--- src/build.rt:125:18
 part-build-marker-end : tie.Need-part-build-marker-end
 part-build-marker-end c = search needs
 
--- src/build.rt:125:5
 build-marker-requires : tie.Need-build-marker-requires
 build-marker-requires c κs = search needs
 
--- src/build.rt:121:1
 same-length : tie.Need-same-length
 same-length c = search needs
 
--- src/build.rt:121:1
 returns : tie.Need-returns
 returns c = let a = c .before .before .before .before .before .args in did-tail (a .image .now) (a .at) (omega arith) (c .before .before .build-marker .ensures)
 

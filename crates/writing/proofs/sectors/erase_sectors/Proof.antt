@@ -1,4 +1,3 @@
-use mathlib.Core.Path.{ap}
 use Rattle.writing.specs.Starts.{starts, starts-all, erase-more, erase-count}
 use Rattle.flash.specs.Did.{Did, did-none, did-both}
 use Rattle.spec.specs.Step.{erase}
@@ -10,9 +9,6 @@ use mathlib.Core.Path.{_≡_, refl}
 use native.Mathlib.Omega.{arith}
 use Rattle.writing.proofs.sectors.erase_sectors.Statement.{statement}
 use Rattle.writing.proofs.sectors.erase_sectors.Tie as tie
-use Rattle.writing.proofs.sectors.erase_sectors.Reads as reads
-use Rattle.writing.proofs.sectors.erase_sectors.Lts as lts
-use Rattle.flash.proofs.erase.Reads as erase-reads
 
 abbrev Inv-loop : tie.InvT-loop
 Inv-loop image₀ from to count q₀ i₀ image q i = (i ≤ count) × (length image ≡ length image₀) × Did image₀ q₀ (map erase (starts i from)) image q
@@ -20,43 +16,33 @@ Inv-loop image₀ from to count q₀ i₀ image q i = (i ≤ count) × (length i
 abbrev μ-loop : tie.MeasureT-loop
 μ-loop image₀ from to count q₀ i₀ image q i = count - i
 
--- src/sectors.rt:24:18
 sub-count : tie.Need-sub-count Inv-loop μ-loop
 sub-count c = search needs
 
--- src/sectors.rt:27:5
 loop-holds : tie.Need-loop-holds Inv-loop μ-loop
 loop-holds c = (omega arith, refl, did-none (c .before .args .image .now) (c .before .args .m))
 
--- src/sectors.rt:28:33
 mul-erase : tie.Need-mul-erase Inv-loop μ-loop
 mul-erase c = omega arith
 
--- src/sectors.rt:28:26
 add-erase : tie.Need-add-erase Inv-loop μ-loop
 add-erase c = omega arith
 
--- src/sectors.rt:28:9
 erase-requires : tie.Need-erase-requires Inv-loop μ-loop
 erase-requires c κs = omega (arith, erase-count (c .before .before .loop .i) (c .before .before .before .before .args .from))
 
--- src/sectors.rt:29:9
 add-i : tie.Need-add-i Inv-loop μ-loop
 add-i c = search needs
 
--- src/sectors.rt:27:5
 loop-less : tie.Need-loop-less Inv-loop μ-loop
 loop-less c = search needs
 
--- src/sectors.rt:27:5
 loop-again : tie.Need-loop-again Inv-loop μ-loop
 loop-again c = (omega arith, omega arith, rw (erase-more (c .before .before .before .before .before .loop .i) (c .before .before .before .before .before .before .before .args .from)) (did-both (c .before .before .before .before .before .loop .inv .2) (c .before .before .erase .ensures)))
 
--- src/sectors.rt:20:1
 same-length : tie.Need-same-length Inv-loop μ-loop
 same-length c = search needs
 
--- src/sectors.rt:20:1
 returns : tie.Need-returns Inv-loop μ-loop
 returns c = let a = c .before .before .before .args in
     let e : c .before .loop .i ≡ (a .to - a .from) / 4096 = omega arith in

@@ -6,24 +6,16 @@ use native.Mathlib.Omega.{arith}
 use borrow.Author.Needs.{needs}
 use Rattle.writing.proofs.sectors.format_image.Statement.{statement}
 use Rattle.writing.proofs.sectors.format_image.Tie as tie
-use Rattle.writing.proofs.sectors.format_image.Reads as reads
-use Rattle.writing.proofs.sectors.format_image.Lts as lts
-use Rattle.writing.proofs.sectors.erase_sectors.Reads as erase-sectors-reads
-use Rattle.writing.proofs.sectors.write_first.Reads as write-first-reads
 
--- src/sectors.rt:52:9
 erase-sectors-requires : tie.Need-erase-sectors-requires
 erase-sectors-requires c κs = search needs
 
--- src/sectors.rt:53:5
 write-first-requires : tie.Need-write-first-requires
 write-first-requires c κs = omega (arith, sectors-count 0 (length (c .before .before .before .before .before .before .args .image .now)) (omega arith))
 
--- src/sectors.rt:47:1
 same-length : tie.Need-same-length
 same-length c = search needs
 
--- src/sectors.rt:47:1
 returns : tie.Need-returns
 unfolding format-steps
 returns c = did-both (c .before .before .before .before .before .before .erase-sectors .ensures) (c .before .before .write-first .ensures)

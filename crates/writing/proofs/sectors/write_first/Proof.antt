@@ -2,37 +2,25 @@ use Rattle.flash.specs.Did.{did-both}
 use borrow.Author.Needs.{needs}
 use Rattle.writing.proofs.sectors.write_first.Statement.{statement}
 use Rattle.writing.proofs.sectors.write_first.Tie as tie
-use Rattle.writing.proofs.sectors.write_first.Reads as reads
-use Rattle.writing.proofs.sectors.write_first.Lts as lts
-use Rattle.flash.proofs.program.Reads as program-reads
-use Rattle.writing.proofs.build.set_status.Reads as set-status-reads
-use Rattle.writing.proofs.build.write_bytes.Reads as write-bytes-reads
 
--- src/sectors.rt:40:35
 slice-aggregate-write-bytes : tie.Need-slice-aggregate-write-bytes
 slice-aggregate-write-bytes c = search needs
 
--- src/sectors.rt:40:9
 write-bytes-requires : tie.Need-write-bytes-requires
 write-bytes-requires c κs = search needs
 
--- src/sectors.rt:41:9
 set-status-requires : tie.Need-set-status-requires
 set-status-requires c κs = search needs
 
--- src/sectors.rt:42:9
 program-requires : tie.Need-program-requires
 program-requires c κs = search needs
 
--- src/sectors.rt:43:5
 program-requires-2 : tie.Need-program-requires-2
 program-requires-2 c κs = search needs
 
--- src/sectors.rt:35:1
 same-length : tie.Need-same-length
 same-length c = search needs
 
--- src/sectors.rt:35:1
 returns : tie.Need-returns
 returns c = did-both (c .before .before .before .before .before .before .before .before .before .before .before .before .before .before .write-bytes .ensures) (did-both (c .before .before .before .before .before .before .before .before .before .before .set-status .ensures) (did-both (c .before .before .before .before .before .before .program .ensures) (c .before .before .program2 .ensures)))
 
