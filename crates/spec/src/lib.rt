@@ -2,7 +2,8 @@
 // Nothing here reads or writes an image; the layers above are proved against what stands here.
 ghost use mathlib.Core.Path.{_≡_};
 ghost use Rattle.spec.specs.Reading.{limit};
-ghost use Rattle.spec.specs.Placed.{placed, Sound, with-tail};
+ghost use Rattle.spec.specs.Place.{fits-at-tail};
+ghost use Rattle.spec.specs.Placed.{placed, with-tail};
 
 // What the first four bytes say of what stands there.
 pub enum Kind {
@@ -58,12 +59,22 @@ impl Place {
         self.length
     }
 
-    // At the tail if it fits there; before the turn also at 0, up to the head's sector. Any size may be asked for.
+    // Whether the size fits at the tail. Any size may be asked for: nothing here wraps.
+    fn fits_at_tail(self, size: usize) -> bool
+        ensures { λ r. ⌜ r ≡ fits-at-tail self size ⌝ }
+    {
+        let end = self.limit();
+        if end < self.tail {
+            return false;
+        }
+        size <= end - self.tail
+    }
+
+    // At the tail if it fits there; before the turn also at 0, up to the head's sector.
     pub fn after(self, size: usize) -> Placed
-        requires { ⌜ Sound self ⌝ }
         ensures { λ r. ⌜ r ≡ placed self size ⌝ }
     {
-        if size <= self.limit() - self.tail {
+        if self.fits_at_tail(size) {
             return Placed::At(self.tail, false, self.moved(self.tail + size, self.turned));
         }
         if self.turned {

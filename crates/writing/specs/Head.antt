@@ -1,5 +1,5 @@
 -- The head's record, copied as in put: where it lies, and the copy's phases one after another.
-use Prim.Native.Nat.{ℕ, _+_, _≤_, _<_}
+use Prim.Native.Nat.{ℕ, _+_, _≤_}
 use native.Mathlib.Omega.{arith}
 use mathlib.Core.Path.{_≡_, refl, sym, ap, _∙_}
 use mathlib.Core.Bool.{Bool, true, false}
@@ -11,10 +11,10 @@ use lib.Seq.{length-take-le, getD-drop}
 use lib.Dec.{eqb}
 use Rattle.spec.specs.declared.Place.{Place}
 use Rattle.spec.specs.declared.Placed.the-variants as placed-as
-use Rattle.spec.specs.Geometry.{up8, floor}
+use Rattle.spec.specs.Geometry.{up8}
 use Rattle.spec.specs.Step.{Image, Step, program, moved}
 use Rattle.spec.specs.Bytes.{is-committed}
-use Rattle.spec.specs.Record.{size-of, rec-of, status-of, Entry, name-of, content-of}
+use Rattle.spec.specs.Record.{size-of, rec-of, Entry, name-of, content-of}
 use Rattle.spec.specs.Reading.{limit}
 use Rattle.spec.specs.Place.{fits, address}
 use Rattle.spec.specs.Placed.{placed}
@@ -25,7 +25,7 @@ use Rattle.writing.specs.declared.Old.the-variants.{At}
 use Rattle.writing.specs.Steps.{record-count}
 use Rattle.writing.specs.Kept.{Apart, Avoids, avoids-append}
 use Rattle.writing.specs.Copied.{same-name, same-content, same-body}
-use Rattle.writing.specs.Old.{entry-of, old-of, put-old}
+use Rattle.writing.specs.Old.{entry-of, put-old}
 use Rattle.writing.specs.Room.{Way, at-tail, at-start, way, placed-parts, marker-before-turn}
 use Rattle.writing.specs.Put.{marks, put-phases}
 

@@ -1,16 +1,16 @@
 -- What the caller of a put knows, and a put's phases one after another.
 use Prim.Native.Nat.{ℕ, _+_, _≤_, _<_, _^_}
 use native.Mathlib.Omega.{arith}
-use mathlib.Core.Path.{_≡_, refl, sym, ap, ap₂, _∙_}
+use mathlib.Core.Path.{_≡_, _∙_}
 use mathlib.Core.Bool.{Bool, true, false}
 use mathlib.Core.Option.{Option}
-use mathlib.Core.List.{List, [], _∷_, _++_, append-assoc}
+use mathlib.Core.List.{List, [], _++_, append-assoc}
 use lib.ListN.{length, length-append}
 use Rattle.spec.specs.declared.Place.{Place}
 use Rattle.spec.specs.declared.Placed.the-variants.{At, Full}
 use Rattle.spec.specs.Step.{Image, Step, moved}
 use Rattle.spec.specs.Record.{size-of, Entry}
-use Rattle.spec.specs.Place.{fits, address, with-marker}
+use Rattle.spec.specs.Place.{fits, with-marker}
 use Rattle.spec.specs.Placed.{placed, Sound}
 use Rattle.spec.specs.Write.{marker-steps, migrate-steps, delete-steps, turn-steps, record-steps, put-steps}
 use Rattle.flash.specs.Did.{Did, did-both}

@@ -1,20 +1,18 @@
--- Laws on placing: what fits lies inside the image, and the place after it is sound again.
+-- Laws on placing: what fits lies inside the image; sizes one after the other.
 use Prim.Native.Nat.{ℕ, _+_, _≤_, _<_, max}
 use native.Mathlib.Omega.{arith}
-use mathlib.Core.Path.{_≡_, refl, sym, ap, _∙_}
-use mathlib.Core.Bool.{Bool, true, false, _&&_, _||_, not, or-false, and-false}
+use mathlib.Core.Path.{_≡_, refl, _∙_}
+use mathlib.Core.Bool.{Bool, true, false, _&&_, _||_, not, and-false}
 use mathlib.Core.List.{List, [], _∷_}
-use borrow.Author.Tests.{leb-true, ltb-true, leb-false, lt-leb}
-use lib.Dec.{leb, ltb}
+use borrow.Author.Tests.{leb-true, ltb-true, lt-leb}
+use lib.Dec.{leb}
 use Rattle.spec.specs.declared.Place.{Place}
-use Rattle.spec.specs.declared.Placed.{Placed}
 use Rattle.spec.specs.declared.Placed.the-variants.{At, Full}
 use Rattle.spec.specs.Geometry.{floor}
 use Rattle.spec.specs.Reading.{limit}
 use Rattle.spec.specs.Place.{fits-at-tail, fits, address, with-marker, place-after, fits-all, largest}
 use Rattle.spec.specs.Record.{Entry, size}
-use Rattle.spec.specs.Placed.{placed, Sound, with-tail}
-use Rattle.spec.proofs.Ways.{after-as}
+use Rattle.spec.specs.Placed.{placed, Sound}
 
 -- ---- the three parts of an answer
 
@@ -68,18 +66,6 @@ marker-before-turn p s e m = go (way p s e) where
   go : Way p s → (p .turned ≡ false) × (p .tail < p .length)
   go (at-tail t a l) = let z : _≡_ {A = Bool} false true = rw t at m in let y : _≡_ {A = ℕ} 0 1 = cc in absurd (omega arith)
   go (at-start t u a l) = (u, ltb-true (p .tail) (p .length) (rw t at m))
-
-resound : (p : Place) (t : ℕ) (u : Bool) → Sound p → t ≤ limit (with-tail p t u) → Sound (with-tail p t u)
-resound p t u h l = record { free = l; inside = h .inside; short = h .short }
-
-pub sound-after : (p : Place) (s : ℕ) → Sound p → fits p s ≡ true → Sound (place-after p s)
-sound-after p s h e = go (way p s e) where
-  go : Way p s → Sound (place-after p s)
-  go (at-tail t a l) = rw (after-as p s (p .tail) true t a) (rw or-false (resound p (p .tail + s) (p .turned) h l))
-  go (at-start t u a l) = rw (after-as p s 0 false t a) (rw u (resound p (0 + s) true h (omega arith)))
-
-pub sound-next : (p : Place) (s a : ℕ) (k : Bool) (q : Place) → Sound p → placed p s ≡ At a k q → Sound q
-sound-next p s a k q h e = let w = placed-parts p s a k q e in rw (w .3) at (sound-after p s h (w .0))
 
 -- ---- sizes one after the other
 

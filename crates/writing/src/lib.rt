@@ -35,7 +35,6 @@ pub enum Old {
 
 // Whether a record of this size and then two of the largest size fit one after the other.
 pub fn has_room(place: Place, size: usize, largest: usize) -> bool
-    requires { ⌜ Sound place ⌝ }
     ensures { λ r. ⌜ r ≡ room place size largest ⌝ }
 {
     let Placed::At(_, _, first) = place.after(size) else {

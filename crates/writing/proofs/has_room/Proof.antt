@@ -1,4 +1,4 @@
-use Rattle.writing.specs.Room.{sound-next, room-on, room-end, room-stop}
+use Rattle.writing.specs.Room.{room-on, room-end, room-stop}
 use mathlib.Core.List.{[], _∷_}
 use mathlib.Core.Path.{sym, _∙_}
 use borrow.Author.Needs.{needs}
@@ -18,7 +18,7 @@ returns : tie.Need-returns
 returns c = let a = c .before .before .before .args in sym (room-stop (a .place) (a .size) (a .largest ∷ a .largest ∷ []) (sym (c .before .before .after .ensures) ∙ c .enum-told .given .1))
 
 after-requires-2 : tie.Need-after-requires-2
-after-requires-2 c κs = let a = c .before .before .before .before .args in sound-next (a .place) (a .size) _ _ _ (c .before .before .before .before .pre) (sym (c .before .before .before .after .ensures) ∙ c .before .first .given .1)
+after-requires-2 c κs = search needs
 
 enum-known-second : tie.Need-enum-known-second
 enum-known-second c = search needs
@@ -33,10 +33,7 @@ returns-2 c = let a = c .before .before .before .before .before .before .before 
     ∙ room-stop first (a .largest) (a .largest ∷ []) (sym (c .before .before .after2 .ensures) ∙ c .enum-told2 .given .1))
 
 after-requires-3 : tie.Need-after-requires-3
-after-requires-3 c κs = let a = c .before .before .before .before .before .before .before .before .args in
-    let first = c .before .before .before .before .before .first .given .0 .1 .1 .0 in
-    let sound = sound-next (a .place) (a .size) _ _ first (c .before .before .before .before .before .before .before .before .pre) (sym (c .before .before .before .before .before .before .before .after .ensures) ∙ c .before .before .before .before .before .first .given .1) in
-    sound-next first (a .largest) _ _ _ sound (sym (c .before .before .before .after2 .ensures) ∙ c .before .second .given .1)
+after-requires-3 c κs = search needs
 
 enum-told-3 : tie.Need-enum-told-3
 enum-told-3 c = search needs
