@@ -1,3 +1,4 @@
+-- As write_file; what is done before the copy leaves the head's name and data as they were.
 use Rattle.writing.specs.Head.{copy-apart, copy-count, copy-phases}
 use Rattle.writing.specs.Put.{never-full, spot, marker-spot, prepare-few}
 use Rattle.writing.specs.Room.{placed-parts}
@@ -24,7 +25,8 @@ enum-told : tie.Need-enum-told
 enum-told c = search needs
 
 returns : tie.Need-returns
-returns c = let a = c .before .before .before .before .before .args in absurd (never-full (a .place) _ (c .before .before .before .before .before .pre .0 .taken) (rw (c .before .before .before .size .ensures) at (sym (c .before .before .after .ensures) ∙ c .enum-told .given .1)))
+returns c =
+    let a = c .before .before .before .before .before .args in absurd (never-full (a .place) _ (c .before .before .before .before .before .pre .0 .taken) (rw (c .before .before .before .size .ensures) at (sym (c .before .before .after .ensures) ∙ c .enum-told .given .1)))
 
 add-t13 : tie.Need-add-t13
 add-t13 c = search needs

@@ -1,3 +1,4 @@
+-- By the old file, if there is one.
 use Rattle.flash.specs.Did.{did-none}
 use native.Mathlib.Omega.{arith}
 use borrow.Author.Needs.{needs}

@@ -1,3 +1,4 @@
+-- Each answer is one turn of fits-all.
 use Rattle.writing.specs.Room.{room-on, room-end, room-stop}
 use mathlib.Core.List.{[], _∷_}
 use mathlib.Core.Path.{sym, _∙_}

@@ -1,3 +1,4 @@
+-- Content longer than the image fits nowhere.
 use Rattle.writing.specs.Room.{too-long}
 use Rattle.spec.specs.Record.{size-of}
 use Prim.Native.Nat.{max}

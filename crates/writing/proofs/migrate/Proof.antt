@@ -1,3 +1,4 @@
+-- By the status of the old file, if there is one.
 use borrow.Author.Tests.{eq-eqb, ne-eqb}
 use Rattle.spec.specs.Bytes.{is-committed}
 use Rattle.flash.specs.Did.{did-none}
@@ -23,11 +24,16 @@ same-length c = search needs
 
 returns-2 : tie.Need-returns-2
 unfolding is-committed
-returns-2 c = let st = c .before .before .before .before .before .before .before .old .given .0 .1 .0 in rw (c .before .before .before .before .before .before .before .old .given .1, eq-eqb st 0xFC (c .before .before .before .before .if1 .taken)) (c .before .before .set-status .ensures)
+returns-2 c =
+    let st = c .before .before .before .before .before .before .before .old .given .0 .1 .0 in
+    rw (c .before .before .before .before .before .before .before .old .given .1, eq-eqb st 0xFC (c .before .before .before .before .if1 .taken)) (c .before .before .set-status .ensures)
 
 returns-3 : tie.Need-returns-3
 unfolding is-committed
-returns-3 c = let a = c .before .before .before .before .before .before .args in let st = c .before .before .before .old .given .0 .1 .0 in rw (c .before .before .before .old .given .1, ne-eqb st 0xFC (c .if1 .left)) (did-none (a .image .now) (a .m))
+returns-3 c =
+    let a = c .before .before .before .before .before .before .args in
+    let st = c .before .before .before .old .given .0 .1 .0 in
+    rw (c .before .before .before .old .given .1, ne-eqb st 0xFC (c .if1 .left)) (did-none (a .image .now) (a .m))
 
 pub migrate-spec : {M : Type 1} → statement M
 migrate-spec =

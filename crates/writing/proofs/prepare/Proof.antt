@@ -1,3 +1,4 @@
+-- The phases one after another, the marker only where it is needed.
 use Rattle.spec.specs.Write.{migrate-steps}
 use Rattle.writing.specs.Old.{entry-of, migrate-few}
 use Rattle.writing.specs.Old.{migrate-few}

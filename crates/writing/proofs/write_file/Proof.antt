@@ -1,3 +1,4 @@
+-- A size that fits is placed, so that the other answer can't come; then the phases one after another.
 use Rattle.writing.specs.Put.{never-full, spot, marker-spot, prepare-few, put-phases}
 use Rattle.writing.specs.Old.{entry-of, lies-same}
 use Rattle.writing.specs.Steps.{record-count}
@@ -21,7 +22,8 @@ enum-told : tie.Need-enum-told
 enum-told c = search needs
 
 returns : tie.Need-returns
-returns c = let a = c .before .before .before .before .before .before .before .args in absurd (never-full (a .place) _ (c .before .before .before .before .before .before .before .pre .0 .taken) (rw (c .before .before .before .size .ensures) at (sym (c .before .before .after .ensures) ∙ c .enum-told .given .1)))
+returns c =
+    let a = c .before .before .before .before .before .before .before .args in absurd (never-full (a .place) _ (c .before .before .before .before .before .before .before .pre .0 .taken) (rw (c .before .before .before .size .ensures) at (sym (c .before .before .after .ensures) ∙ c .enum-told .given .1)))
 
 prepare-requires : tie.Need-prepare-requires
 prepare-requires c κs = let a = c .before .before .before .before .before .before .before .before .before .args in

@@ -1,3 +1,4 @@
+-- Each answer is one of the four ways.
 use Rattle.spec.proofs.Ways.{limit-below, tail-inside, placed-at-tail, placed-turned, placed-at-start, placed-nowhere}
 use Prim.Native.Nat.{_^_}
 use mathlib.Core.Path.{sym, _∙_}

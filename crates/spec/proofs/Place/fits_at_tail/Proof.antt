@@ -1,3 +1,4 @@
+-- The test by a difference, so that no sum can wrap.
 use mathlib.Core.Path.{sym}
 use Rattle.spec.proofs.Ways.{tail-past, tail-test}
 use native.Mathlib.Omega.{arith}

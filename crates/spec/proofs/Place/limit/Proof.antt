@@ -1,3 +1,4 @@
+-- By the turn.
 use borrow.Author.Needs.{needs}
 use Rattle.spec.proofs.Place.limit.Statement.{statement}
 use Rattle.spec.proofs.Place.limit.Tie as tie

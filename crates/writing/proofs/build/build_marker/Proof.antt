@@ -1,3 +1,4 @@
+-- The phases one after another.
 use Rattle.flash.specs.Did.{did-both}
 use borrow.Author.Needs.{needs}
 use Rattle.writing.proofs.build.build_marker.Statement.{statement}
@@ -16,7 +17,10 @@ same-length : tie.Need-same-length
 same-length c = search needs
 
 returns : tie.Need-returns
-returns c = did-both (did-both (c .before .before .before .before .before .before .before .before .before .before .program .ensures) (c .before .before .before .before .before .before .program2 .ensures)) (c .before .before .set-status .ensures)
+returns c = did-both
+    (did-both (c .before .before .before .before .before .before .before .before .before .before .program .ensures)
+    (c .before .before .before .before .before .before .program2 .ensures))
+    (c .before .before .set-status .ensures)
 
 pub build-marker-spec : {M : Type 1} → statement M
 build-marker-spec =

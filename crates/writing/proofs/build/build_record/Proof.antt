@@ -1,3 +1,4 @@
+-- The phases one after another.
 use lib.ListN.{length}
 use Prim.Native.Nat.{_+_}
 use Rattle.spec.specs.Geometry.{up8}
@@ -18,13 +19,18 @@ write-data-requires : tie.Need-write-data-requires
 write-data-requires c κs = omega (arith, length-name (c .before .before .before .before .before .before .before .before .before .before .before .before .args .name .now))
 
 set-status-requires : tie.Need-set-status-requires
-set-status-requires c κs = let a = c .before .before .before .before .before .before .before .before .before .before .before .before .before .before .before .before .args in omega (arith, length-name (a .name .now), length-bytes (8 + up8 (length (a .name .now) + 1)) (a .content .now))
+set-status-requires c κs =
+    let a = c .before .before .before .before .before .before .before .before .before .before .before .before .before .before .before .before .args in
+    omega (arith, length-name (a .name .now), length-bytes (8 + up8 (length (a .name .now) + 1)) (a .content .now))
 
 same-length : tie.Need-same-length
 same-length c = search needs
 
 returns : tie.Need-returns
-returns c = did-both (c .before .before .before .before .before .before .before .before .before .before .before .before .before .before .write-header .ensures) (did-both (c .before .before .before .before .before .before .before .before .before .before .write-name .ensures) (did-both (c .before .before .before .before .before .before .write-data .ensures) (c .before .before .set-status .ensures)))
+returns c = did-both (c .before .before .before .before .before .before .before .before .before .before .before .before .before .before .write-header .ensures)
+    (did-both (c .before .before .before .before .before .before .before .before .before .before .write-name .ensures)
+    (did-both (c .before .before .before .before .before .before .write-data .ensures)
+    (c .before .before .set-status .ensures)))
 
 pub build-record-spec : {M : Type 1} → statement M
 build-record-spec =

@@ -1,3 +1,4 @@
+-- The invariant: the steps of the first i bytes are done.
 use Prim.Native.Nat.{_-_, _≤_}
 use mathlib.Core.Path.{_≡_, refl}
 use lib.ListN.{length, take}
@@ -26,7 +27,10 @@ shared-slice-read-program : tie.Need-shared-slice-read-program Inv-loop μ-loop
 shared-slice-read-program c = search needs
 
 program-requires : tie.Need-program-requires Inv-loop μ-loop
-program-requires c κs = let a = c .before .before .before .before .before .before .args in let i = c .before .before .before .loop .i in omega (arith, length-bytes (a .at) (take i (a .bytes .now)), length-take-le i (a .bytes .now) (omega arith))
+program-requires c κs =
+    let a = c .before .before .before .before .before .before .args in
+    let i = c .before .before .before .loop .i in
+    omega (arith, length-bytes (a .at) (take i (a .bytes .now)), length-take-le i (a .bytes .now) (omega arith))
 
 add-i : tie.Need-add-i Inv-loop μ-loop
 add-i c = search needs
@@ -35,7 +39,15 @@ loop-less : tie.Need-loop-less Inv-loop μ-loop
 loop-less c = search needs
 
 loop-again : tie.Need-loop-again Inv-loop μ-loop
-loop-again c = let a = c .before .before .before .before .before .before .before .before .before .args in (omega arith, omega arith, rw (bytes-more (a .at) (a .bytes .now) (c .before .before .before .before .before .before .loop .i) (omega arith)) (did-both (c .before .before .before .before .before .before .loop .inv .2) (c .before .before .program .ensures)))
+loop-again c =
+    let a = c .before .before .before .before .before .before .before .before .before .args in (
+      omega arith,
+      omega arith,
+      rw (bytes-more (a .at) (a .bytes .now)
+          (c .before .before .before .before .before .before .loop .i) (omega arith))
+          (did-both (c .before .before .before .before .before .before .loop .inv .2)
+          (c .before .before .program .ensures)),
+    )
 
 same-length : tie.Need-same-length Inv-loop μ-loop
 same-length c = search needs

@@ -1,3 +1,4 @@
+-- One run of bytes, behind the name.
 use borrow.Author.Needs.{needs}
 use Rattle.writing.proofs.build.write_data.Statement.{statement}
 use Rattle.writing.proofs.build.write_data.Tie as tie

@@ -1,3 +1,4 @@
+-- The phases one after another; the four length bytes are those that four_of gives.
 use lib.ListN.{length}
 use mathlib.Core.Path.{ap}
 use Rattle.spec.specs.Step.{bytes-at}
@@ -25,13 +26,21 @@ write-bytes-requires : tie.Need-write-bytes-requires
 write-bytes-requires c κs = search needs
 
 set-status-requires : tie.Need-set-status-requires
-set-status-requires c κs = omega (arith, ap (λ (l : List ℕ). length (bytes-at 4 l)) (c .before .before .before .before .before .before .before .before .before .before .before .before .before .before .four-of .ensures))
+set-status-requires c κs = omega (
+  arith,
+  ap (λ (l : List ℕ). length (bytes-at 4 l))
+      (c .before .before .before .before .before .before .before .before .before .before .before .before .before .before .four-of .ensures),
+)
 
 same-length : tie.Need-same-length
 same-length c = search needs
 
 returns : tie.Need-returns
-returns c = did-both (did-both (did-both (c .before .before .before .before .before .before .before .before .before .before .before .before .before .before .before .program .ensures) (c .before .before .before .before .before .before .before .before .before .before .before .program2 .ensures)) (rw (c .before .before .before .before .before .before .before .before .before .before .before .before .before .before .before .before .before .four-of .ensures) at (c .before .before .before .before .before .before .write-bytes .ensures))) (c .before .before .set-status .ensures)
+returns c = did-both
+    (did-both
+    (did-both (c .before .before .before .before .before .before .before .before .before .before .before .before .before .before .before .program .ensures)
+    (c .before .before .before .before .before .before .before .before .before .before .before .program2 .ensures)) (rw (c .before .before .before .before .before .before .before .before .before .before .before .before .before .before .before .before .before .four-of .ensures) at (c .before .before .before .before .before .before .write-bytes .ensures)))
+    (c .before .before .set-status .ensures)
 
 pub write-header-spec : {M : Type 1} → statement M
 write-header-spec =

@@ -1,3 +1,4 @@
+-- The phases one after another.
 use Rattle.writing.specs.Steps.{length-bytes}
 use Rattle.flash.specs.Did.{did-both}
 use native.Mathlib.Omega.{arith}

@@ -1,3 +1,4 @@
+-- What was done to the part is done to the image, further on.
 use Rattle.flash.specs.Did.{did-tail}
 use native.Mathlib.Omega.{arith}
 use borrow.Author.Needs.{needs}

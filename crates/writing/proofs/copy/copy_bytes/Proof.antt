@@ -1,3 +1,4 @@
+-- The invariant: the steps of the first i bytes are done; the next byte to read is still as it was at entry.
 use Rattle.writing.specs.Kept.{length-part}
 use Rattle.writing.specs.Copied.{copy-more}
 use Prim.Native.Nat.{_-_, _≤_}
@@ -31,7 +32,12 @@ add-program : tie.Need-add-program Inv-loop μ-loop
 add-program c = search needs
 
 program-requires : tie.Need-program-requires Inv-loop μ-loop
-program-requires c κs = let a = c .before .before .before .before .before .args in let i = c .before .before .before .loop .i in let w = take (a .n) (drop (a .from) (a .image .now)) in let l : length w ≡ a .n = length-part (a .from) (a .n) (a .image .now) (omega arith) in omega (arith, length-bytes (a .to) (take i w), length-take-le i w (omega arith))
+program-requires c κs =
+    let a = c .before .before .before .before .before .args in
+    let i = c .before .before .before .loop .i in
+    let w = take (a .n) (drop (a .from) (a .image .now)) in
+    let l : length w ≡ a .n = length-part (a .from) (a .n) (a .image .now) (omega arith) in
+    omega (arith, length-bytes (a .to) (take i w), length-take-le i w (omega arith))
 
 add-i : tie.Need-add-i Inv-loop μ-loop
 add-i c = search needs
@@ -40,13 +46,25 @@ loop-less : tie.Need-loop-less Inv-loop μ-loop
 loop-less c = search needs
 
 loop-again : tie.Need-loop-again Inv-loop μ-loop
-loop-again c = let a = c .before .before .before .before .before .before .before .before .args in (omega arith, omega arith, copy-more (a .from) (a .to) (a .n) (c .before .before .before .before .before .before .loop .i) (c .before .before .before .before .before .before .before .before .pre .2) (omega arith) (omega arith) (c .before .before .before .before .before .before .loop .inv .2) (c .before .before .program .ensures))
+loop-again c =
+    let a = c .before .before .before .before .before .before .before .before .args in (
+      omega arith,
+      omega arith,
+      copy-more (a .from) (a .to) (a .n)
+          (c .before .before .before .before .before .before .loop .i)
+          (c .before .before .before .before .before .before .before .before .pre .2) (omega arith) (omega arith)
+          (c .before .before .before .before .before .before .loop .inv .2)
+          (c .before .before .program .ensures),
+    )
 
 same-length : tie.Need-same-length Inv-loop μ-loop
 same-length c = search needs
 
 returns : tie.Need-returns Inv-loop μ-loop
-returns c = let a = c .before .before .before .args in let w = take (a .n) (drop (a .from) (a .image .now)) in rw (take-all (c .before .loop .i) w (omega (arith, length-part (a .from) (a .n) (a .image .now) (omega arith)))) at (c .before .loop .inv .2)
+returns c =
+    let a = c .before .before .before .args in
+    let w = take (a .n) (drop (a .from) (a .image .now)) in
+    rw (take-all (c .before .loop .i) w (omega (arith, length-part (a .from) (a .n) (a .image .now) (omega arith)))) at (c .before .loop .inv .2)
 
 pub copy-bytes-spec : {M : Type 1} → statement M
 copy-bytes-spec =

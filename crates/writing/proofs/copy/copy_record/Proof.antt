@@ -1,3 +1,4 @@
+-- Each phase leaves the record that is copied as it was.
 use Rattle.spec.specs.Record.{size-of}
 use Prim.Native.Nat.{_+_}
 use Rattle.writing.specs.Kept.{off-part}

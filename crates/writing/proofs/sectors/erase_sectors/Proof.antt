@@ -1,3 +1,4 @@
+-- The invariant: the first i sectors are erased.
 use Rattle.writing.specs.Starts.{starts, starts-all, erase-more, erase-count}
 use Rattle.flash.specs.Did.{Did, did-none, did-both}
 use Rattle.spec.specs.Step.{erase}
@@ -38,7 +39,14 @@ loop-less : tie.Need-loop-less Inv-loop μ-loop
 loop-less c = search needs
 
 loop-again : tie.Need-loop-again Inv-loop μ-loop
-loop-again c = (omega arith, omega arith, rw (erase-more (c .before .before .before .before .before .loop .i) (c .before .before .before .before .before .before .before .args .from)) (did-both (c .before .before .before .before .before .loop .inv .2) (c .before .before .erase .ensures)))
+loop-again c = (
+  omega arith,
+  omega arith,
+  rw (erase-more (c .before .before .before .before .before .loop .i)
+      (c .before .before .before .before .before .before .before .args .from))
+      (did-both (c .before .before .before .before .before .loop .inv .2)
+      (c .before .before .erase .ensures)),
+)
 
 same-length : tie.Need-same-length Inv-loop μ-loop
 same-length c = search needs

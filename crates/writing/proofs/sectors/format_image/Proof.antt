@@ -1,3 +1,4 @@
+-- The phases one after another.
 use Rattle.writing.specs.Starts.{sectors-count}
 use Rattle.flash.specs.Did.{did-both}
 use Rattle.spec.specs.Write.{format-steps}

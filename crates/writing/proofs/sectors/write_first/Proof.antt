@@ -1,3 +1,4 @@
+-- The phases one after another.
 use Rattle.flash.specs.Did.{did-both}
 use borrow.Author.Needs.{needs}
 use Rattle.writing.proofs.sectors.write_first.Statement.{statement}
@@ -22,7 +23,10 @@ same-length : tie.Need-same-length
 same-length c = search needs
 
 returns : tie.Need-returns
-returns c = did-both (c .before .before .before .before .before .before .before .before .before .before .before .before .before .before .write-bytes .ensures) (did-both (c .before .before .before .before .before .before .before .before .before .before .set-status .ensures) (did-both (c .before .before .before .before .before .before .program .ensures) (c .before .before .program2 .ensures)))
+returns c = did-both (c .before .before .before .before .before .before .before .before .before .before .before .before .before .before .write-bytes .ensures)
+    (did-both (c .before .before .before .before .before .before .before .before .before .before .set-status .ensures)
+    (did-both (c .before .before .before .before .before .before .program .ensures)
+    (c .before .before .program2 .ensures)))
 
 pub write-first-spec : {M : Type 1} → statement M
 write-first-spec =
