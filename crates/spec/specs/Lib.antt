@@ -10,6 +10,7 @@ pub mod Chain
 pub mod Files
 pub mod Reading
 pub mod Place
+pub mod Placed
 pub mod Write
 pub mod Move
 pub mod Mount

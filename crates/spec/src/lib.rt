@@ -1,6 +1,9 @@
 // Document 01 as definitions (specs/), and the types and named bytes that all layers share.
 // Nothing here reads or writes an image; the layers above are proved against what stands here.
 ghost use mathlib.Core.Path.{_≡_};
+ghost use Rattle.spec.specs.Reading.{limit};
+ghost use Rattle.spec.specs.Place.{fits-at-tail};
+ghost use Rattle.spec.specs.Placed.{placed, with-tail};
 
 // What the first four bytes say of what stands there.
 pub enum Kind {
@@ -37,6 +40,63 @@ pub struct Place {
     pub tail: usize,
     pub turned: bool,
     pub length: usize,
+}
+
+// A size placed: its address, whether a wrap marker goes to the tail before it, and the place after it. Or it doesn't fit.
+pub enum Placed {
+    At(usize, bool, Place),
+    Full,
+}
+
+impl Place {
+    // Where the stretch of the free run that begins at the tail ends.
+    fn limit(self) -> usize
+        ensures { λ r. ⌜ r ≡ limit self ⌝ }
+    {
+        if self.turned {
+            return self.head / SECTOR * SECTOR;
+        }
+        self.length
+    }
+
+    // Whether the size fits at the tail. Any size may be asked for: nothing here wraps.
+    fn fits_at_tail(self, size: usize) -> bool
+        ensures { λ r. ⌜ r ≡ fits-at-tail self size ⌝ }
+    {
+        let end = self.limit();
+        if end < self.tail {
+            return false;
+        }
+        size <= end - self.tail
+    }
+
+    // At the tail if it fits there; before the turn also at 0, up to the head's sector.
+    pub fn after(self, size: usize) -> Placed
+        ensures { λ r. ⌜ r ≡ placed self size ⌝ }
+    {
+        if self.fits_at_tail(size) {
+            return Placed::At(self.tail, false, self.moved(self.tail + size, self.turned));
+        }
+        if self.turned {
+            return Placed::Full;
+        }
+        if size <= self.head / SECTOR * SECTOR {
+            return Placed::At(0, self.tail < self.length, self.moved(size, true));
+        }
+        Placed::Full
+    }
+
+    // The same with another tail.
+    fn moved(self, tail: usize, turned: bool) -> Place
+        ensures { λ r. ⌜ r ≡ with-tail self tail turned ⌝ }
+    {
+        Place {
+            head: self.head,
+            tail: tail,
+            turned: turned,
+            length: self.length,
+        }
+    }
 }
 
 // A record's status byte.

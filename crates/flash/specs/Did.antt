@@ -1,0 +1,108 @@
+-- What a function that writes did: a list of steps, as many of them as the allowance let through.
+use Prim.Native.Nat.{ℕ, zero, suc, _+_, _-_, _≤_, _<_}
+use native.Mathlib.Omega.{arith}
+use native.Mathlib.Nat.{add-zero, sub-zero, zero-sub}
+use mathlib.Core.Path.{_≡_, refl, sym, ap, ap₂, _∙_}
+use mathlib.Core.List.{List, [], _∷_, _++_, append-nil, append-assoc}
+use lib.ListN.{length, take, drop, set, length-append, take-append-drop, drop-of-length-le, length-drop}
+use lib.Seq.{length-take-le, take-nil, take-all, take-append-add, drop-append-add}
+use borrow.Rule.Slice.PartMut.{putMid}
+use borrow.Rule.Slice.PartAt.{part-to-end}
+use Rattle.spec.specs.Step.{Image, Step, program, erase, sector, apply, run, moved}
+use Rattle.flash.specs.declared.Meter.{Meter}
+
+-- from the image s and the meter m, the steps ss gave the image t and the meter r
+pub record Did (s : Image) (m : Meter) (ss : List Step) (t : Image) (r : Meter) : Type 0 where
+  pub bytes : t ≡ run s (take (m .allowance - m .asked) ss)
+  pub count : r .asked ≡ m .asked + length ss
+  pub same : r .allowance ≡ m .allowance
+
+-- ---- one step, within the allowance and past it
+
+pub one-in : (s : Image) (k : ℕ) (x : Step) → 0 < k → apply s x ≡ run s (take k (x ∷ []))
+one-in s zero x h = absurd (omega arith)
+one-in s (suc k) x h = ap (run (apply s x)) (sym (take-nil k))
+
+pub one-out : (s : Image) (k : ℕ) (x : Step) → k ≡ 0 → s ≡ run s (take k (x ∷ []))
+one-out s k x h = rw h
+
+-- ---- phases
+
+run-cut : (s : Image) (k : ℕ) (a b : List Step) → run s (take k (a ++ b)) ≡ run (run s (take k a)) (take (k - length a) b)
+run-cut s k [] b = rw (take-nil, sub-zero k)
+run-cut s zero (x ∷ a) b = rw zero-sub
+run-cut s (suc k) (x ∷ a) b =
+    let e : k - length a ≡ suc k - suc (length a) = omega arith in
+    run-cut (apply s x) k a b ∙ ap (λ (i : ℕ). run (run (apply s x) (take k a)) (take i b)) e
+
+pub did-none : (s : Image) (m : Meter) → Did s m [] s m
+did-none s m = record { bytes = ap (run s) (sym (take-nil (m .allowance - m .asked))); count = sym (add-zero (m .asked)); same = refl }
+
+-- one phase after another
+pub did-both : {s t u : Image} {m r q : Meter} {a b : List Step} → Did s m a t r → Did t r b u q → Did s m (a ++ b) u q
+did-both {s} {t} {u} {m} {r} {q} {a} {b} d e =
+    let n : m .allowance - (m .asked + length a) ≡ m .allowance - m .asked - length a = omega arith in
+    record {
+      bytes =
+          e .bytes
+          ∙ rw (d .same, d .count, d .bytes)
+          (ap (λ (i : ℕ). run (run s (take (m .allowance - m .asked) a)) (take i b)) n ∙ sym (run-cut s (m .allowance - m .asked) a b));
+      count = omega (arith, length-append a b);
+      same = e .same ∙ d .same;
+    }
+
+-- no more steps asked for than allowed: all are done
+pub did-all : {s t : Image} {m r : Meter} {ss : List Step} → Did s m ss t r → r .asked ≤ r .allowance → t ≡ run s ss
+did-all {s} {t} {m} {r} {ss} d h =
+    d .bytes ∙ ap (run s) (take-all (m .allowance - m .asked) ss (omega (arith, d .count, d .same)))
+
+-- and only then: whether all are done is read off the meter
+pub did-within : {s t : Image} {m r : Meter} {ss : List Step} → Did s m ss t r → m .asked + length ss ≤ m .allowance → r .asked ≤ r .allowance
+did-within d h = omega (arith, d .count, d .same)
+
+-- ---- a part that begins at address a
+
+take-moved : (k a : ℕ) (ss : List Step) → take k (moved a ss) ≡ moved a (take k ss)
+take-moved zero a ss = refl
+take-moved (suc k) a [] = refl
+take-moved (suc k) a (program i b ∷ ss) = ap (λ (l : List Step). program (a + i) b ∷ l) (take-moved k a ss)
+take-moved (suc k) a (erase i ∷ ss) = ap (λ (l : List Step). erase (a + i) ∷ l) (take-moved k a ss)
+
+pub length-moved : (a : ℕ) (ss : List Step) → length (moved a ss) ≡ length ss
+length-moved a [] = refl
+length-moved a (program i b ∷ ss) = ap suc (length-moved a ss)
+length-moved a (erase i ∷ ss) = ap suc (length-moved a ss)
+
+pub set-past : (p q : List ℕ) (i b : ℕ) → set (p ++ q) (length p + i) b ≡ p ++ set q i b
+set-past [] q i b = let e : 0 + i ≡ i = omega arith in rw e
+set-past (x ∷ p) q i b =
+    let e : suc (length p) + i ≡ suc (length p + i) = omega arith in
+    rw e (ap (λ (l : List ℕ). x ∷ l) (set-past p q i b))
+
+erase-past : (p q : List ℕ) (i : ℕ) → apply (p ++ q) (erase (length p + i)) ≡ p ++ apply q (erase i)
+erase-past p q i = rw (take-append-add, drop-append-add) (append-assoc p (take i q) (sector ++ drop 4096 (drop i q)))
+
+run-past : (p q : List ℕ) (ss : List Step) → run (p ++ q) (moved (length p) ss) ≡ p ++ run q ss
+run-past p q [] = refl
+run-past p q (program i b ∷ ss) = ap (λ (l : List ℕ). run l (moved (length p) ss)) (set-past p q i b) ∙ run-past p (set q i b) ss
+run-past p q (erase i ∷ ss) = ap (λ (l : List ℕ). run l (moved (length p) ss)) (erase-past p q i) ∙ run-past p (apply q (erase i)) ss
+
+run-part : (s : Image) (a : ℕ) (ss : List Step) → a ≤ length s → run s (moved a ss) ≡ take a s ++ run (drop a s) ss
+run-part s a ss h =
+    ap₂ (λ (l : List ℕ) (n : ℕ). run l (moved n ss)) (sym (take-append-drop a s)) (sym (length-take-le a s h)) ∙ run-past (take a s) (drop a s) ss
+
+did-part : (s : Image) (a : ℕ) {t : Image} {m r : Meter} {ss : List Step} → a ≤ length s → Did (drop a s) m ss t r → Did s m (moved a ss) (take a s ++ t) r
+did-part s a {t} {m} {r} {ss} h d =
+    let k : ℕ = m .allowance - m .asked in
+    record {
+      bytes = ap (λ (l : List ℕ). take a s ++ l) (d .bytes) ∙ sym (ap (run s) (take-moved k a ss) ∙ run-part s a (take k ss) h);
+      count = d .count ∙ ap (λ (i : ℕ). m .asked + i) (sym (length-moved a ss));
+      same = d .same;
+    }
+
+-- what was done to the part lent as `&mut s[a..]`, as steps of the whole
+pub did-tail : (s : Image) (a : ℕ) {t : Image} {m r : Meter} {ss : List Step} → a ≤ length s
+    → Did (take (length s - a) (drop a s)) m ss t r → Did s m (moved a ss) (putMid a (length s - a) s t) r
+did-tail s a {t} {m} {r} {ss} h d =
+    let e : drop (length s - a) (drop a s) ≡ [] = drop-of-length-le (drop a s) {i = length s - a} (omega (arith, length-drop a s)) in
+    rw (e, append-nil t) (did-part s a h (rw (part-to-end s a) at d))

@@ -1,0 +1,4 @@
+pub mod Within
+pub mod Suffix
+pub mod NameLaws
+pub mod NextLaws

@@ -1,0 +1,79 @@
+-- The end of a name, and the name check, one byte at a time.
+use Prim.Native.Nat.{ℕ, zero, suc, _+_, _-_, _≤_, _<_}
+use native.Mathlib.Omega.{arith}
+use mathlib.Core.Path.{_≡_, refl}
+use mathlib.Core.Bool.{Bool, true, false}
+use mathlib.Core.List.{List, [], _∷_}
+use lib.ListN.{length, drop, getD, drop-of-length-le}
+use lib.Dec.{eqb}
+use borrow.Author.Tests.{le-leb, lt-leb}
+use Rattle.spec.specs.Basics.{all}
+use Rattle.spec.specs.Bytes.{ends-name, is-printable, is-slash}
+use Rattle.spec.specs.Record.{name-length, ends-in-slash, name-ok}
+use Rattle.record.specs.Suffix.{drop-next}
+
+-- ---- the end of a name, with n bytes of the window left: past the part, at an end, at another byte, past the window
+
+pub name-end : (n : ℕ) (held : Bool) (s : List ℕ) (i : ℕ) → length s ≤ i → name-length n held (drop i s) ≡ n
+unfolding name-length
+name-end zero held s i h = refl
+name-end (suc k) held s i h = rw (drop-of-length-le s h)
+
+module _ (n k : ℕ) (held : Bool) (s : List ℕ) (i : ℕ) (e : n ≡ suc k) (h : i < length s) where
+  pub name-hit : ends-name held (getD s i 0) ≡ true → name-length n held (drop i s) ≡ 0
+  unfolding name-length
+  name-hit q = rw (e, drop-next s i h, q, name-length)
+
+  pub name-miss : ends-name held (getD s i 0) ≡ false → name-length n held (drop i s) ≡ suc (name-length k held (drop (i + 1) s))
+  unfolding name-length
+  name-miss q = rw (e, drop-next s i h, q, name-length)
+
+pub name-out : (n : ℕ) (held : Bool) (s : List ℕ) → n ≡ 0 → name-length n held s ≡ 0
+unfolding name-length
+name-out n held s e = rw e
+
+-- ---- a test of every byte
+
+module _ (p : ℕ → Bool) (s : List ℕ) (i : ℕ) where
+  pub all-next : i < length s → p (getD s i 0) ≡ true → all p (drop i s) ≡ all p (drop (i + 1) s)
+  all-next h q = rw (drop-next s i h, q, all)
+
+  pub all-stop : i < length s → p (getD s i 0) ≡ false → all p (drop i s) ≡ false
+  all-stop h q = rw (drop-next s i h, q, all)
+
+  pub all-over : length s ≤ i → all p (drop i s) ≡ true
+  all-over h = rw (drop-of-length-le s h)
+
+-- ---- the last byte
+
+pub slash-last : (n : List ℕ) → 0 < length n → eqb (getD n (length n - 1) 0) 0x2F ≡ ends-in-slash n
+unfolding ends-in-slash is-slash
+slash-last [] h = absurd (omega arith)
+slash-last (b ∷ []) h = refl
+slash-last (b ∷ (c ∷ s)) h =
+    let e : suc (suc (length s)) - 1 ≡ suc (suc (length s) - 1) = omega arith in
+    rw e (slash-last (c ∷ s) (omega arith))
+
+-- ---- the whole check, as the code goes through it
+
+module _ (n : List ℕ) where
+  pub ok-empty : length n < 1 → false ≡ name-ok n
+  unfolding name-ok
+  ok-empty h = rw (name-ok, lt-leb 1 (length n) h)
+
+  pub ok-long : 1 ≤ length n → 63 < length n → false ≡ name-ok n
+  unfolding name-ok
+  ok-long l h = rw (name-ok, le-leb 1 (length n) l, lt-leb (length n) 63 h)
+
+  module _ (l : 1 ≤ length n) (h : length n ≤ 63) where
+    pub ok-byte : all is-printable n ≡ false → false ≡ name-ok n
+    unfolding name-ok
+    ok-byte p = rw (name-ok, le-leb 1 (length n) l, le-leb (length n) 63 h, p)
+
+    pub ok-slash : all is-printable n ≡ true → ends-in-slash n ≡ true → false ≡ name-ok n
+    unfolding name-ok
+    ok-slash p q = rw (name-ok, le-leb 1 (length n) l, le-leb (length n) 63 h, p, q)
+
+    pub ok-good : all is-printable n ≡ true → ends-in-slash n ≡ false → true ≡ name-ok n
+    unfolding name-ok
+    ok-good p q = rw (name-ok, le-leb 1 (length n) l, le-leb (length n) 63 h, p, q)

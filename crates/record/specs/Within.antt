@@ -1,0 +1,12 @@
+-- A record that was read lies within the l bytes it was read from.
+use Prim.Native.Nat.{ℕ, _≤_, _<_, _^_}
+use Rattle.spec.specs.declared.Next.{Next}
+use Rattle.spec.specs.Record.{size-of}
+
+abbrev pub Within : Next → ℕ → Type 0
+Within (Next.Record n d) l = (n < 64) × (size-of n d ≤ l) × (d < 2 ^ 32)
+Within Next.Wrap l = Unit {0}
+Within Next.TornWrap l = Unit {0}
+Within Next.Clear l = Unit {0}
+Within Next.Over l = Unit {0}
+Within Next.Bad l = Unit {0}

@@ -1,0 +1,16 @@
+-- By the turn.
+use borrow.Author.Needs.{needs}
+use Rattle.spec.proofs.Place.limit.Statement.{statement}
+use Rattle.spec.proofs.Place.limit.Tie as tie
+
+mul-result : tie.Need-mul-result
+mul-result c = search needs
+
+returns : tie.Need-returns
+returns c = rw (c .before .if1 .taken)
+
+returns-2 : tie.Need-returns-2
+returns-2 c = search needs
+
+pub limit-spec : {M : Type 1} → statement M
+limit-spec = tie.close (tie.spec mul-result returns returns-2)

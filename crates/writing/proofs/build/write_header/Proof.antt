@@ -1,0 +1,56 @@
+-- The phases one after another; the four length bytes are those that four_of gives.
+use lib.ListN.{length}
+use mathlib.Core.Path.{ap}
+use Rattle.spec.specs.Step.{bytes-at}
+use mathlib.Core.List.{List}
+use Prim.Native.Nat.{ℕ}
+use Rattle.flash.specs.Did.{did-both}
+use native.Mathlib.Omega.{arith}
+use borrow.Author.Needs.{needs}
+use Rattle.writing.proofs.build.write_header.Statement.{statement}
+use Rattle.writing.proofs.build.write_header.Tie as tie
+
+four-of-requires : tie.Need-four-of-requires
+four-of-requires c κs = search needs
+
+program-requires : tie.Need-program-requires
+program-requires c κs = search needs
+
+program-requires-2 : tie.Need-program-requires-2
+program-requires-2 c κs = search needs
+
+slice-aggregate-write-bytes : tie.Need-slice-aggregate-write-bytes
+slice-aggregate-write-bytes c = search needs
+
+write-bytes-requires : tie.Need-write-bytes-requires
+write-bytes-requires c κs = search needs
+
+set-status-requires : tie.Need-set-status-requires
+set-status-requires c κs = omega (
+  arith,
+  ap (λ (l : List ℕ). length (bytes-at 4 l))
+      (c .before .before .before .before .before .before .before .before .before .before .before .before .before .before .four-of .ensures),
+)
+
+same-length : tie.Need-same-length
+same-length c = search needs
+
+returns : tie.Need-returns
+returns c = did-both
+    (did-both
+    (did-both (c .before .before .before .before .before .before .before .before .before .before .before .before .before .before .before .program .ensures)
+    (c .before .before .before .before .before .before .before .before .before .before .before .program2 .ensures)) (rw (c .before .before .before .before .before .before .before .before .before .before .before .before .before .before .before .before .before .four-of .ensures) at (c .before .before .before .before .before .before .write-bytes .ensures)))
+    (c .before .before .set-status .ensures)
+
+pub write-header-spec : {M : Type 1} → statement M
+write-header-spec =
+    tie.close
+    (tie.spec
+    four-of-requires
+    program-requires
+    program-requires-2
+    slice-aggregate-write-bytes
+    write-bytes-requires
+    set-status-requires
+    same-length
+    returns)

@@ -1,0 +1,26 @@
+-- The phases one after another.
+use Rattle.writing.specs.Steps.{length-bytes}
+use Rattle.flash.specs.Did.{did-both}
+use native.Mathlib.Omega.{arith}
+use borrow.Author.Needs.{needs}
+use Rattle.writing.proofs.build.write_name.Statement.{statement}
+use Rattle.writing.proofs.build.write_name.Tie as tie
+
+write-bytes-requires : tie.Need-write-bytes-requires
+write-bytes-requires c κs = search needs
+
+add-program : tie.Need-add-program
+add-program c = search needs
+
+program-requires : tie.Need-program-requires
+program-requires c κs = omega (arith, length-bytes 8 (c .before .before .before .before .before .before .before .args .name .now))
+
+same-length : tie.Need-same-length
+same-length c = search needs
+
+returns : tie.Need-returns
+returns c = did-both (c .before .before .before .before .before .before .write-bytes .ensures) (c .before .before .program .ensures)
+
+pub write-name-spec : {M : Type 1} → statement M
+write-name-spec =
+    tie.close (tie.spec write-bytes-requires add-program program-requires same-length returns)
