@@ -1,0 +1,4 @@
+pub mod HeadLaws
+pub mod Cursor
+pub mod CursorLaws
+pub mod Rest
