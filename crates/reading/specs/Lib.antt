@@ -2,3 +2,4 @@ pub mod HeadLaws
 pub mod Cursor
 pub mod CursorLaws
 pub mod Rest
+pub mod Bridge
