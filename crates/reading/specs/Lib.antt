@@ -3,3 +3,6 @@ pub mod Cursor
 pub mod CursorLaws
 pub mod Rest
 pub mod Bridge
+pub mod Fold
+pub mod FileLaws
+pub mod Seek

@@ -2,6 +2,7 @@
 // Everything here only looks, and nothing passes over data bytes but the check of the free run.
 mod head;
 mod chain;
+mod files;
 ghost use mathlib.Core.Path.{_≡_};
 
 // The head's address, or the refusal's number.
@@ -20,11 +21,23 @@ pub struct Cursor {
     pub held: bool,
 }
 
-// What stands at a cursor: a record with its address, the lengths of name and data, and the cursor past it; or how the chain ends,
-// with the address and whether the chain had turned.
+// Where a record stands, with its n name bytes and d data bytes.
+pub struct Spot {
+    pub at: usize,
+    pub n: usize,
+    pub d: usize,
+}
+
+// What stands at a cursor: a record, with the cursor past it; or how the chain ends, with the address and whether it had turned.
 pub enum Step {
-    Record(usize, usize, usize, Cursor),
+    Record(Spot, Cursor),
     End(usize, bool),
     TornWrap(usize),
     Broken(usize, bool),
+}
+
+// What is looked for among the files.
+pub enum Found {
+    At(Spot),
+    Nothing,
 }
