@@ -6,3 +6,4 @@ pub mod Bridge
 pub mod Fold
 pub mod FileLaws
 pub mod Seek
+pub mod Tally

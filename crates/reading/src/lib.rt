@@ -3,7 +3,9 @@
 mod head;
 mod chain;
 mod files;
-ghost use mathlib.Core.Path.{_≡_};
+mod scan;
+use spec::Ending;
+use spec::Place;
 
 // The head's address, or the refusal's number.
 pub enum Headed {
@@ -40,4 +42,36 @@ pub enum Step {
 pub enum Found {
     At(Spot),
     Nothing,
+}
+
+// What one pass over the chain tells: how many records there are; the first, the second and the last of them;
+// whether every FC or F8 record with a name has a good one; whether a START or CLEAN stands behind the second record;
+// whether the last record is unfinished.
+pub struct Tally {
+    pub records: usize,
+    pub first: Spot,
+    pub second: Spot,
+    pub last: Spot,
+    pub fine: bool,
+    pub further: bool,
+    pub held: bool,
+}
+
+// The tally of a whole chain, and how the chain ends.
+pub struct Pass {
+    pub tally: Tally,
+    pub end: Step,
+}
+
+// All that the calls go by: head, tail and turn; how the chain ends; the tally.
+pub struct Survey {
+    pub place: Place,
+    pub ending: Ending,
+    pub tally: Tally,
+}
+
+// What an image reads as, or the refusal's number.
+pub enum Read {
+    Good(Survey),
+    Refused(u32),
 }
