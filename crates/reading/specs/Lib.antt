@@ -7,3 +7,6 @@ pub mod Fold
 pub mod FileLaws
 pub mod Seek
 pub mod Tally
+pub mod Faithful
+pub mod TallyLaws
+pub mod NamesLaw
