@@ -10,3 +10,4 @@ pub mod Tally
 pub mod Faithful
 pub mod TallyLaws
 pub mod NamesLaw
+pub mod SettledLaws
