@@ -11,3 +11,6 @@ pub mod Faithful
 pub mod TallyLaws
 pub mod NamesLaw
 pub mod SettledLaws
+pub mod FreeLaws
+pub mod Read
+pub mod RuleLaws

@@ -114,7 +114,7 @@ fn none_yet() -> Tally
 }
 
 // The one pass over the chain.
-fn pass(image: &[u8], start: Cursor) -> Pass
+pub fn pass(image: &[u8], start: Cursor) -> Pass
     requires { ⌜ Sound (now image) start × (16 ≤ length (now image)) ⌝ }
     ensures { λ r. ⌜ (r ≡ passed none-yet (rest (now (image .entry)) start)) × Spots (now (image .entry)) (r .tally) ⌝ }
 {
