@@ -14,3 +14,4 @@ pub mod SettledLaws
 pub mod FreeLaws
 pub mod Read
 pub mod RuleLaws
+pub mod ReadLaws

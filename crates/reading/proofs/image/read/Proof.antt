@@ -1,3 +1,7 @@
+use mathlib.Core.Path.{_≡_, refl, sym, ap, ap₂, subst, _∙_}
+use mathlib.Core.Bool.{Bool, true, false}
+use Rattle.reading.specs.RuleLaws.{open-is, unsettled-1, unsettled-2, unsettled-3, unsettled-wrap, settled-but, reading-by, reading-refused}
+use Rattle.reading.specs.HeadLaws.{headed}
 use borrow.Author.Needs.{needs}
 use Rattle.reading.proofs.image.read.Statement.{statement}
 use Rattle.reading.proofs.image.read.Tie as tie
@@ -6,29 +10,23 @@ use Rattle.reading.proofs.image.read.Lts as lts
 use Rattle.reading.proofs.head.head.Reads as head-reads
 use Rattle.reading.proofs.image.read_from.Reads as read-from-reads
 
--- src/image.rt:96:9
 head-requires : tie.Need-head-requires
 head-requires c κs = search needs
 
--- src/image.rt:98:20
 enum-known-x : tie.Need-enum-known-x
 enum-known-x c = search needs
 
--- src/image.rt:98:26
 read-from-requires : tie.Need-read-from-requires
-read-from-requires c κs = ?
+read-from-requires c κs = (rw (c .before .x .given .1) at (c .before .before .before .head .ensures .1), c .before .before .before .before .before .pre .0, c .before .before .before .before .before .pre .1)
 
--- src/image.rt:99:25
 enum-known-x-2 : tie.Need-enum-known-x-2
 enum-known-x-2 c = search needs
 
--- src/image.rt:92:1
 returns : tie.Need-returns
-returns c = ?
+returns c = (c .read-from .ensures .0 ∙ reading-by (c .before .before .before .before .before .before .args .image .now) (c .before .before .x .given .0 .0) (sym (ap headed (c .before .before .x .given .1)) ∙ c .before .before .before .before .head .ensures .0), c .read-from .ensures .1)
 
--- src/image.rt:92:1
 returns-2 : tie.Need-returns-2
-returns-2 c = ?
+returns-2 c = (reading-refused (c .before .before .before .before .before .args .image .now) (c .before .x2 .given .0 .0) (sym (ap headed (c .before .x2 .given .1)) ∙ c .before .before .before .head .ensures .0), tt)
 
 pub read-spec : {M : Type 1} → statement M
 read-spec =

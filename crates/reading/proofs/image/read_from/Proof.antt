@@ -1,3 +1,11 @@
+use mathlib.Core.Path.{_≡_, refl, sym, ap, ap₂, subst, _∙_}
+use mathlib.Core.Bool.{Bool, true, false}
+use Rattle.reading.specs.Read.{Tallied, first-cursor, reading-of, Surveyed, answered, Told}
+use Rattle.reading.specs.ReadLaws.{first-sound, read-as, surveyed, read-broken, read-record, settled-none, settled-by}
+use Rattle.spec.specs.Chain.{Reading}
+use Rattle.spec.specs.Reading.{judged}
+use Rattle.reading.specs.declared.Step.{Step}
+use native.Mathlib.Omega.{arith}
 use borrow.Author.Needs.{needs}
 use Rattle.reading.proofs.image.read_from.Statement.{statement}
 use Rattle.reading.proofs.image.read_from.Tie as tie
@@ -7,53 +15,41 @@ use Rattle.reading.proofs.image.first_cursor.Reads as first-cursor-read
 use Rattle.reading.proofs.image.judged.Reads as judged-reads
 use Rattle.reading.proofs.scan.pass.Reads as pass-reads
 
--- src/image.rt:47:9
 first-cursor-requires : tie.Need-first-cursor-requires
 first-cursor-requires c κs = search needs
 
--- src/image.rt:48:9
 pass-requires : tie.Need-pass-requires
-pass-requires c κs = ?
+pass-requires c κs = (rw (c .first-cursor .ensures) (first-sound (c .before .before .args .image .now) (c .before .before .args .h) (c .before .before .pre .0) (c .before .before .pre .2)), c .before .before .pre .1)
 
--- src/image.rt:52:31
 enum-told : tie.Need-enum-told
 enum-told c = search needs
 
--- src/image.rt:53:19
 enum-known-end : tie.Need-enum-known-end
 enum-known-end c = search needs
 
--- src/image.rt:60:13
 judged-requires : tie.Need-judged-requires
-judged-requires c κs = ?
+judged-requires c κs = (surveyed (c .before .before .before .before .before .before .before .args .image .now) (c .before .before .before .before .before .before .before .args .h) (c .before .before .before .before .before .before .before .pre .0) (c .before .before .before .before .before .first-cursor .result) (c .before .before .before .before .pass .result) (c .before .before .before .before .before .first-cursor .ensures) (c .before .before .before .before .pass .ensures .0) _ (c .before .before .before .before .before .before .before .pre .2) (c .before .before .before .before .pass .ensures .1) refl refl (rw (c .before .end .given .1) at (c .before .before .before .before .pass .ensures .2)) refl, c .before .before .before .before .before .first-cursor .ensures, refl)
 
--- src/image.rt:70:24
 enum-known-end-2 : tie.Need-enum-known-end-2
 enum-known-end-2 c = search needs
 
--- src/image.rt:77:13
 judged-requires-2 : tie.Need-judged-requires-2
-judged-requires-2 c κs = ?
+judged-requires-2 c κs = (surveyed (c .before .before .before .before .before .before .before .args .image .now) (c .before .before .before .before .before .before .before .args .h) (c .before .before .before .before .before .before .before .pre .0) (c .before .before .before .before .before .first-cursor .result) (c .before .before .before .before .pass .result) (c .before .before .before .before .before .first-cursor .ensures) (c .before .before .before .before .pass .ensures .0) _ (c .before .before .before .before .before .before .before .pre .2) (c .before .before .before .before .pass .ensures .1) refl refl (omega arith) refl, c .before .before .before .before .before .first-cursor .ensures, refl)
 
--- src/image.rt:87:31
 enum-told-2 : tie.Need-enum-told-2
 enum-told-2 c = search needs
 
--- src/image.rt:43:1
 returns : tie.Need-returns
-returns c = ?
+returns c = (read-record (c .before .before .before .before .before .before .args .image .now) (c .before .before .before .before .before .before .args .h) (c .before .before .before .before .before .before .pre .0) (c .before .before .before .before .first-cursor .result) (c .before .before .before .pass .result) (c .before .before .before .before .first-cursor .ensures) (c .before .before .before .pass .ensures .0) _ _ (c .enum-told .given .1), tt)
 
--- src/image.rt:43:1
 returns-2 : tie.Need-returns-2
-returns-2 c = ?
+returns-2 c = (c .judged .ensures .0 ∙ ap (judged (c .before .before .before .before .before .before .before .before .args .image .now)) (read-as (c .before .before .before .before .before .before .before .before .args .image .now) (c .before .before .before .before .before .before .before .before .args .h) (c .before .before .before .before .before .before .before .before .pre .0) (c .before .before .before .before .before .before .first-cursor .result) (c .before .before .before .before .before .pass .result) (c .before .before .before .before .before .before .first-cursor .ensures) (c .before .before .before .before .before .pass .ensures .0) _ (c .before .before .end .given .1)), c .judged .ensures .1)
 
--- src/image.rt:43:1
 returns-3 : tie.Need-returns-3
-returns-3 c = ?
+returns-3 c = (c .judged2 .ensures .0 ∙ ap (judged (c .before .before .before .before .before .before .before .before .args .image .now)) (read-as (c .before .before .before .before .before .before .before .before .args .image .now) (c .before .before .before .before .before .before .before .before .args .h) (c .before .before .before .before .before .before .before .before .pre .0) (c .before .before .before .before .before .before .first-cursor .result) (c .before .before .before .before .before .pass .result) (c .before .before .before .before .before .before .first-cursor .ensures) (c .before .before .before .before .before .pass .ensures .0) _ (c .before .before .end2 .given .1)), c .judged2 .ensures .1)
 
--- src/image.rt:43:1
 returns-4 : tie.Need-returns-4
-returns-4 c = ?
+returns-4 c = (read-broken (c .before .before .before .before .before .before .args .image .now) (c .before .before .before .before .before .before .args .h) (c .before .before .before .before .before .before .pre .0) (c .before .before .before .before .first-cursor .result) (c .before .before .before .pass .result) (c .before .before .before .before .first-cursor .ensures) (c .before .before .before .pass .ensures .0) _ _ (c .enum-told2 .given .1), tt)
 
 pub read-from-spec : {M : Type 1} → statement M
 read-from-spec =
