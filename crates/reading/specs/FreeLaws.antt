@@ -1,12 +1,12 @@
 -- The free run, as the code goes through it.
 use Prim.Native.Nat.{ℕ, _+_, _-_, _≤_, _<_, _^_, min}
 use native.Mathlib.Omega.{arith}
-use mathlib.Core.Path.{_≡_, refl, sym, ap, _∙_}
+use mathlib.Core.Path.{_≡_, sym, ap, _∙_}
 use mathlib.Core.Bool.{Bool, true, false}
-use mathlib.Core.List.{List, []}
+use mathlib.Core.List.{List}
 use lib.ListN.{length, take, drop, length-take, drop-of-length-le}
 use Rattle.spec.specs.declared.Place.{Place}
-use Rattle.spec.specs.Basics.{blank, part}
+use Rattle.spec.specs.Basics.{blank}
 use Rattle.spec.specs.Geometry.{floor}
 use Rattle.spec.specs.Reading.{limit, blank-part, free-blank, tail-blank}
 use Rattle.reading.specs.CursorLaws.{part-window}

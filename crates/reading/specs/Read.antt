@@ -1,12 +1,13 @@
 -- What the answers of a reading say in document 01's words.
-use Prim.Native.Nat.{ℕ, _≤_}
+use Prim.Native.Nat.{ℕ}
 use mathlib.Core.Path.{_≡_}
+use mathlib.Core.Bool.{false}
 use mathlib.Core.List.{List}
 use lib.ListN.{length}
-use Rattle.spec.specs.Basics.{Answer, refuse, give}
+use Rattle.spec.specs.Basics.{Answer, refuse, give, any}
 use Rattle.spec.specs.Geometry.{floor}
-use Rattle.spec.specs.Record.{Entry}
 use Rattle.spec.specs.Chain.{Reading}
+use Rattle.spec.specs.Files.{superseded}
 use Rattle.reading.specs.declared.Cursor.{Cursor}
 use Rattle.reading.specs.declared.Tally.{Tally}
 use Rattle.reading.specs.declared.Survey.{Survey}
@@ -43,3 +44,8 @@ pub record Surveyed (image : List ℕ) (s : Survey) : Type 0 where
 abbrev pub Told : List ℕ → Read → Type 0
 Told image (Read.Good s) = Surveyed image s
 Told image (Read.Refused n) = Unit {0}
+
+-- no F8 record has an FC record of its name
+abbrev pub Quiet : List ℕ → Read → Type 0
+Quiet image (Read.Good s) = any (superseded (reading-of image s .entries)) (reading-of image s .entries) ≡ false
+Quiet image (Read.Refused n) = Unit {0}

@@ -1,15 +1,11 @@
 -- From what the pass over the chain found to the definitions' reading.
 use Prim.Native.Nat.{ℕ, _≤_, _^_}
 use native.Mathlib.Omega.{arith}
-use mathlib.Core.Path.{_≡_, refl, sym, ap, subst, _∙_}
-use mathlib.Core.Bool.{Bool, true, false}
+use mathlib.Core.Path.{_≡_, sym, ap, _∙_}
+use mathlib.Core.Bool.{Bool}
 use mathlib.Core.List.{List}
 use lib.ListN.{length}
-use Rattle.spec.specs.declared.Ending.{Ending}
-use Rattle.spec.specs.declared.Place.{Place}
 use Rattle.spec.specs.Basics.{Answer, refuse, give, checked, onward}
-use Rattle.spec.specs.Geometry.{floor}
-use Rattle.spec.specs.Record.{Entry}
 use Rattle.spec.specs.Chain.{Reading, read, reading-from}
 use Rattle.spec.specs.Reading.{whole, judged, reading}
 use Rattle.spec.specs.Mount.{settled}
@@ -17,16 +13,14 @@ use Rattle.spec.specs.Answers.{if-settled, settled-reading}
 use Rattle.reading.specs.declared.Cursor.{Cursor}
 use Rattle.reading.specs.declared.Spot.{Spot}
 use Rattle.reading.specs.declared.Step.{Step}
-use Rattle.reading.specs.declared.Tally.{Tally}
 use Rattle.reading.specs.declared.Pass.{Pass}
 use Rattle.reading.specs.declared.Survey.{Survey}
-use Rattle.reading.specs.declared.Read.{Read}
 use Rattle.reading.specs.Cursor.{Sound}
 use Rattle.reading.specs.Rest.{rest}
 use Rattle.reading.specs.Bridge.{shown, reading-is}
 use Rattle.reading.specs.Tally.{none-yet, passed, Spots}
 use Rattle.reading.specs.RuleLaws.{broken-refused}
-use Rattle.reading.specs.Read.{first-cursor, reading-of, Surveyed, answered, Told}
+use Rattle.reading.specs.Read.{first-cursor, Surveyed}
 
 pub first-sound : (image : List ℕ) (h : ℕ) → h ≤ length image → length image ≤ 2 ^ 24 → Sound image (first-cursor image h)
 first-sound image h l s = record { ordered = l; inside = omega arith; room = omega arith; small = s }

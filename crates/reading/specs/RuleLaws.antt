@@ -1,31 +1,28 @@
 -- The rules of a whole chain, from its tally, as the code goes through them.
-use Prim.Native.Nat.{ℕ, _+_, _≤_, _<_}
+use Prim.Native.Nat.{ℕ, _≤_, _<_}
 use native.Mathlib.Omega.{arith}
 use native.Mathlib.Nat.{zero-add}
-use mathlib.Core.Path.{_≡_, refl, sym, ap, ap₂, subst, _∙_}
+use mathlib.Core.Path.{_≡_, refl, sym, ap, _∙_}
 use mathlib.Core.Bool.{Bool, true, false, _&&_, not}
 use mathlib.Core.List.{List, [], _∷_}
 use lib.ListN.{length}
 use lib.Dec.{eqb}
-use Rattle.spec.specs.declared.Ending.{Ending}
-use Rattle.spec.specs.declared.Place.{Place}
-use Rattle.spec.specs.Basics.{Answer, refuse, give, checked, onward, any, Each}
+use Rattle.spec.specs.Basics.{Answer, refuse, give, onward, any, Each}
 use Rattle.spec.specs.Geometry.{floor}
 use Rattle.spec.specs.Bytes.{is-clean}
 use Rattle.spec.specs.Record.{Entry}
 use Rattle.spec.specs.Head.{head}
 use Rattle.spec.specs.Chain.{Reading, reading-from}
-use Rattle.spec.specs.Files.{live, doubled, superseded}
-use Rattle.spec.specs.Reading.{head-clean, free-blank, tail-blank, free-ok, whole, marked, second-ok, marks-ok, names-ok, single, legal, judged, reading}
+use Rattle.spec.specs.Files.{live, superseded}
+use Rattle.spec.specs.Reading.{head-clean, free-ok, whole, marked, second-ok, marks-ok, names-ok, single, legal, judged, reading}
 use Rattle.spec.specs.Mount.{settled}
-use Rattle.spec.specs.Answers.{if-settled, settled-reading}
 use Rattle.reading.specs.declared.Cursor.{Cursor}
 use Rattle.reading.specs.declared.Spot.{Spot}
 use Rattle.reading.specs.declared.Tally.{Tally}
 use Rattle.reading.specs.Rest.{rest, entry-of}
 use Rattle.reading.specs.Faithful.{Stands, faithful}
-use Rattle.reading.specs.Tally.{none-yet, tally, name-fine}
-use Rattle.reading.specs.TallyLaws.{tally-records, tally-fine, first-is, second-is, clean-few, clean-is, marks-few, marks-are, held-is}
+use Rattle.reading.specs.Tally.{none-yet, tally}
+use Rattle.reading.specs.TallyLaws.{tally-records, tally-fine, second-is, clean-few, clean-is, marks-few, marks-are, held-is}
 use Rattle.reading.specs.NamesLaw.{names-are}
 use Rattle.reading.specs.SettledLaws.{second-marked, last-open, wrap-torn, calm, settled-is}
 use Rattle.reading.specs.FreeLaws.{free-by}
@@ -155,6 +152,19 @@ module _ (image : List ℕ) (r : Reading) where
         pub settled-but : (x : Bool) → wrap-torn (r .ending) ≡ false → any (superseded (r .entries)) (r .entries) ≡ x → not x ≡ settled image r
         unfolding calm
         settled-but x d s = sym (settled-is image r ∙ rw (calm, a, b, c, d, s))
+
+and-last : (a b c d : Bool) → (a && (b && (c && not d))) ≡ true → d ≡ false
+and-last true true true true h = sym h
+and-last true true true false h = refl
+and-last true true false d h = absurd (let z : _≡_ {A = ℕ} 0 1 = cc in omega arith)
+and-last true false c d h = absurd (let z : _≡_ {A = ℕ} 0 1 = cc in omega arith)
+and-last false b c d h = absurd (let z : _≡_ {A = ℕ} 0 1 = cc in omega arith)
+
+pub settled-quiet : (image : List ℕ) (r : Reading) → settled image r ≡ true → any (superseded (r .entries)) (r .entries) ≡ false
+unfolding calm
+settled-quiet image r h =
+    and-last (not (head-clean (r .entries))) (not (second-marked (r .entries))) (not (last-open (r .entries)) && not (wrap-torn (r .ending)))
+    (any (superseded (r .entries)) (r .entries)) (sym (settled-is image r) ∙ h)
 
 -- ---- the whole reading
 

@@ -2,13 +2,12 @@
 -- and one with no step leaves all as it is.
 use Prim.Native.Nat.{ℕ, _+_}
 use native.Mathlib.Omega.{arith}
-use mathlib.Core.Path.{_≡_, refl, sym, ap, _∙_}
-use mathlib.Core.Bool.{Bool, true, false, _&&_, _||_, not}
+use mathlib.Core.Path.{_≡_, refl, ap, _∙_}
+use mathlib.Core.Bool.{Bool, true, false, _&&_, not}
 use mathlib.Core.List.{List, [], _∷_, _++_, map}
-use lib.ListN.{length, getD}
-use lib.Dec.{eqb}
+use lib.ListN.{length}
 use Rattle.spec.specs.declared.Ending.{Ending}
-use Rattle.spec.specs.Step.{Image, Step, program, erase, moved}
+use Rattle.spec.specs.Step.{Image, Step, program, erase}
 use Rattle.spec.specs.Basics.{empty, any, keep}
 use Rattle.spec.specs.Bytes.{is-start, is-clean, is-erased, is-reserved, is-unfinished}
 use Rattle.spec.specs.Record.{Entry, name-of, content-of, data-at}

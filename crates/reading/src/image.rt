@@ -20,7 +20,7 @@ ghost use lib.ListN.{length};
 ghost use Rattle.spec.specs.Chain.{reading-from};
 ghost use Rattle.spec.specs.Reading.{whole, judged, reading};
 ghost use Rattle.spec.specs.Answers.{settled-reading};
-ghost use Rattle.reading.specs.Read.{first-cursor, reading-of, Surveyed, answered, Told};
+ghost use Rattle.reading.specs.Read.{first-cursor, reading-of, Surveyed, answered, Told, Quiet};
 
 // The cursor at a head in this image.
 pub fn first_cursor(image: &[u8], h: usize) -> Cursor
@@ -100,10 +100,10 @@ pub fn read(image: &[u8]) -> Read
     }
 }
 
-// What a settled image reads as; 16 for one that is not settled.
+// What a settled image reads as, with nothing superseded; 16 for one that is not settled.
 pub fn read_settled(image: &[u8]) -> Read
     requires { ⌜ (16 ≤ length (now image)) × (length (now image) ≤ 2 ^ 24) ⌝ }
-    ensures { λ r. ⌜ (answered (now (image .entry)) r ≡ settled-reading (now (image .entry))) × Told (now (image .entry)) r ⌝ }
+    ensures { λ r. ⌜ (answered (now (image .entry)) r ≡ settled-reading (now (image .entry))) × Told (now (image .entry)) r × Quiet (now (image .entry)) r ⌝ }
 {
     let x = read(image);
     let Read::Good(s) = x else {

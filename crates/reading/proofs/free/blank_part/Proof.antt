@@ -1,10 +1,7 @@
-use Rattle.reading.specs.FreeLaws.{In-image, free-by, part-blank, part-empty, free-turned, free-first, free-both, tail-sector, tail-limit, limit-inside}
+use Rattle.reading.specs.FreeLaws.{part-blank, part-empty}
 use borrow.Author.Needs.{needs}
 use Rattle.reading.proofs.free.blank_part.Statement.{statement}
 use Rattle.reading.proofs.free.blank_part.Tie as tie
-use Rattle.reading.proofs.free.blank_part.Reads as reads
-use Rattle.reading.proofs.free.blank_part.Lts as lts
-use Rattle.flash.proofs.is_blank.Reads as is-blank-reads
 
 sub-is-blank : tie.Need-sub-is-blank
 sub-is-blank c = search needs

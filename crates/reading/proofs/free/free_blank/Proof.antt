@@ -1,13 +1,9 @@
-use Rattle.record.specs.Suffix.{flag, unflag}
-use Rattle.reading.specs.FreeLaws.{In-image, free-by, part-blank, part-empty, free-turned, free-first, free-both, tail-sector, tail-limit, limit-inside}
+use Rattle.record.specs.Suffix.{flag}
+use Rattle.reading.specs.FreeLaws.{free-turned, free-first, free-both}
 use native.Mathlib.Omega.{arith}
 use borrow.Author.Needs.{needs}
 use Rattle.reading.proofs.free.free_blank.Statement.{statement}
 use Rattle.reading.proofs.free.free_blank.Tie as tie
-use Rattle.reading.proofs.free.free_blank.Reads as reads
-use Rattle.reading.proofs.free.free_blank.Lts as lts
-use Rattle.reading.proofs.free.blank_part.Reads as blank-part-reads
-use Rattle.reading.proofs.free.floor.Reads as floor-reads
 
 floor-requires : tie.Need-floor-requires
 floor-requires c κs = search needs

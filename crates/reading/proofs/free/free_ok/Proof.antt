@@ -1,10 +1,6 @@
 use borrow.Author.Needs.{needs}
 use Rattle.reading.proofs.free.free_ok.Statement.{statement}
 use Rattle.reading.proofs.free.free_ok.Tie as tie
-use Rattle.reading.proofs.free.free_ok.Reads as reads
-use Rattle.reading.proofs.free.free_ok.Lts as lts
-use Rattle.reading.proofs.free.free_blank.Reads as free-blank-reads
-use Rattle.reading.proofs.free.tail_blank.Reads as tail-blank-reads
 
 tail-blank-requires : tie.Need-tail-blank-requires
 tail-blank-requires c κs = search needs

@@ -1,9 +1,6 @@
 use borrow.Author.Needs.{needs}
 use Rattle.reading.proofs.free.limit.Statement.{statement}
 use Rattle.reading.proofs.free.limit.Tie as tie
-use Rattle.reading.proofs.free.limit.Reads as reads
-use Rattle.reading.proofs.free.limit.Lts as lts
-use Rattle.reading.proofs.free.floor.Reads as floor-reads
 
 floor-requires : tie.Need-floor-requires
 floor-requires c κs = search needs

@@ -1,17 +1,11 @@
-use mathlib.Core.Path.{_≡_, refl, sym, ap, ap₂, subst, _∙_}
-use mathlib.Core.Bool.{Bool, true, false}
-use Rattle.reading.specs.FreeLaws.{In-image, free-by, part-blank, part-empty, free-turned, free-first, free-both, tail-sector, tail-limit, limit-inside}
+use mathlib.Core.Path.{refl, ap, _∙_}
+use Rattle.reading.specs.FreeLaws.{tail-sector, tail-limit, limit-inside}
 use Prim.Native.Nat.{ℕ, _+_}
 use Rattle.spec.specs.Reading.{blank-part, limit}
 use native.Mathlib.Omega.{arith}
 use borrow.Author.Needs.{needs}
 use Rattle.reading.proofs.free.tail_blank.Statement.{statement}
 use Rattle.reading.proofs.free.tail_blank.Tie as tie
-use Rattle.reading.proofs.free.tail_blank.Reads as reads
-use Rattle.reading.proofs.free.tail_blank.Lts as lts
-use Rattle.reading.proofs.free.blank_part.Reads as blank-part-reads
-use Rattle.reading.proofs.free.floor.Reads as floor-reads
-use Rattle.reading.proofs.free.limit.Reads as limit-reads
 
 floor-requires : tie.Need-floor-requires
 floor-requires c κs = search needs

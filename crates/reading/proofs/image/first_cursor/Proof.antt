@@ -1,10 +1,6 @@
 use borrow.Author.Needs.{needs}
 use Rattle.reading.proofs.image.first_cursor.Statement.{statement}
 use Rattle.reading.proofs.image.first_cursor.Tie as tie
-use Rattle.reading.proofs.image.first_cursor.Reads as reads
-use Rattle.reading.proofs.image.first_cursor.Lts as lts
-use Rattle.reading.proofs.chain.start_at.Reads as start-at-reads
-use Rattle.reading.proofs.free.floor.Reads as floor-reads
 
 floor-requires : tie.Need-floor-requires
 floor-requires c κs = search needs

@@ -1,11 +1,8 @@
-use Rattle.record.specs.Suffix.{flag, unflag}
+use Rattle.record.specs.Suffix.{flag}
 use Rattle.spec.specs.Reading.{judged}
 use borrow.Author.Needs.{needs}
 use Rattle.reading.proofs.image.judged.Statement.{statement}
 use Rattle.reading.proofs.image.judged.Tie as tie
-use Rattle.reading.proofs.image.judged.Reads as reads
-use Rattle.reading.proofs.image.judged.Lts as lts
-use Rattle.reading.proofs.rules.legal.Reads as legal-reads
 
 legal-requires : tie.Need-legal-requires
 legal-requires c κs = search needs

@@ -1,14 +1,9 @@
-use mathlib.Core.Path.{_≡_, refl, sym, ap, ap₂, subst, _∙_}
-use mathlib.Core.Bool.{Bool, true, false}
-use Rattle.reading.specs.RuleLaws.{open-is, unsettled-1, unsettled-2, unsettled-3, unsettled-wrap, settled-but, reading-by, reading-refused}
+use mathlib.Core.Path.{sym, ap, _∙_}
+use Rattle.reading.specs.RuleLaws.{reading-by, reading-refused}
 use Rattle.reading.specs.HeadLaws.{headed}
 use borrow.Author.Needs.{needs}
 use Rattle.reading.proofs.image.read.Statement.{statement}
 use Rattle.reading.proofs.image.read.Tie as tie
-use Rattle.reading.proofs.image.read.Reads as reads
-use Rattle.reading.proofs.image.read.Lts as lts
-use Rattle.reading.proofs.head.head.Reads as head-reads
-use Rattle.reading.proofs.image.read_from.Reads as read-from-reads
 
 head-requires : tie.Need-head-requires
 head-requires c κs = search needs

@@ -1,19 +1,11 @@
-use mathlib.Core.Path.{_≡_, refl, sym, ap, ap₂, subst, _∙_}
-use mathlib.Core.Bool.{Bool, true, false}
-use Rattle.reading.specs.Read.{Tallied, first-cursor, reading-of, Surveyed, answered, Told}
-use Rattle.reading.specs.ReadLaws.{first-sound, read-as, surveyed, read-broken, read-record, settled-none, settled-by}
-use Rattle.spec.specs.Chain.{Reading}
+use mathlib.Core.Path.{refl, ap, _∙_}
+use Rattle.reading.specs.Read.{first-cursor}
+use Rattle.reading.specs.ReadLaws.{first-sound, read-as, surveyed, read-broken, read-record}
 use Rattle.spec.specs.Reading.{judged}
-use Rattle.reading.specs.declared.Step.{Step}
 use native.Mathlib.Omega.{arith}
 use borrow.Author.Needs.{needs}
 use Rattle.reading.proofs.image.read_from.Statement.{statement}
 use Rattle.reading.proofs.image.read_from.Tie as tie
-use Rattle.reading.proofs.image.read_from.Reads as reads
-use Rattle.reading.proofs.image.read_from.Lts as lts
-use Rattle.reading.proofs.image.first_cursor.Reads as first-cursor-reads
-use Rattle.reading.proofs.image.judged.Reads as judged-reads
-use Rattle.reading.proofs.scan.pass.Reads as pass-reads
 
 first-cursor-requires : tie.Need-first-cursor-requires
 first-cursor-requires c κs = search needs

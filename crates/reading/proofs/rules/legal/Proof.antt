@@ -1,18 +1,8 @@
-use mathlib.Core.Path.{_≡_, refl, sym, ap, ap₂, subst, _∙_}
-use mathlib.Core.Bool.{Bool, true, false}
-use Rattle.record.specs.Suffix.{flag, unflag}
-use Rattle.reading.specs.RuleLaws.{second-plain, second-live, second-clean, second-start, count-is, fine-is, head-none, head-low, marks-none, marks-further, marks-second, second-none, second-low, open-is, legal-names, legal-single, legal-marks, legal-free, broken-refused, unsettled-1, unsettled-2, unsettled-3, unsettled-wrap, settled-but, reading-by, reading-refused}
-use Rattle.reading.specs.Read.{Tallied, first-cursor, reading-of, Surveyed, answered, Told}
-use Rattle.spec.specs.declared.Ending.{Ending}
-use borrow.Author.Needs.{needs}
+use Rattle.record.specs.Suffix.{flag}
+use Rattle.reading.specs.RuleLaws.{fine-is, legal-names, legal-single, legal-marks, legal-free}
+use Rattle.reading.specs.Read.{reading-of}
 use Rattle.reading.proofs.rules.legal.Statement.{statement}
 use Rattle.reading.proofs.rules.legal.Tie as tie
-use Rattle.reading.proofs.rules.legal.Reads as reads
-use Rattle.reading.proofs.rules.legal.Lts as lts
-use Rattle.reading.proofs.free.free_ok.Reads as free-ok-reads
-use Rattle.reading.proofs.rules.head_clean.Reads as head-clean-reads
-use Rattle.reading.proofs.rules.marks_ok.Reads as marks-ok-reads
-use Rattle.reading.proofs.rules.single.Reads as single-reads
 
 single-requires : tie.Need-single-requires
 single-requires c κs = rw (c .before .before .before .before .pre .1) (c .before .before .before .before .pre .0 .tallied .sound)

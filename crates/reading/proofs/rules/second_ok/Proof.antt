@@ -1,7 +1,6 @@
-use mathlib.Core.Path.{_≡_, refl, sym, ap, ap₂, subst, _∙_}
-use mathlib.Core.Bool.{Bool, true, false}
-use Rattle.record.specs.Suffix.{flag, unflag}
-use Rattle.reading.specs.RuleLaws.{second-plain, second-live, second-clean, second-start, count-is, fine-is, head-none, head-low, marks-none, marks-further, marks-second, second-none, second-low, open-is, legal-names, legal-single, legal-marks, legal-free, broken-refused, unsettled-1, unsettled-2, unsettled-3, unsettled-wrap, settled-but, reading-by, reading-refused}
+use mathlib.Core.Path.{ap₂, _∙_}
+use Rattle.record.specs.Suffix.{flag}
+use Rattle.reading.specs.RuleLaws.{second-plain, second-live, second-clean, second-start}
 use borrow.Author.Tests.{eq-eqb, ne-eqb}
 use Prim.Native.Nat.{ℕ}
 use native.Mathlib.Nat.{add-zero}
@@ -12,11 +11,6 @@ use native.Mathlib.Omega.{arith}
 use borrow.Author.Needs.{needs}
 use Rattle.reading.proofs.rules.second_ok.Statement.{statement}
 use Rattle.reading.proofs.rules.second_ok.Tie as tie
-use Rattle.reading.proofs.rules.second_ok.Reads as reads
-use Rattle.reading.proofs.rules.second_ok.Lts as lts
-use Rattle.reading.proofs.files.is_live.Reads as is-live-reads
-use Rattle.reading.proofs.free.floor.Reads as floor-reads
-use Rattle.reading.proofs.scan.marked.Reads as marked-reads
 
 marked-requires : tie.Need-marked-requires
 marked-requires c κs = search needs

@@ -1,17 +1,10 @@
-use mathlib.Core.Path.{_≡_, refl, sym, ap, ap₂, subst, _∙_}
-use mathlib.Core.Bool.{Bool, true, false}
-use Rattle.record.specs.Suffix.{flag, unflag}
-use Rattle.reading.specs.RuleLaws.{open-is, unsettled-1, unsettled-2, unsettled-3, unsettled-wrap, settled-but, reading-by, reading-refused}
-use Rattle.reading.specs.Read.{Tallied, first-cursor, reading-of, Surveyed, answered, Told}
+use mathlib.Core.Bool.{true, false}
+use Rattle.record.specs.Suffix.{flag}
+use Rattle.reading.specs.RuleLaws.{open-is, unsettled-1, unsettled-2, unsettled-3, unsettled-wrap, settled-but}
+use Rattle.reading.specs.Read.{reading-of}
 use borrow.Author.Needs.{needs}
 use Rattle.reading.proofs.rules.settled.Statement.{statement}
 use Rattle.reading.proofs.rules.settled.Tie as tie
-use Rattle.reading.proofs.rules.settled.Reads as reads
-use Rattle.reading.proofs.rules.settled.Lts as lts
-use Rattle.reading.proofs.files.any_superseded.Reads as any-superseded-reads
-use Rattle.reading.proofs.rules.head_clean.Reads as head-clean-reads
-use Rattle.reading.proofs.rules.second_marked.Reads as second-marked-reads
-use Rattle.reading.proofs.rules.wrap_torn.Reads as wrap-torn-reads
 
 head-clean-requires : tie.Need-head-clean-requires
 head-clean-requires c κs = rw (c .before .before .pre .1) (c .before .before .pre .0 .tallied)

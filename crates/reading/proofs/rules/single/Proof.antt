@@ -1,11 +1,8 @@
-use Rattle.record.specs.Suffix.{flag, unflag}
+use Rattle.record.specs.Suffix.{flag}
 use Rattle.spec.specs.Reading.{single}
 use borrow.Author.Needs.{needs}
 use Rattle.reading.proofs.rules.single.Statement.{statement}
 use Rattle.reading.proofs.rules.single.Tie as tie
-use Rattle.reading.proofs.rules.single.Reads as reads
-use Rattle.reading.proofs.rules.single.Lts as lts
-use Rattle.reading.proofs.files.doubled.Reads as doubled-reads
 
 doubled-requires : tie.Need-doubled-requires
 doubled-requires c κs = search needs
