@@ -1,9 +1,9 @@
 // Files: which records are live, which names are held twice, and the file of a name or of an index.
-use crate::chain::advance;
 use crate::Cursor;
 use crate::Found;
 use crate::Spot;
 use crate::Step;
+use crate::chain::advance;
 use spec::Status;
 ghost use mathlib.Core.Path.{_≡_};
 ghost use Prim.Native.Nat.{_≤_};

@@ -1,12 +1,13 @@
 // Reading an image: its head, its chain, its files, whether it breaks a rule, whether it is settled.
 // Everything here only looks, and nothing passes over data bytes but the check of the free run.
-mod head;
 mod chain;
-mod files;
-mod scan;
+pub mod files;
 mod free;
-mod rules;
+mod head;
 pub mod image;
+mod rules;
+mod scan;
+
 use spec::Ending;
 use spec::Place;
 
