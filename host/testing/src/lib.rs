@@ -2,12 +2,16 @@
 //! document 01 and the check of demand 3, the facts expected of histories.
 
 pub mod aimed;
+pub mod c_calls;
 pub mod call;
+pub mod cc;
+pub mod compare;
 pub mod facts;
 pub mod history;
 pub mod images;
 pub mod ledger;
 pub mod maker;
+pub mod odd;
 pub mod rng;
 
 /// An allowance that no call uses up.

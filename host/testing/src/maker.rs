@@ -92,6 +92,14 @@ impl Maker {
         }
     }
 
+    /// Records longer than a sector, so that a move vacates several at once.
+    pub fn long_records(r: &mut Rng) -> Maker {
+        Maker {
+            lengths: Lengths::Uniform(r.of(&[SECTOR, SECTOR + 1024, 2 * SECTOR, 3 * SECTOR])),
+            ..Maker::full_sectors(r)
+        }
+    }
+
     /// Short contents and many cuts: calls with few steps.
     pub fn short(big: u64) -> Maker {
         Maker {

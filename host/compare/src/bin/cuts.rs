@@ -1,0 +1,68 @@
+//! The power cut at every step, through the C interface: random histories of all
+//! calls against the ledger.
+//!   cuts [CALLS [SEED]]
+//! Some calls are tried at every allowance (long ones at both ends and a sample),
+//! each followed by the mount at every allowance; after each of them a whole mount,
+//! list and get must give the ledger. A call that the library hasn't is the model's.
+use testing::argument;
+use testing::c_calls::Library;
+use testing::history::{Seen, Tester};
+use testing::maker::Maker;
+use testing::rng::Rng;
+
+const LENGTHS: [usize; 8] = [8192, 8192, 12288, 12288, 16384, 20480, 32768, 65536];
+/// Percent of calls that are tried at every allowance.
+const EXHAUST: u64 = 3;
+/// The images that the histories have to come to.
+const AIMED: [&str; 10] = [
+    "T = floor(h)",
+    "T = N",
+    "turned at N",
+    "next CLEAN at 0",
+    "next CLEAN, later sector",
+    "next CLEAN, same sector",
+    "head CLEAN",
+    "last torn wrap",
+    "last reserved",
+    "superseded 1",
+];
+
+fn maker(r: &mut Rng) -> Maker {
+    match r.below(4) {
+        0 => Maker::full_sectors(r),
+        1 => Maker { cut: 30, ..Maker::full_sectors(r) },
+        2 => Maker::long_records(r),
+        _ => Maker::rich(r),
+    }
+}
+
+/// How often each aimed image was seen. Gives how many never were.
+fn aimed(seen: &Seen) -> usize {
+    let count = |part: &str| seen.facts.kinds.iter().filter(|k| k.0.contains(part)).map(|k| k.1).sum::<u64>();
+    for part in AIMED {
+        println!("{:>9} images with {part}", count(part));
+    }
+    AIMED.iter().filter(|part| count(part) == 0).count()
+}
+
+fn main() {
+    let (calls, seed) = (argument(1, 40_000), argument(2, 1));
+    let store = Library::new(library::functions());
+    println!("library: {}; its calls: {}", library::path().display(), store.functions().kinds().join(", "));
+    let mut tester = Tester { store: &store, exhaust: EXHAUST, seen: Seen::default() };
+    if let Err(v) = tester.until(&mut Rng::new(seed), calls, &LENGTHS, maker) {
+        print!("{}", v.show(&store));
+        std::process::exit(1);
+    }
+    for (answer, times) in &tester.seen.answers {
+        println!("{times:>9} {answer}");
+    }
+    let missing = aimed(&tester.seen);
+    println!(
+        "{} calls, each then mounted: the ledger's files every time, {missing} kinds not seen",
+        tester.seen.checked
+    );
+    if missing > 0 {
+        std::process::exit(1);
+    }
+}
