@@ -2,7 +2,7 @@
 use std::path::Path;
 use std::process::Command;
 
-const FILES: [&str; 7] = ["record", "head", "chain", "flash", "write", "mount", "sweep"];
+const FILES: [&str; 8] = ["record", "head", "chain", "flash", "write", "mount", "sweep", "scan"];
 const FLAGS: [&str; 7] = ["-O2", "-std=c99", "-Wall", "-Wextra", "-Werror", "-pedantic", "-fPIC"];
 
 fn run(command: &mut Command) {

@@ -144,4 +144,8 @@ uint32_t baseline_remove(uint8_t *m, size_t n, const uint8_t *name, size_t name_
                          size_t *steps);
 uint32_t baseline_sweep(uint8_t *m, size_t n, size_t allowance, size_t *moves, size_t *steps);
 
+/* scan.c: whether all is FF, told at the end alone */
+
+bool baseline_scan(const uint8_t *m, size_t n);
+
 #endif

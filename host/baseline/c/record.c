@@ -37,16 +37,15 @@ bool bl_blank(const uint8_t *m, size_t from, size_t to)
 /* The first 00 in the 64 bytes from byte 8; in a reserved record an FF counts too. */
 bool bl_name_end(const uint8_t *m, size_t n, size_t at, size_t *length, size_t *missing)
 {
-    size_t from = at + 8, to = from + 64 < n ? from + 64 : n, a;
-    bool reserved = m[at + 2] == RESERVED;
-    for (a = from; a < to; a++) {
-        if (m[a] != 0x00 && !(reserved && m[a] == 0xFF))
-            continue;
-        *length = a - from;
-        *missing = m[a] == 0xFF ? a : NONE;
-        return true;
-    }
-    return false;
+    size_t from = at + 8, to = from + 64 < n ? from + 64 : n, a = from;
+    uint8_t other = m[at + 2] == RESERVED ? 0xFF : 0x00;
+    while (a < to && m[a] != 0x00 && m[a] != other)
+        a++;
+    if (a == to)
+        return false;
+    *length = a - from;
+    *missing = m[a] == 0xFF ? a : NONE;
+    return true;
 }
 
 /* A torn record counts 16 bytes, and byte 8 of it is FF or 00. */

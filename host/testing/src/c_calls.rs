@@ -68,7 +68,7 @@ impl Library {
 
     /// The library's answer with the numbers that it gave back, in the order of
     /// `Reply`. None: the library hasn't this call.
-    fn lend(&self, img: &mut [u8], call: &Call) -> Option<Reply> {
+    pub fn lend(&self, img: &mut [u8], call: &Call) -> Option<Reply> {
         let f = &self.functions;
         let (at, n) = (self.pointer(img).cast_mut(), img.len());
         let mut out = [UNWRITTEN; 4];

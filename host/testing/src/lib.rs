@@ -13,6 +13,7 @@ pub mod ledger;
 pub mod maker;
 pub mod odd;
 pub mod rng;
+pub mod tags;
 
 /// An allowance that no call uses up.
 pub const ALL: u64 = u64::MAX;

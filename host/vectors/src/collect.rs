@@ -1,6 +1,7 @@
 //! Which runs of the model become vectors.
 use crate::emit::{equation, place_equation, Vector};
-use crate::{histories, tags};
+use crate::histories;
+use crate::required::REQUIRED;
 use model::*;
 use std::collections::BTreeMap;
 use std::fmt::Write as _;
@@ -9,7 +10,7 @@ use testing::call::Call;
 use testing::images::{built, damage, of_history};
 use testing::maker::{Contents, Lengths, Maker};
 use testing::rng::Rng;
-use testing::ALL;
+use testing::{tags, ALL};
 
 /// The answers that each call can give.
 const ANSWERS: [(&str, &[u32]); 7] = [
@@ -92,7 +93,7 @@ impl Collection {
     /// What has too few vectors.
     pub fn missing(&self) -> Vec<String> {
         let answers = ANSWERS.iter().flat_map(|(kind, all)| all.iter().map(move |a| format!("{kind} {a}")));
-        let tags = tags::REQUIRED.iter().map(|t| format!("tag {t}"));
+        let tags = REQUIRED.iter().map(|t| format!("tag {t}"));
         let sources = SOURCES.iter().map(|s| format!("source {s}"));
         answers.chain(tags).chain(sources).filter(|w| self.count(w) < EACH).collect()
     }

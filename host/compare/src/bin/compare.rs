@@ -9,7 +9,7 @@ use testing::compare::Comparison;
 const SHORT: u64 = 50_000;
 
 fn main() {
-    let (images, seed) = (argument(1, 20_000), argument(2, 1));
+    let (images, seed) = (argument(1, 12_000), argument(2, 1));
     let store = Library::new(library::functions());
     println!("library: {}; its calls: {}", library::path().display(), store.functions().kinds().join(", "));
     let mut comparison = Comparison::new(&store);

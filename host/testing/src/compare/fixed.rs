@@ -1,4 +1,5 @@
 //! Aimed cases that are the same in every run: lengths, names, contents.
+use super::mounting::mounts;
 use super::Comparison;
 use crate::call::{formatted, Call, Store};
 use crate::rng::Rng;
@@ -89,7 +90,9 @@ pub fn contents<S: Store>(c: &mut Comparison<S>, r: &mut Rng) {
     for n in [2 * SECTOR, 3 * SECTOR] {
         for name in [&b"k"[..], &[b'K'; 63]] {
             for content in [0, 1, 2, 7, 8, 9, 10, 16, 17, 64, 1300].into_iter().flat_map(of_length) {
-                put_twice(c, r, n as usize, name, content);
+                if !c.given_up() {
+                    put_twice(c, r, n as usize, name, content);
+                }
             }
         }
     }
@@ -108,4 +111,23 @@ fn put_twice<S: Store>(c: &mut Comparison<S>, r: &mut Rng, n: usize, name: &[u8]
     c.image("contents");
     c.cuts(r, &img, &Call::Sweep(ALL));
     c.cuts(r, &img, &Call::Remove(name.to_vec(), ALL));
+}
+
+/// Every cut of short puts and of the sweeps after them, and after each the mount,
+/// cut everywhere too.
+pub fn every_cut_mounted<S: Store>(c: &mut Comparison<S>, r: &mut Rng) {
+    for content in [0, 2, 10, 17].into_iter().flat_map(of_length) {
+        if c.given_up() {
+            return;
+        }
+        let put = Call::Put(b"dose".to_vec(), content, ALL);
+        let mut img = formatted(2 * SECTOR as usize);
+        for call in [&put, &put, &Call::Sweep(ALL), &put, &Call::Sweep(ALL)] {
+            for cut in c.cuts(r, &img, call) {
+                c.image("every cut of a short call");
+                mounts(c, r, &cut, ALL as usize, 0);
+            }
+            img = c.call(&img, call).1;
+        }
+    }
 }

@@ -23,14 +23,16 @@ impl<'s, S: Store> Comparison<'s, S> {
         Comparison { store, tally: Tally::default() }
     }
 
-    /// All that is aimed, then rounds of random images until there were so many.
-    /// `large` adds images of 16 MiB.
+    /// All that is aimed, then rounds of random images until there were so many of
+    /// them. `large` adds images of 16 MiB.
     pub fn run(&mut self, seed: u64, images: u64, large: bool) {
         let mut r = Rng::new(seed);
         fixed::lengths(self, large);
         fixed::names(self);
         fixed::contents(self, &mut r);
-        while self.tally.images < images && !self.given_up() {
+        fixed::every_cut_mounted(self, &mut r);
+        let goal = self.tally.images + images;
+        while self.tally.images < goal && !self.given_up() {
             self.round(&mut r);
         }
     }
@@ -61,7 +63,7 @@ impl<'s, S: Store> Comparison<'s, S> {
         let mut expected = img.to_vec();
         let reply = call.run(&mut expected);
         if self.store.has(call) && !self.given_up() {
-            self.tally.count(call, reply.answer);
+            self.tally.count(img, call, &reply, &expected);
             let mut left = img.to_vec();
             let told = self.store.call(&mut left, call);
             if told.as_ref() != Ok(&reply) || left != expected {

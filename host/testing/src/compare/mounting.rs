@@ -7,7 +7,7 @@ use crate::maker::{Contents, Lengths, Maker};
 use crate::rng::Rng;
 use crate::ALL;
 
-/// Images that are left by the cuts of one call; of each source this many are mounted.
+/// So many of the images that the cuts of one call left are mounted.
 const MOUNTED: usize = 24;
 
 /// A put, most often a short one or at an edge of its place, or a sweep.
@@ -34,14 +34,19 @@ pub fn unfinished<S: Store>(c: &mut Comparison<S>, r: &mut Rng) {
     }
     for cut in left {
         c.image("a call was cut");
-        let again = c.cuts(r, &cut, &Call::Mount(ALL));
         others(c, r, &cut);
-        for twice in again.into_iter().skip(1).take(12) {
-            c.image("a call and a mount were cut");
-            for thrice in c.cuts(r, &twice, &Call::Mount(ALL)).into_iter().skip(1).take(3) {
-                c.image("a call and two mounts were cut");
-                c.call(&thrice, &Call::Mount(ALL));
-            }
+        mounts(c, r, &cut, 12, 3);
+    }
+}
+
+/// A mount at every allowance; on what the first of these cuts leave, again; and
+/// on what the first of those leave, to the end.
+pub fn mounts<S: Store>(c: &mut Comparison<S>, r: &mut Rng, cut: &[u8], twice: usize, thrice: usize) {
+    for cut in c.cuts(r, cut, &Call::Mount(ALL)).into_iter().skip(1).take(twice) {
+        c.image("a call and a mount were cut");
+        for cut in c.cuts(r, &cut, &Call::Mount(ALL)).into_iter().skip(1).take(thrice) {
+            c.image("a call and two mounts were cut");
+            c.call(&cut, &Call::Mount(ALL));
         }
     }
 }

@@ -1,5 +1,6 @@
 //! What a comparison did, and what differed.
 use crate::call::Call;
+use crate::tags;
 use model::Reply;
 use std::collections::BTreeMap;
 use std::fmt::Write as _;
@@ -12,6 +13,8 @@ pub struct Tally {
     /// the images of each source
     pub sources: BTreeMap<&'static str, u64>,
     answers: BTreeMap<(&'static str, u32), u64>,
+    /// calls by what they show
+    tags: BTreeMap<&'static str, u64>,
     /// the first differences
     shown: Vec<String>,
 }
@@ -20,9 +23,16 @@ const SHOWN: usize = 5;
 const ANSWERS: [u32; 8] = [0, 2, 4, 5, 6, 16, 22, 28];
 
 impl Tally {
-    pub fn count(&mut self, call: &Call, answer: u32) {
+    pub fn count(&mut self, img: &[u8], call: &Call, reply: &Reply, after: &[u8]) {
         self.calls += 1;
-        *self.answers.entry((call.kind(), answer)).or_default() += 1;
+        *self.answers.entry((call.kind(), reply.answer)).or_default() += 1;
+        for tag in tags::of(img, call, reply, after) {
+            *self.tags.entry(tag).or_default() += 1;
+        }
+    }
+
+    pub fn tagged(&self, tag: &str) -> u64 {
+        self.tags.get(tag).copied().unwrap_or(0)
     }
 
     pub fn answered(&self, kind: &'static str, answer: u32) -> u64 {
@@ -63,6 +73,9 @@ impl Tally {
             }
         }
         s.push('\n');
+        for (tag, calls) in &self.tags {
+            writeln!(s, "{calls:>9} calls: {tag}").unwrap();
+        }
         for (source, images) in &self.sources {
             writeln!(s, "{images:>9} images: {source}").unwrap();
         }
