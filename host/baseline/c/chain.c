@@ -138,10 +138,11 @@ uint32_t bl_survey(const uint8_t *m, size_t n, size_t head, Survey *s)
     return followed(s) && names_legal(s) && marks_legal(s) && free_run_legal(s) ? DONE : BROKEN;
 }
 
+/* The reading, or refusal 22 for a bad length, 5 or 6. */
 uint32_t bl_read(const uint8_t *m, size_t n, Survey *s)
 {
     size_t head;
-    uint32_t answer = bl_head(m, n, &head);
+    uint32_t answer = bl_good_length(n) ? bl_head(m, n, &head) : INVALID;
     return answer == DONE ? bl_survey(m, n, head, s) : answer;
 }
 

@@ -120,8 +120,6 @@ uint32_t baseline_mount(uint8_t *m, size_t n, size_t allowance, size_t *head, si
     Survey s;
     uint32_t answer;
     *head = *tail = *files = *steps = 0;
-    if (!bl_good_length(n))
-        return INVALID;
     answer = bl_read(m, n, &s);
     if (answer != DONE)
         return answer;

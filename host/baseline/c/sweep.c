@@ -53,8 +53,6 @@ uint32_t baseline_sweep(uint8_t *m, size_t n, size_t allowance, size_t *moves, s
     Survey s;
     uint32_t answer;
     *moves = *steps = 0;
-    if (!bl_good_length(n))
-        return INVALID;
     answer = bl_read_settled(m, n, &s);
     if (answer != DONE)
         return answer;

@@ -82,7 +82,7 @@ uint32_t baseline_put(uint8_t *m, size_t n, const uint8_t *name, size_t name_len
     uint32_t answer;
     bool replaces;
     *steps = 0;
-    if (!bl_good_length(n) || !bl_good_name(name, name_length))
+    if (!bl_good_name(name, name_length))
         return INVALID;
     answer = bl_read_settled(m, n, &s);
     if (answer != DONE)
@@ -99,7 +99,7 @@ static uint32_t find_file(const uint8_t *m, size_t n, const uint8_t *name, size_
 {
     Survey s;
     uint32_t answer;
-    if (!bl_good_length(n) || !bl_good_name(name, name_length))
+    if (!bl_good_name(name, name_length))
         return INVALID;
     answer = bl_read_settled(m, n, &s);
     if (answer == DONE && !bl_find(&s, name, name_length, r))
@@ -138,8 +138,6 @@ uint32_t baseline_list(const uint8_t *m, size_t n, size_t index, size_t *name_of
     Record r;
     uint32_t answer;
     *name_offset = *name_length = *size = 0;
-    if (!bl_good_length(n))
-        return INVALID;
     answer = bl_read_settled(m, n, &s);
     if (answer != DONE)
         return answer;

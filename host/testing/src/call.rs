@@ -72,6 +72,17 @@ impl Call {
     }
 }
 
+/// The answers that each call can give, by the table of document 01.
+pub const ANSWERS: [(&str, &[u32]); 7] = [
+    ("format", &[0, 4, 22]),
+    ("mount", &[0, 4, 5, 6, 22]),
+    ("put", &[0, 4, 5, 6, 16, 22, 28]),
+    ("get", &[0, 2, 5, 6, 16, 22]),
+    ("list", &[0, 2, 5, 6, 16, 22]),
+    ("remove", &[0, 2, 4, 5, 6, 16, 22]),
+    ("sweep", &[0, 4, 5, 6, 16, 22, 28]),
+];
+
 /// What carries out calls: the model here, a library in a comparison.
 pub trait Store {
     /// The reply, or what was wrong with the steps of the call.

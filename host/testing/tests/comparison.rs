@@ -2,7 +2,7 @@
 //! answer, and notices wrong stores.
 use model::faults::Fault;
 use model::Reply;
-use testing::call::{Call, Model, Store, Wrong};
+use testing::call::{Call, Model, Store, Wrong, ANSWERS};
 use testing::compare::{Comparison, Tally};
 
 fn compared(store: &impl Store, images: u64) -> Tally {
@@ -10,17 +10,6 @@ fn compared(store: &impl Store, images: u64) -> Tally {
     comparison.run(5, images, false);
     comparison.tally
 }
-
-/// Every answer in the table of document 01, for each call that can give it.
-const ANSWERS: [(&str, &[u32]); 7] = [
-    ("format", &[0, 4, 22]),
-    ("mount", &[0, 4, 5, 6, 22]),
-    ("put", &[0, 4, 5, 6, 16, 22, 28]),
-    ("get", &[0, 2, 5, 6, 16, 22]),
-    ("list", &[0, 2, 5, 6, 16, 22]),
-    ("remove", &[0, 2, 4, 5, 6, 16, 22]),
-    ("sweep", &[0, 4, 5, 6, 16, 22, 28]),
-];
 
 /// Places that random images come to seldom (testing::tags).
 const PLACES: [&str; 22] = [

@@ -90,9 +90,7 @@ pub fn contents<S: Store>(c: &mut Comparison<S>, r: &mut Rng) {
     for n in [2 * SECTOR, 3 * SECTOR] {
         for name in [&b"k"[..], &[b'K'; 63]] {
             for content in [0, 1, 2, 7, 8, 9, 10, 16, 17, 64, 1300].into_iter().flat_map(of_length) {
-                if !c.given_up() {
-                    put_twice(c, r, n as usize, name, content);
-                }
+                put_twice(c, r, n as usize, name, content);
             }
         }
     }
@@ -117,9 +115,6 @@ fn put_twice<S: Store>(c: &mut Comparison<S>, r: &mut Rng, n: usize, name: &[u8]
 /// cut everywhere too.
 pub fn every_cut_mounted<S: Store>(c: &mut Comparison<S>, r: &mut Rng) {
     for content in [0, 2, 10, 17].into_iter().flat_map(of_length) {
-        if c.given_up() {
-            return;
-        }
         let put = Call::Put(b"dose".to_vec(), content, ALL);
         let mut img = formatted(2 * SECTOR as usize);
         for call in [&put, &put, &Call::Sweep(ALL), &put, &Call::Sweep(ALL)] {

@@ -12,6 +12,8 @@ pub use tally::Tally;
 
 /// A run is given up when so many calls differ.
 const ENOUGH: u64 = 20;
+/// Random images before the aimed ones.
+const EARLY: u64 = 3_000;
 
 pub struct Comparison<'s, S: Store> {
     store: &'s S,
@@ -23,17 +25,24 @@ impl<'s, S: Store> Comparison<'s, S> {
         Comparison { store, tally: Tally::default() }
     }
 
-    /// All that is aimed, then rounds of random images until there were so many of
-    /// them. `large` adds images of 16 MiB.
+    /// Rounds of random images until there were so many, with all that is aimed after
+    /// the first few: most faults are told early. `large` adds images of 16 MiB.
     pub fn run(&mut self, seed: u64, images: u64, large: bool) {
         let mut r = Rng::new(seed);
-        fixed::lengths(self, large);
-        fixed::names(self);
-        fixed::contents(self, &mut r);
-        fixed::every_cut_mounted(self, &mut r);
+        self.rounds(&mut r, images.min(EARLY));
+        if !self.given_up() {
+            fixed::lengths(self, large);
+            fixed::names(self);
+            fixed::contents(self, &mut r);
+            fixed::every_cut_mounted(self, &mut r);
+        }
+        self.rounds(&mut r, images.saturating_sub(EARLY));
+    }
+
+    fn rounds(&mut self, r: &mut Rng, images: u64) {
         let goal = self.tally.images + images;
         while self.tally.images < goal && !self.given_up() {
-            self.round(&mut r);
+            self.round(r);
         }
     }
 

@@ -54,12 +54,8 @@ pub fn mounts<S: Store>(c: &mut Comparison<S>, r: &mut Rng, cut: &[u8], twice: u
 /// What the other calls say of an image that wants a mount.
 fn others<S: Store>(c: &mut Comparison<S>, r: &mut Rng, img: &[u8]) {
     let name = name_for(r, img);
-    let calls = [
-        Call::Get(name.clone()),
-        Call::List(0),
-        Call::Sweep(ALL),
-        Call::Put(name.clone(), vec![5], ALL),
-        Call::Remove(name, ALL),
-    ];
-    c.call(img, &r.of(&calls));
+    c.call(img, &Call::Get(name.clone()));
+    c.call(img, &Call::List(0));
+    let writing = [Call::Sweep(ALL), Call::Put(name.clone(), vec![5], ALL), Call::Remove(name, ALL)];
+    c.call(img, &r.of(&writing));
 }
