@@ -2,8 +2,7 @@
  * lilota: a small file store over one image of NOR flash.
  *
  * The image is lent for each call: its first byte and its length in bytes, a
- * multiple of 4,096 from 8,192 to 16,777,216. It is bytes in memory, or flash
- * mapped into memory; nothing is kept between calls.
+ * multiple of 4,096 from 8,192 to 16,777,216. Nothing is kept between calls.
  *
  * Arguments. A pointer and the length behind it name a stretch of bytes; with
  * length 0 the pointer may be null. A file name has 1 to 63 bytes, each 21 to

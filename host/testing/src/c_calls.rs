@@ -57,9 +57,12 @@ impl Library {
         &self.functions
     }
 
+    fn goes_as_null(&self, bytes: &[u8]) -> bool {
+        bytes.is_empty() && self.null.replace(!self.null.get())
+    }
+
     fn pointer(&self, bytes: &[u8]) -> *const u8 {
-        let null = self.null.replace(!self.null.get());
-        if bytes.is_empty() && null {
+        if self.goes_as_null(bytes) {
             ptr::null()
         } else {
             bytes.as_ptr()
@@ -70,7 +73,8 @@ impl Library {
     /// `Reply`. None: the library hasn't this call.
     pub fn lend(&self, img: &mut [u8], call: &Call) -> Option<Reply> {
         let f = &self.functions;
-        let (at, n) = (self.pointer(img).cast_mut(), img.len());
+        let at = if self.goes_as_null(img) { ptr::null_mut() } else { img.as_mut_ptr() };
+        let n = img.len();
         let mut out = [UNWRITTEN; 4];
         let [a, b, c, steps] = &mut out;
         // Safety: each pointer comes with the length of the slice that it is of,

@@ -132,7 +132,7 @@ pub fn allowances(r: &mut Rng, need: u64) -> Vec<u64> {
 
 /// The same with fewer.
 pub fn few_allowances(r: &mut Rng, need: u64) -> Vec<u64> {
-    ends_and_sample(r, need, 8)
+    ends_and_sample(r, need, 4)
 }
 
 fn ends_and_sample(r: &mut Rng, need: u64, ends: u64) -> Vec<u64> {

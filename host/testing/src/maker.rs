@@ -100,6 +100,11 @@ impl Maker {
         }
     }
 
+    /// Records that fill no sector exactly, so that the turn needs a marker.
+    pub fn with_markers(r: &mut Rng) -> Maker {
+        Maker { lengths: Lengths::Uniform(r.of(&[488, 1000, 1360, 2000, 3000])), cut: 30, ..Maker::full_sectors(r) }
+    }
+
     /// Short contents and many cuts: calls with few steps.
     pub fn short(big: u64) -> Maker {
         Maker {

@@ -19,7 +19,7 @@ fn any_maker(r: &mut Rng) -> Maker {
 }
 
 fn any_length(r: &mut Rng) -> usize {
-    r.of(&[8192, 8192, 12288, 16384, 20480])
+    r.of(&[8192, 8192, 8192, 8192, 12288, 12288, 12288, 16384, 16384, 20480, 65536])
 }
 
 /// A history of so many calls, with cuts; some calls are tried at every allowance.

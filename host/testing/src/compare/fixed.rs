@@ -47,6 +47,20 @@ fn lengths_of<S: Store>(c: &mut Comparison<S>, n: usize) {
         for call in one_of_each(b"dose", 3) {
             c.call(&img, &call);
         }
+        for index in [1, 2, ALL] {
+            c.call(&img, &Call::List(index));
+        }
+    }
+}
+
+/// Contents that are longer than a length field can say (decision 25): never room, also
+/// where the low 32 bits would fit. The bytes are never read, and so take no memory.
+pub fn too_long<S: Store>(c: &mut Comparison<S>) {
+    c.image("contents");
+    for length in [1 << 24, (1 << 32) - 1, 1 << 32, (1 << 32) + 5] {
+        let call = Call::Put(b"dose".to_vec(), vec![0; length], ALL);
+        c.call(&formatted(8192), &call);
+        c.call(&[0xFF; 8192], &call);
     }
 }
 

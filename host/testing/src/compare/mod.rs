@@ -26,12 +26,16 @@ impl<'s, S: Store> Comparison<'s, S> {
     }
 
     /// Rounds of random images until there were so many, with all that is aimed after
-    /// the first few: most faults are told early. `large` adds images of 16 MiB.
+    /// the first few: most faults are told early. `large` adds images of 16 MiB
+    /// and contents of 4 GiB.
     pub fn run(&mut self, seed: u64, images: u64, large: bool) {
         let mut r = Rng::new(seed);
         self.rounds(&mut r, images.min(EARLY));
         if !self.given_up() {
             fixed::lengths(self, large);
+            if large {
+                fixed::too_long(self);
+            }
             fixed::names(self);
             fixed::contents(self, &mut r);
             fixed::every_cut_mounted(self, &mut r);

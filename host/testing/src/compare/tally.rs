@@ -46,7 +46,7 @@ impl Tally {
             let bytes = byte.map_or("the images agree".into(), |a| {
                 format!("at {a}: before {:02x}, model {:02x}, library {:02x}", img[a], model.1[a], store.1[a])
             });
-            let call = shorter(format!("{call:02x?}"));
+            let call = described(call);
             self.shown.push(format!(
                 "DIFFERS: {call}, N = {}\n  model   {:?}\n  library {:?}\n  {bytes}",
                 img.len(),
@@ -84,11 +84,10 @@ impl Tally {
     }
 }
 
-/// A call's long contents are not for reading.
-fn shorter(mut text: String) -> String {
-    if text.len() > 300 {
-        text.truncate(300);
-        text.push_str(" ..");
+/// The call; of a put's content the length alone, which may be anything.
+fn described(call: &Call) -> String {
+    match call {
+        Call::Put(name, data, k) => format!("Put({name:02x?}, {} bytes, {k})", data.len()),
+        other => format!("{other:02x?}"),
     }
-    text
 }
