@@ -77,7 +77,7 @@ fn sweeping(library: &Library, baseline: &Library) {
 fn main() {
     let library = Library::new(library::functions());
     let baseline = Library::new(baseline::functions());
-    println!("Medians of {RUNS} runs on one machine, the three by turns, with warm buffers; times in microseconds.\n");
+    println!("Medians of {RUNS} runs on one machine, the three by turns, with warm buffers; processor time, in microseconds.\n");
     println!("| call | library | plain C | scan | library / plain C | library / scan |");
     println!("|---|---:|---:|---:|---:|---:|");
     reading(&library, &baseline);

@@ -1,14 +1,13 @@
 //! Times of one call: the library's, the baseline's, and a scan's.
 use model::Reply;
 use std::hint::black_box;
-use std::time::{Duration, Instant};
 use testing::c_calls::Library;
 use testing::call::{Call, Store};
 
 /// Each time is the median of so many runs.
 pub const RUNS: usize = 11;
-/// A run repeats a call that only reads, until it took so long.
-const LONG_ENOUGH: Duration = Duration::from_millis(2);
+/// A run repeats a call that only reads, until it took so many seconds.
+const LONG_ENOUGH: f64 = 0.002;
 
 /// Medians: seconds, and ratios of times that were taken next to each other. What
 /// concerns the library is missing for a call that it hasn't.
@@ -26,15 +25,39 @@ fn median(times: impl Iterator<Item = f64>) -> Option<f64> {
     times.get(times.len() / 2).copied()
 }
 
-/// The time of one call that leaves the image as it is.
-fn repeated(mut call: impl FnMut()) -> f64 {
-    let start = Instant::now();
-    let mut times = 0u32;
-    while times == 0 || start.elapsed() < LONG_ENOUGH {
-        call();
-        times += 1;
+/// Seconds of this thread on the processor: what other programs take doesn't count.
+fn now() -> f64 {
+    #[repr(C)]
+    struct Timespec {
+        seconds: i64,
+        nanoseconds: i64,
     }
-    start.elapsed().as_secs_f64() / times as f64
+    extern "C" {
+        fn clock_gettime(clock: i32, time: *mut Timespec) -> i32;
+    }
+    // CLOCK_THREAD_CPUTIME_ID of Linux
+    const THREAD: i32 = 3;
+    let mut t = Timespec { seconds: 0, nanoseconds: 0 };
+    // Safety: the pointer is to a Timespec, which the function fills.
+    assert_eq!(unsafe { clock_gettime(THREAD, &mut t) }, 0);
+    t.seconds as f64 + t.nanoseconds as f64 * 1e-9
+}
+
+/// The time of one call that leaves the image as it is: more and more at once, until
+/// they take long enough.
+fn repeated(mut call: impl FnMut()) -> f64 {
+    let mut times = 1u32;
+    loop {
+        let start = now();
+        for _ in 0..times {
+            call();
+        }
+        let took = now() - start;
+        if took >= LONG_ENOUGH {
+            return took / times as f64;
+        }
+        times *= 2;
+    }
 }
 
 /// One run of the call. A call that writes is run once, on an image restored before;
@@ -46,9 +69,9 @@ fn run(store: &Library, img: &mut [u8], before: &[u8], call: &Call, steps: u64) 
         });
     }
     img.copy_from_slice(before);
-    let start = Instant::now();
+    let start = now();
     black_box(store.lend(black_box(img), call));
-    start.elapsed().as_secs_f64()
+    now() - start
 }
 
 /// The medians; the three take turns, so that they share what else the machine does.

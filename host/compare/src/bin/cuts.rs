@@ -1,9 +1,10 @@
 //! The power cut at every step, through the C interface: random histories of all
 //! calls against the ledger.
-//!   cuts [CALLS [SEED]]
-//! Some calls are tried at every allowance (long ones at both ends and a sample),
-//! each followed by the mount at every allowance; after each of them a whole mount,
-//! list and get must give the ledger. A call that the library hasn't is the model's.
+//!   cuts [CALLS [SEED [PERCENT]]]
+//! PERCENT of the calls are tried at every allowance (long ones at both ends and a
+//! sample), each followed by the mount at its allowances; after each of them a whole
+//! mount, list and get must give the ledger. The others are cut somewhere or not at
+//! all. A call that the library hasn't is the model's.
 use testing::argument;
 use testing::c_calls::Library;
 use testing::history::{Seen, Tester};
@@ -11,8 +12,8 @@ use testing::maker::Maker;
 use testing::rng::Rng;
 
 const LENGTHS: [usize; 9] = [8192, 8192, 8192, 12288, 12288, 16384, 20480, 32768, 65536];
-/// Percent of calls that are tried at every allowance.
-const EXHAUST: u64 = 2;
+/// Few, for long histories come to more kinds of image in the same time.
+const PERCENT: u64 = 2;
 /// The images that the histories have to come to.
 const AIMED: [&str; 10] = [
     "T = floor(h)",
@@ -47,10 +48,10 @@ fn aimed(seen: &Seen) -> usize {
 }
 
 fn main() {
-    let (calls, seed) = (argument(1, 60_000), argument(2, 1));
+    let (calls, seed, exhaust) = (argument(1, 60_000), argument(2, 1), argument(3, PERCENT));
     let store = Library::new(library::functions());
     println!("library: {}; its calls: {}", library::path().display(), store.functions().kinds().join(", "));
-    let mut tester = Tester { store: &store, exhaust: EXHAUST, seen: Seen::default() };
+    let mut tester = Tester { store: &store, exhaust, seen: Seen::default() };
     if let Err(v) = tester.until(&mut Rng::new(seed), calls, &LENGTHS, maker) {
         print!("{}", v.show(&store));
         std::process::exit(1);
@@ -59,7 +60,7 @@ fn main() {
         println!("{times:>9} {answer}");
     }
     let missing = aimed(&tester.seen);
-    println!("{missing} kinds of image not seen");
+    println!("{missing} kinds of image not seen{}", if missing > 0 { ": more calls are needed" } else { "" });
     println!("{} calls, each followed by a mount, list and get: 0 violations", tester.seen.checked);
     if missing > 0 {
         std::process::exit(1);
