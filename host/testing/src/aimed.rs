@@ -21,7 +21,7 @@ pub fn dirty_free_run(r: &mut Rng, img: &mut [u8]) {
 }
 
 /// Writes a record of a name and plain data; gives the place behind it.
-fn write_record(img: &mut [u8], at: u64, first: [u8; 3], name: &[u8], data: &[u8]) -> u64 {
+pub fn write_record(img: &mut [u8], at: u64, first: [u8; 3], name: &[u8], data: &[u8]) -> u64 {
     let (p, n) = (at as usize, name.len());
     let size = size_of(n as u64, data.len() as u64);
     let end = p + size as usize;

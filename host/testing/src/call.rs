@@ -1,6 +1,9 @@
 //! A call with its arguments, and what carries it out.
+use crate::rng::Rng;
 use crate::ALL;
+use model::faults::{self, Fault};
 use model::{log, Reply};
+use std::panic::{catch_unwind, AssertUnwindSafe};
 
 #[derive(Clone, Debug, PartialEq)]
 pub enum Call {
@@ -69,10 +72,26 @@ impl Call {
     }
 }
 
+/// The answers that each call can give, by the table of document 01.
+pub const ANSWERS: [(&str, &[u32]); 7] = [
+    ("format", &[0, 4, 22]),
+    ("mount", &[0, 4, 5, 6, 22]),
+    ("put", &[0, 4, 5, 6, 16, 22, 28]),
+    ("get", &[0, 2, 5, 6, 16, 22]),
+    ("list", &[0, 2, 5, 6, 16, 22]),
+    ("remove", &[0, 2, 4, 5, 6, 16, 22]),
+    ("sweep", &[0, 4, 5, 6, 16, 22, 28]),
+];
+
 /// What carries out calls: the model here, a library in a comparison.
 pub trait Store {
     /// The reply, or what was wrong with the steps of the call.
     fn call(&self, img: &mut [u8], call: &Call) -> Result<Reply, String>;
+
+    /// Whether it has this call of its own.
+    fn has(&self, _call: &Call) -> bool {
+        true
+    }
 }
 
 pub struct Model;
@@ -91,6 +110,36 @@ impl Store for Model {
             Some(d) => Err(format!("{:02x?} over {:02x}", d.step, d.found)),
             None => Ok(reply),
         }
+    }
+}
+
+/// The model with one fault: a wrong store, that a comparison must notice.
+pub struct Wrong(pub Fault);
+
+impl Store for Wrong {
+    /// A wrong model may trip over the image that it made itself.
+    fn call(&self, img: &mut [u8], call: &Call) -> Result<Reply, String> {
+        let run = || faults::with(self.0, || call.run(img));
+        catch_unwind(AssertUnwindSafe(run)).map_err(|_| "it panics".into())
+    }
+}
+
+/// The allowances to cut a call of this need at: all, or of a long call those at
+/// both ends and a sample; and one more than the need.
+pub fn allowances(r: &mut Rng, need: u64) -> Vec<u64> {
+    ends_and_sample(r, need, 60)
+}
+
+/// The same with fewer.
+pub fn few_allowances(r: &mut Rng, need: u64) -> Vec<u64> {
+    ends_and_sample(r, need, 4)
+}
+
+fn ends_and_sample(r: &mut Rng, need: u64, ends: u64) -> Vec<u64> {
+    if need <= 2 * ends {
+        (0..=need + 1).collect()
+    } else {
+        (0..=ends / 2).chain(need - ends..=need + 1).chain((0..ends / 2).map(|_| r.below(need))).collect()
     }
 }
 

@@ -1,9 +1,10 @@
 //! Random histories, checked after every call.
-use crate::call::{Call, Store};
+use crate::call::{allowances, few_allowances, Call, Store};
 use crate::facts::Facts;
-use crate::ledger::World;
+use crate::ledger::{replay, shrink, World};
 use crate::maker::Maker;
 use crate::rng::Rng;
+use model::{blank, floor, SECTOR};
 use std::collections::BTreeMap;
 
 /// A history with its first violation.
@@ -11,6 +12,29 @@ pub struct Violation {
     pub n: usize,
     pub calls: Vec<Call>,
     pub what: String,
+}
+
+impl Violation {
+    /// The violation, and a shorter history that has one.
+    pub fn show(&self, store: &impl Store) -> String {
+        let short = shrink(store, self.n, &self.calls);
+        let mut s = format!("VIOLATION N={}: {}; {} calls\n", self.n, self.what, self.calls.len());
+        s += &format!("minimised: {:?}\n", replay(store, self.n, &short));
+        short.iter().for_each(|c| s += &format!("  {c:02x?}\n"));
+        s
+    }
+}
+
+/// From one image to the other is a step at most: one byte, whose bits only clear,
+/// or one sector erased.
+fn one_step(before: &[u8], after: &[u8]) -> bool {
+    let changed: Vec<usize> = (0..before.len()).filter(|&a| before[a] != after[a]).collect();
+    let (Some(&first), Some(&last)) = (changed.first(), changed.last()) else { return true };
+    if first == last && after[first] & !before[first] == 0 {
+        return true;
+    }
+    let sector = floor(first as u64);
+    sector == floor(last as u64) && blank(after, sector, sector + SECTOR)
 }
 
 /// What was seen in the histories run so far.
@@ -24,13 +48,30 @@ pub struct Seen {
 
 pub struct Tester<'s, S: Store> {
     pub store: &'s S,
-    /// percent of calls at which every cut is tried, each followed by every cut of
-    /// the mount after it
+    /// percent of calls at which every cut is tried, each followed by cuts of the
+    /// mount after it
     pub exhaust: u64,
     pub seen: Seen,
 }
 
 impl<S: Store> Tester<'_, S> {
+    /// Histories until so many calls are checked, each with an N of these and a maker
+    /// of this; the first violation ends them.
+    pub fn until(
+        &mut self,
+        r: &mut Rng,
+        calls: u64,
+        lengths: &[usize],
+        maker: impl Fn(&mut Rng) -> Maker,
+    ) -> Result<(), Violation> {
+        while self.seen.checked < calls {
+            let (n, maker) = (r.of(lengths), maker(r));
+            let length = 20 + r.below(200);
+            self.run(r, n, &maker, length)?;
+        }
+        Ok(())
+    }
+
     /// One history of `length` calls.
     pub fn run(&mut self, r: &mut Rng, n: usize, maker: &Maker, length: u64) -> Result<(), Violation> {
         let mut w = World::new(n);
@@ -61,18 +102,19 @@ impl<S: Store> Tester<'_, S> {
         }
     }
 
-    /// Every cut of a call (of a long one many), and every cut of the mount after it.
+    /// Every cut of a call (of a long one many), and many cuts of the mount after it.
+    /// From one cut to the next is one step.
     fn every_cut(&mut self, r: &mut Rng, w: &World, calls: &[Call], call: &Call) -> Result<(), Violation> {
-        let need = call.need(&w.img);
-        let cuts: Vec<u64> = if need <= 120 {
-            (0..=need).collect()
-        } else {
-            (0..=30).chain(need - 60..=need).chain((0..30).map(|_| r.below(need))).collect()
-        };
-        for k in cuts {
+        let mut last: Option<(u64, Vec<u8>)> = None;
+        for k in allowances(r, call.need(&w.img)) {
             let (mut cut, mut before) = (w.clone(), calls.to_vec());
             self.step(&mut cut, &mut before, &call.with_allowance(k))?;
-            for j in 0..=Call::Mount(0).need(&cut.img).min(60) {
+            if last.is_some_and(|(j, img)| j + 1 == k && !one_step(&img, &cut.img)) {
+                let what = format!("from allowance {} to {k} is more than a step", k - 1);
+                return Err(Violation { n: cut.img.len(), calls: before, what });
+            }
+            last = Some((k, cut.img.clone()));
+            for j in few_allowances(r, Call::Mount(0).need(&cut.img)) {
                 self.step(&mut cut.clone(), &mut before.clone(), &Call::Mount(j))?;
             }
         }

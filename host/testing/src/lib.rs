@@ -2,13 +2,18 @@
 //! document 01 and the check of demand 3, the facts expected of histories.
 
 pub mod aimed;
+pub mod c_calls;
 pub mod call;
+pub mod cc;
+pub mod compare;
 pub mod facts;
 pub mod history;
 pub mod images;
 pub mod ledger;
 pub mod maker;
+pub mod odd;
 pub mod rng;
+pub mod tags;
 
 /// An allowance that no call uses up.
 pub const ALL: u64 = u64::MAX;

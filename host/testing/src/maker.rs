@@ -92,6 +92,19 @@ impl Maker {
         }
     }
 
+    /// Records longer than a sector, so that a move vacates several at once.
+    pub fn long_records(r: &mut Rng) -> Maker {
+        Maker {
+            lengths: Lengths::Uniform(r.of(&[SECTOR, SECTOR + 1024, 2 * SECTOR, 3 * SECTOR])),
+            ..Maker::full_sectors(r)
+        }
+    }
+
+    /// Records that fill no sector exactly, so that the turn needs a marker.
+    pub fn with_markers(r: &mut Rng) -> Maker {
+        Maker { lengths: Lengths::Uniform(r.of(&[488, 1000, 1360, 2000, 3000])), cut: 30, ..Maker::full_sectors(r) }
+    }
+
     /// Short contents and many cuts: calls with few steps.
     pub fn short(big: u64) -> Maker {
         Maker {

@@ -10,15 +10,9 @@ use testing::rng::Rng;
 fn histories(seed: u64, calls: u64, exhaust: u64) -> (Seen, Option<String>) {
     let mut r = Rng::new(seed);
     let mut tester = Tester { store: &Model, exhaust, seen: Seen::default() };
-    while tester.seen.checked < calls {
-        let n = r.of(&[8192, 12288, 16384, 20480]);
-        let maker = if r.chance(50) { Maker::full_sectors(&mut r) } else { Maker::rich(&mut r) };
-        let length = 20 + r.below(200);
-        if let Err(v) = tester.run(&mut r, n, &maker, length) {
-            return (tester.seen, Some(v.what));
-        }
-    }
-    (tester.seen, None)
+    let maker = |r: &mut Rng| if r.chance(50) { Maker::full_sectors(r) } else { Maker::rich(r) };
+    let violation = tester.until(&mut r, calls, &[8192, 12288, 16384, 20480], maker).err();
+    (tester.seen, violation.map(|v| v.what))
 }
 
 /// "bits only clear, mount answers 0, the ledger's files, list, get", on histories

@@ -1,26 +1,17 @@
 //! Which runs of the model become vectors.
 use crate::emit::{equation, place_equation, Vector};
-use crate::{histories, tags};
+use crate::histories;
+use crate::required::REQUIRED;
 use model::*;
 use std::collections::BTreeMap;
 use std::fmt::Write as _;
 use testing::aimed::{behind_torn, dirty_free_run, reserved_byte, superseded, superseded_head, tight, unfinished_last};
-use testing::call::Call;
+use testing::call::{Call, ANSWERS};
 use testing::images::{built, damage, of_history};
 use testing::maker::{Contents, Lengths, Maker};
 use testing::rng::Rng;
-use testing::ALL;
+use testing::{tags, ALL};
 
-/// The answers that each call can give.
-const ANSWERS: [(&str, &[u32]); 7] = [
-    ("format", &[0, 4, 22]),
-    ("mount", &[0, 4, 5, 6, 22]),
-    ("put", &[0, 4, 5, 6, 16, 22, 28]),
-    ("get", &[0, 2, 5, 6, 16, 22]),
-    ("list", &[0, 2, 5, 6, 16, 22]),
-    ("remove", &[0, 2, 4, 5, 6, 16, 22]),
-    ("sweep", &[0, 4, 5, 6, 16, 22, 28]),
-];
 const SOURCES: [&str; 9] =
     ["history", "whole history", "built", "damaged", "dirty", "tight", "reserved byte", "behind torn", "bad length"];
 /// How many vectors each of these needs at least.
@@ -92,7 +83,7 @@ impl Collection {
     /// What has too few vectors.
     pub fn missing(&self) -> Vec<String> {
         let answers = ANSWERS.iter().flat_map(|(kind, all)| all.iter().map(move |a| format!("{kind} {a}")));
-        let tags = tags::REQUIRED.iter().map(|t| format!("tag {t}"));
+        let tags = REQUIRED.iter().map(|t| format!("tag {t}"));
         let sources = SOURCES.iter().map(|s| format!("source {s}"));
         answers.chain(tags).chain(sources).filter(|w| self.count(w) < EACH).collect()
     }

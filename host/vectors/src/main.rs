@@ -9,8 +9,8 @@ mod emit;
 mod faults;
 mod helper;
 mod histories;
+mod required;
 mod scratch;
-mod tags;
 
 use collect::Collection;
 use emit::Vector;

@@ -1,54 +1,10 @@
-//! What a vector shows, so that the table can tell what is covered.
+//! What a call on an image shows, so that a tester can tell what it covered.
+use crate::call::Call;
 use model::*;
-use testing::call::Call;
 
-/// Tags that must have vectors.
-pub const REQUIRED: [&str; 44] = [
-    "N 8192",
-    "N 12288",
-    "bad length",
-    "turned",
-    "not turned",
-    "floor(h) > 0",
-    "chain ends at N",
-    "T = N",
-    "T = 0 after the turn",
-    "T = floor(h)",
-    "marker",
-    "torn",
-    "torn wrap",
-    "reserved, name cut",
-    "reserved, content cut",
-    "START, next CLEAN",
-    "START, next START",
-    "START, next CLEAN at 0",
-    "next at 0",
-    "CLEAN head",
-    "CLEAN head at 0",
-    "CLEAN head, dirty free run",
-    "CLEAN head, marked next",
-    "superseded F8",
-    "superseded F8 and unfinished",
-    "superseded head, marked next",
-    "several live F8",
-    "live head",
-    "several moves",
-    "five moves",
-    "sweep erases",
-    "sweep erases to N",
-    "put replaces FC",
-    "put replaces F8",
-    "put with marker",
-    "room for one more, not two",
-    "room, the replaced one out",
-    "wear record",
-    "reserved after the turn",
-    "allowance is the need",
-    "history: put cut at the commit",
-    "history: put cut before the commit",
-    "place, T = N before the turn",
-    "place, turned",
-];
+fn add(t: &mut Vec<&'static str>, found: &[(&'static str, bool)]) {
+    t.extend(found.iter().filter(|x| x.1).map(|x| x.0));
+}
 
 /// The state of an image.
 fn of_image(img: &[u8], t: &mut Vec<&'static str>) {
@@ -56,6 +12,7 @@ fn of_image(img: &[u8], t: &mut Vec<&'static str>) {
     t.push(match n {
         8192 => "N 8192",
         12288 => "N 12288",
+        _ if good_length(n) => "N above 12288",
         _ => "bad length",
     });
     if !good_length(n) {
@@ -100,7 +57,7 @@ fn of_image(img: &[u8], t: &mut Vec<&'static str>) {
         ("wear record", c.records.iter().any(|r| r.status == WEAR)),
         ("reserved after the turn", last.status == RESERVED && last.turned),
     ];
-    t.extend(found.iter().filter(|x| x.1).map(|x| x.0));
+    add(t, &found);
 }
 
 /// What a put does with the room.
@@ -122,12 +79,18 @@ fn of_put(img: &[u8], name: &[u8], data: &[u8], t: &mut Vec<&'static str>) {
     if put_room(img, &c, name, d).is_some() && !fits_every {
         t.push("room, the replaced one out");
     }
-    match put_room(img, &c, name, d) {
-        Some(p) if p.marker.is_some() => t.push("put with marker"),
-        Some(_) => {}
-        None if c.place(n).fit(s).and_then(|p| p.next.fit(largest)).is_some() => t.push("room for one more, not two"),
-        None => {}
-    }
+    let room = |d| put_room(img, &c, name, d);
+    let found = [
+        ("put with marker", room(d).is_some_and(|p| p.marker.is_some())),
+        ("put ends at N", room(d).is_some_and(|p| p.at + s == n)),
+        ("put fills its room", room(d).is_some() && room(d + 1).is_none()),
+        ("put one byte too long", room(d).is_none() && d > 0 && room(d - 1).is_some()),
+        (
+            "room for one more, not two",
+            room(d).is_none() && c.place(n).fit(s).and_then(|p| p.next.fit(largest)).is_some(),
+        ),
+    ];
+    add(t, &found);
 }
 
 pub fn of(img: &[u8], call: &Call, reply: &Reply, after: &[u8]) -> Vec<&'static str> {
@@ -145,9 +108,10 @@ pub fn of(img: &[u8], call: &Call, reply: &Reply, after: &[u8]) -> Vec<&'static 
                 ("several moves", reply.first >= 2),
                 ("five moves", reply.first == 5),
                 ("sweep erases", erased.contains(&true)),
+                ("sweep erases several", erased.iter().filter(|&&e| e).count() >= 2),
                 ("sweep erases to N", erased.last() == Some(&true)),
             ];
-            t.extend(found.iter().filter(|x| x.1).map(|x| x.0));
+            add(&mut t, &found);
         }
         _ => {}
     }

@@ -1,0 +1,26 @@
+//! Compiles the C files by gcc -O2 into a static library.
+use std::path::Path;
+use std::process::Command;
+
+const FILES: [&str; 8] = ["record", "head", "chain", "flash", "write", "mount", "sweep", "scan"];
+const FLAGS: [&str; 7] = ["-O2", "-std=c99", "-Wall", "-Wextra", "-Werror", "-pedantic", "-fPIC"];
+
+fn run(command: &mut Command) {
+    let status = command.status().unwrap_or_else(|e| panic!("{command:?}: {e}"));
+    assert!(status.success(), "{command:?}");
+}
+
+fn main() {
+    let folder = std::env::var("OUT_DIR").expect("cargo says where");
+    let mut archive = Command::new("ar");
+    archive.arg("rcs").arg(Path::new(&folder).join("libbaseline.a"));
+    for file in FILES {
+        let object = Path::new(&folder).join(format!("{file}.o"));
+        run(Command::new("gcc").args(FLAGS).arg("-c").arg(format!("c/{file}.c")).arg("-o").arg(&object));
+        archive.arg(object);
+    }
+    run(&mut archive);
+    println!("cargo:rustc-link-search=native={folder}");
+    println!("cargo:rustc-link-lib=static=baseline");
+    println!("cargo:rerun-if-changed=c");
+}

@@ -1,0 +1,164 @@
+//! A stand-in for the proved library, for tests of the tests alone: the model
+//! under the C names of include/lilota.h. With a name of `model::faults::Fault`
+//! in STANDIN_FAULT it is wrong in that way, and a comparison must notice.
+//!
+//! Nothing here is proved and nothing of it is delivered.
+use model::faults::{self, Fault};
+use model::Reply;
+use std::panic::{catch_unwind, AssertUnwindSafe};
+use std::sync::OnceLock;
+
+/// A wrong model may trip over the image that it made itself.
+const TRIPPED: u32 = 99;
+
+fn fault() -> Option<Fault> {
+    static FAULT: OnceLock<Option<Fault>> = OnceLock::new();
+    *FAULT.get_or_init(|| {
+        let name = std::env::var("STANDIN_FAULT").ok()?;
+        let found = Fault::ALL.into_iter().find(|f| format!("{f:?}") == name);
+        Some(found.unwrap_or_else(|| panic!("no fault {name}")))
+    })
+}
+
+fn run(call: impl FnOnce() -> Reply) -> Reply {
+    let seeded = || match fault() {
+        Some(f) => faults::with(f, call),
+        None => call(),
+    };
+    catch_unwind(AssertUnwindSafe(seeded)).unwrap_or(Reply::refusal(TRIPPED))
+}
+
+/// # Safety
+/// A pointer, not null unless the length is 0, to so many bytes.
+unsafe fn slice<'a>(at: *const u8, length: usize) -> &'a [u8] {
+    if length == 0 {
+        &[]
+    } else {
+        std::slice::from_raw_parts(at, length)
+    }
+}
+
+/// # Safety
+/// As `slice`, and nothing else has these bytes.
+unsafe fn slice_mut<'a>(at: *mut u8, length: usize) -> &'a mut [u8] {
+    if length == 0 {
+        &mut []
+    } else {
+        std::slice::from_raw_parts_mut(at, length)
+    }
+}
+
+/// # Safety
+/// As include/lilota.h says.
+#[no_mangle]
+pub unsafe extern "C" fn lilota_format(image: *mut u8, length: usize, allowance: usize, steps: *mut usize) -> u32 {
+    let reply = run(|| model::format(slice_mut(image, length), allowance as u64));
+    *steps = reply.steps as usize;
+    reply.answer
+}
+
+/// # Safety
+/// As include/lilota.h says.
+#[no_mangle]
+pub unsafe extern "C" fn lilota_mount(
+    image: *mut u8,
+    length: usize,
+    allowance: usize,
+    head: *mut usize,
+    tail: *mut usize,
+    files: *mut usize,
+    steps: *mut usize,
+) -> u32 {
+    let reply = run(|| model::mount(slice_mut(image, length), allowance as u64));
+    *head = reply.first as usize;
+    *tail = reply.second as usize;
+    *files = reply.third as usize;
+    *steps = reply.steps as usize;
+    reply.answer
+}
+
+/// # Safety
+/// As include/lilota.h says.
+#[no_mangle]
+pub unsafe extern "C" fn lilota_put(
+    image: *mut u8,
+    length: usize,
+    name: *const u8,
+    name_length: usize,
+    content: *const u8,
+    content_length: usize,
+    allowance: usize,
+    steps: *mut usize,
+) -> u32 {
+    let (name, content) = (slice(name, name_length), slice(content, content_length));
+    let reply = run(|| model::put(slice_mut(image, length), name, content, allowance as u64));
+    *steps = reply.steps as usize;
+    reply.answer
+}
+
+/// # Safety
+/// As include/lilota.h says.
+#[no_mangle]
+pub unsafe extern "C" fn lilota_get(
+    image: *const u8,
+    length: usize,
+    name: *const u8,
+    name_length: usize,
+    offset: *mut usize,
+    size: *mut usize,
+) -> u32 {
+    let reply = run(|| model::get(slice(image, length), slice(name, name_length)));
+    *offset = reply.first as usize;
+    *size = reply.second as usize;
+    reply.answer
+}
+
+/// # Safety
+/// As include/lilota.h says.
+#[no_mangle]
+pub unsafe extern "C" fn lilota_list(
+    image: *const u8,
+    length: usize,
+    index: usize,
+    name_offset: *mut usize,
+    name_length: *mut usize,
+    size: *mut usize,
+) -> u32 {
+    let reply = run(|| model::list(slice(image, length), index as u64));
+    *name_offset = reply.first as usize;
+    *name_length = reply.second as usize;
+    *size = reply.third as usize;
+    reply.answer
+}
+
+/// # Safety
+/// As include/lilota.h says.
+#[no_mangle]
+pub unsafe extern "C" fn lilota_remove(
+    image: *mut u8,
+    length: usize,
+    name: *const u8,
+    name_length: usize,
+    allowance: usize,
+    steps: *mut usize,
+) -> u32 {
+    let reply = run(|| model::remove(slice_mut(image, length), slice(name, name_length), allowance as u64));
+    *steps = reply.steps as usize;
+    reply.answer
+}
+
+/// # Safety
+/// As include/lilota.h says.
+#[no_mangle]
+pub unsafe extern "C" fn lilota_sweep(
+    image: *mut u8,
+    length: usize,
+    allowance: usize,
+    moves: *mut usize,
+    steps: *mut usize,
+) -> u32 {
+    let reply = run(|| model::sweep(slice_mut(image, length), allowance as u64));
+    *moves = reply.first as usize;
+    *steps = reply.steps as usize;
+    reply.answer
+}

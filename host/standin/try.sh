@@ -1,0 +1,25 @@
+#!/usr/bin/env bash
+# The testers themselves, tried without the proved library: the stand-in passes, and
+# each of its faults is noticed by the comparison and by the cut test.
+set -euo pipefail
+cd "$(dirname "$0")/.."
+
+cargo build --release --offline --quiet -p standin
+LILOTA_LIB="$PWD/target/release/libstandin.a"
+export LILOTA_LIB
+built=target/standin
+cargo build --release --offline --quiet --target-dir "$built" -p compare
+"$built/release/compare" | tail -n 1
+"$built/release/cuts" | tail -n 1
+
+faults=$(sed -n 's/^    \([A-Z][A-Za-z]*\),$/\1/p' model/src/faults.rs)
+for fault in $faults; do
+    for tester in compare "cuts 400000"; do
+        # $tester is a name with its arguments
+        if STANDIN_FAULT="$fault" "$built"/release/$tester >/dev/null 2>&1; then
+            echo "$fault is not noticed by $tester"
+            exit 1
+        fi
+    done
+    echo "$fault is noticed"
+done

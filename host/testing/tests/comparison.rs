@@ -1,0 +1,123 @@
+//! The comparison: it finds no difference where there is none, comes to every
+//! answer, and notices wrong stores.
+use model::faults::Fault;
+use model::Reply;
+use testing::c_calls::{Functions, Library};
+use testing::call::{Call, Model, Store, Wrong, ANSWERS};
+use testing::compare::{Comparison, Tally};
+use testing::ALL;
+
+fn compared(store: &impl Store, images: u64) -> Tally {
+    let mut comparison = Comparison::new(store);
+    comparison.run(5, images, false);
+    comparison.tally
+}
+
+/// Places that random images come to seldom (testing::tags).
+const PLACES: [&str; 22] = [
+    "T = N",
+    "T = 0 after the turn",
+    "T = floor(h)",
+    "chain ends at N",
+    "START, next CLEAN at 0",
+    "START, next START",
+    "CLEAN head at 0",
+    "CLEAN head, dirty free run",
+    "CLEAN head, marked next",
+    "superseded head, marked next",
+    "torn wrap",
+    "reserved, name cut",
+    "reserved, content cut",
+    "reserved after the turn",
+    "put with marker",
+    "put ends at N",
+    "put fills its room",
+    "put one byte too long",
+    "put replaces F8",
+    "room, the replaced one out",
+    "sweep erases several",
+    "sweep erases to N",
+];
+
+#[test]
+fn the_model_equals_itself() {
+    let tally = compared(&Model, 10_000);
+    assert_eq!(tally.differ, 0, "{}", tally.report());
+    for (kind, answers) in ANSWERS {
+        for &answer in answers {
+            assert!(tally.answered(kind, answer) >= 20, "{kind} {answer}\n{}", tally.report());
+        }
+    }
+    for place in PLACES {
+        assert!(tally.tagged(place) >= 10, "{place}\n{}", tally.report());
+    }
+}
+
+#[test]
+fn faults_are_noticed() {
+    for fault in Fault::ALL {
+        assert!(compared(&Wrong(fault), 10_000).differ > 0, "{fault:?} is not noticed");
+    }
+}
+
+/// The model, with what it answers or leaves changed by a function.
+struct Changed(fn(&Call, &mut Reply, &mut [u8]));
+
+impl Store for Changed {
+    fn call(&self, img: &mut [u8], call: &Call) -> Result<Reply, String> {
+        let mut reply = call.run(img);
+        (self.0)(call, &mut reply, img);
+        Ok(reply)
+    }
+}
+
+fn wrong_step_count(_: &Call, reply: &mut Reply, _: &mut [u8]) {
+    reply.steps += (reply.answer == 0 && reply.steps > 24) as u64;
+}
+
+fn number_after_refusal(_: &Call, reply: &mut Reply, _: &mut [u8]) {
+    reply.second = if reply.answer == 6 { 1 } else { reply.second };
+}
+
+fn byte_after_refusal(_: &Call, reply: &mut Reply, img: &mut [u8]) {
+    if reply.answer == 28 {
+        *img.last_mut().expect("an image") = 0;
+    }
+}
+
+fn tail_of_the_image_before(call: &Call, reply: &mut Reply, img: &mut [u8]) {
+    // N where the chain has turned at N (decision 6)
+    if matches!(call, Call::Mount(_)) && reply.answer == 0 && reply.second == 0 {
+        reply.second = img.len() as u64;
+    }
+}
+
+#[test]
+fn changed_answers_are_noticed() {
+    for change in [wrong_step_count, number_after_refusal, byte_after_refusal, tail_of_the_image_before] {
+        assert!(compared(&Changed(change), 10_000).differ > 0);
+    }
+}
+
+/// Refuses, and leaves the number of steps unwritten.
+unsafe extern "C" fn silent(_: *mut u8, _: usize, _: usize, _: *mut usize) -> u32 {
+    22
+}
+
+/// Refuses, and writes the byte behind the image.
+unsafe extern "C" fn spilling(image: *mut u8, length: usize, _: usize, steps: *mut usize) -> u32 {
+    *steps = 0;
+    if !image.is_null() {
+        *image.add(length) = 0;
+    }
+    22
+}
+
+#[test]
+fn careless_c_is_noticed() {
+    for format in [silent, spilling] {
+        let store = Library::new(Functions { format: Some(format), ..Functions::default() });
+        let reply = store.call(&mut [0xFF; 4096], &Call::Format(ALL));
+        assert_ne!(reply, Ok(Reply::refusal(22)));
+    }
+}

@@ -1,0 +1,112 @@
+/*
+ * lilota: a small file store over one image of NOR flash.
+ *
+ * The image is lent for each call: its first byte and its length in bytes, a
+ * multiple of 4,096 from 8,192 to 16,777,216. Nothing is kept between calls.
+ *
+ * Arguments. A pointer and the length behind it name a stretch of bytes; with
+ * length 0 the pointer may be null. A file name has 1 to 63 bytes, each 21 to
+ * 7E hex, the last not '/', and no 00 behind it. Name and content must not
+ * overlap the image. The pointers to numbers that a call gives back must not be
+ * null, nor overlap anything else.
+ *
+ * Flash steps. To program one byte or to erase one sector of 4,096 bytes is a
+ * step. A writing call takes an allowance, the most steps that it may do, and
+ * gives back the steps that it did. A power cut after k steps leaves what the
+ * same call with allowance k leaves. SIZE_MAX allows all that a call needs.
+ *
+ * Answers. Each call answers with one of the numbers below, checked in their
+ * order. Unless the answer is LILOTA_DONE or LILOTA_CUT, every number given
+ * back is 0 and the image is unchanged.
+ */
+#ifndef LILOTA_H
+#define LILOTA_H
+
+#include <stddef.h>
+#include <stdint.h>
+
+#ifdef __cplusplus
+extern "C" {
+#endif
+
+/* The image's length is bad, or the name is (put, get, remove). */
+#define LILOTA_INVALID 22u
+/* The image breaks a rule of the layout. All calls but format. */
+#define LILOTA_BROKEN 5u
+/* The image has no head: it was never formatted. All calls but format. */
+#define LILOTA_NO_HEAD 6u
+/* Something is left unfinished: mount first. All calls but mount and format. */
+#define LILOTA_UNSETTLED 16u
+/* No such file (get, remove), or no file with that index (list). */
+#define LILOTA_NO_FILE 2u
+/* No room for the file (put), or for the first move (sweep). */
+#define LILOTA_NO_ROOM 28u
+/* The allowance was used up before the last step; the steps before are done. */
+#define LILOTA_CUT 4u
+/* Done. */
+#define LILOTA_DONE 0u
+
+/*
+ * Erases all and leaves an empty store. Gives back the steps done.
+ * Answers: 22, 4, 0.
+ */
+uint32_t lilota_format(uint8_t *image, size_t length, size_t allowance,
+                       size_t *steps);
+
+/*
+ * Repairs what a power cut left, so that the other calls take the image. Done,
+ * it gives back the head's and the tail's address, the number of files and the
+ * steps done; cut, the steps alone. An image with nothing to repair is done in
+ * 0 steps. Answers: 22, 5, 6, 4, 0.
+ */
+uint32_t lilota_mount(uint8_t *image, size_t length, size_t allowance,
+                      size_t *head, size_t *tail, size_t *files,
+                      size_t *steps);
+
+/*
+ * Writes a whole file, in place of an older one of its name. One step is the
+ * commit: cut before it the old file stands, after it the new one does. Gives
+ * back the steps done. Answers: 22, 5, 6, 16, 28, 4, 0.
+ */
+uint32_t lilota_put(uint8_t *image, size_t length,
+                    const uint8_t *name, size_t name_length,
+                    const uint8_t *content, size_t content_length,
+                    size_t allowance, size_t *steps);
+
+/*
+ * Gives back where the file's bytes stand in the image, and how many there are.
+ * They stay there up to the next writing call. Answers: 22, 5, 6, 16, 2, 0.
+ */
+uint32_t lilota_get(const uint8_t *image, size_t length,
+                    const uint8_t *name, size_t name_length,
+                    size_t *offset, size_t *size);
+
+/*
+ * The file with this index, 0 the first: gives back where its name stands in
+ * the image, the name's length, and the file's length. Answers: 22, 5, 6, 16,
+ * 2, 0.
+ */
+uint32_t lilota_list(const uint8_t *image, size_t length, size_t index,
+                     size_t *name_offset, size_t *name_length, size_t *size);
+
+/*
+ * Removes a file, in one step. Gives back the steps done.
+ * Answers: 22, 5, 6, 16, 2, 4, 0.
+ */
+uint32_t lilota_remove(uint8_t *image, size_t length,
+                       const uint8_t *name, size_t name_length,
+                       size_t allowance, size_t *steps);
+
+/*
+ * Makes room: moves the head on by up to 5 records, copies the live ones to the
+ * tail and erases what is left behind. Gives back the finished moves and the
+ * steps done, if cut too. Answers: 22, 5, 6, 16, 28, 4, 0.
+ */
+uint32_t lilota_sweep(uint8_t *image, size_t length, size_t allowance,
+                      size_t *moves, size_t *steps);
+
+#ifdef __cplusplus
+}
+#endif
+
+#endif
