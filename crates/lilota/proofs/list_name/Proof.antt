@@ -1,15 +1,22 @@
-use Prim.Native.Nat.{_-_}
-use Rattle.lilota.specs.Look.{part-is}
+use mathlib.Core.Path.{_≡_, refl, sym, ap, ap₂, subst, _∙_}
+use mathlib.Core.Bool.{Bool, true, false}
+use Prim.Native.Nat.{ℕ, _+_, _-_}
+use lib.ListN.{take, drop}
+use Rattle.spec.specs.Answers.{Outcome, part-of}
+use Rattle.lilota.specs.Look.{Good, good, refused-is, getting-is, listing-is, named-file, indexed-file, found-none, found-get, found-listed, get-length, get-name, get-on, list-length, list-on, part-is}
 use Rattle.lilota.specs.Numbers.{listed-at}
 use borrow.Author.Needs.{needs}
 use Rattle.lilota.proofs.list_name.Statement.{statement}
 use Rattle.lilota.proofs.list_name.Tie as tie
+use Rattle.lilota.proofs.list_name.Reads as reads
+use Rattle.lilota.proofs.list_name.Lts as lts
+use Rattle.lilota.proofs.list_place.Reads as list-place-reads
 
 list-place-requires : tie.Need-list-place-requires
 list-place-requires c κs = tt
 
-add-to : tie.Need-add-to
-add-to c = search needs
+add-end : tie.Need-add-end
+add-end c = search needs
 
 sub-result : tie.Need-sub-result
 sub-result c = search needs
@@ -26,4 +33,4 @@ returns c = part-is (c .before .before .before .before .args .image .now) (liste
 pub list-name-spec : {M : Type 1} → statement M
 list-name-spec =
     tie.close
-    (tie.spec list-place-requires add-to sub-result part-result-start part-result-end returns)
+    (tie.spec list-place-requires add-end sub-result part-result-start part-result-end returns)
