@@ -1,15 +1,10 @@
-use mathlib.Core.Path.{_≡_, refl, sym, ap, ap₂, subst, _∙_}
-use mathlib.Core.Bool.{Bool, true, false}
-use Rattle.record.specs.Suffix.{flag, unflag}
-use Rattle.lilota.specs.Wipe.{Erasing, erasing-start, erasing-step, erasing-end, erasing-count, format-bad, format-done, format-cut}
+use mathlib.Core.Path.{refl}
+use Rattle.record.specs.Suffix.{flag}
+use Rattle.lilota.specs.Wipe.{format-bad, format-done, format-cut}
 use native.Mathlib.Omega.{arith}
 use borrow.Author.Needs.{needs}
 use Rattle.lilota.proofs.format.Statement.{statement}
 use Rattle.lilota.proofs.format.Tie as tie
-use Rattle.lilota.proofs.format.Reads as reads
-use Rattle.lilota.proofs.format.Lts as lts
-use Rattle.lilota.proofs.good_length.Reads as good-length-reads
-use Rattle.lilota.proofs.wipe.wipe.Reads as wipe-reads
 
 good-length-requires : tie.Need-good-length-requires
 good-length-requires c κs = search needs

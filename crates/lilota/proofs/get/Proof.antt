@@ -1,16 +1,9 @@
-use mathlib.Core.Path.{_≡_, refl, sym, ap, ap₂, subst, _∙_}
-use mathlib.Core.Bool.{Bool, true, false}
-use Prim.Native.Nat.{ℕ, _+_, _-_}
-use lib.ListN.{take, drop}
-use Rattle.spec.specs.Answers.{Outcome, part-of}
-use Rattle.lilota.specs.Look.{Good, good, refused-is, getting-is, listing-is, named-file, indexed-file, found-none, found-get, found-listed, get-length, get-name, get-on, list-length, list-on, part-is}
+use Prim.Native.Nat.{_-_}
+use Rattle.lilota.specs.Look.{part-is}
 use Rattle.lilota.specs.Numbers.{held-at}
 use borrow.Author.Needs.{needs}
 use Rattle.lilota.proofs.get.Statement.{statement}
 use Rattle.lilota.proofs.get.Tie as tie
-use Rattle.lilota.proofs.get.Reads as reads
-use Rattle.lilota.proofs.get.Lts as lts
-use Rattle.lilota.proofs.get_place.Reads as get-place-reads
 
 get-place-requires : tie.Need-get-place-requires
 get-place-requires c κs = tt

@@ -1,16 +1,10 @@
-use mathlib.Core.Path.{_≡_, refl, sym, ap, ap₂, subst, _∙_}
-use mathlib.Core.Bool.{Bool, true, false}
-use Rattle.record.specs.Suffix.{flag, unflag}
-use Rattle.lilota.specs.Look.{Good, good, refused-is, getting-is, listing-is, named-file, indexed-file, found-none, found-get, found-listed, get-length, get-name, get-on, list-length, list-on, part-is}
+use mathlib.Core.Path.{_∙_}
+use Rattle.record.specs.Suffix.{flag}
+use Rattle.lilota.specs.Look.{get-length, get-name, get-on}
 use native.Mathlib.Omega.{arith}
 use borrow.Author.Needs.{needs}
 use Rattle.lilota.proofs.get_place.Statement.{statement}
 use Rattle.lilota.proofs.get_place.Tie as tie
-use Rattle.lilota.proofs.get_place.Reads as reads
-use Rattle.lilota.proofs.get_place.Lts as lts
-use Rattle.lilota.proofs.good_length.Reads as good-length-reads
-use Rattle.lilota.proofs.look.get_in.Reads as get-in-reads
-use Rattle.record.proofs.name.name_ok.Reads as name-ok-reads
 
 good-length-requires : tie.Need-good-length-requires
 good-length-requires c κs = search needs
@@ -22,9 +16,10 @@ get-in-requires : tie.Need-get-in-requires
 get-in-requires c κs = flag (c .before .before .before .good-length .ensures) (c .before .before .if1 .taken)
 
 returns : tie.Need-returns
-returns c =
-    ( c .get-in .ensures .0 ∙ get-on (c .before .before .before .before .before .before .before .args .image .now) (c .before .before .before .before .before .before .before .args .name .now) (flag (c .before .before .before .before .good-length .ensures) (c .before .before .before .if1 .taken)) (flag (c .before .before .name-ok .ensures) (c .before .if2 .taken))
-    , c .get-in .ensures .1 )
+returns c = (
+  c .get-in .ensures .0 ∙ get-on (c .before .before .before .before .before .before .before .args .image .now) (c .before .before .before .before .before .before .before .args .name .now) (flag (c .before .before .before .before .good-length .ensures) (c .before .before .before .if1 .taken)) (flag (c .before .before .name-ok .ensures) (c .before .if2 .taken)),
+  c .get-in .ensures .1,
+)
 
 returns-2 : tie.Need-returns-2
 returns-2 c = (get-name (c .before .before .before .before .before .before .args .image .now) (c .before .before .before .before .before .before .args .name .now) (flag (c .before .before .before .good-length .ensures) (c .before .before .if1 .taken)) (flag (c .before .name-ok .ensures) (c .if2 .left)), omega arith)

@@ -2,8 +2,6 @@ use borrow.Author.Tests.{eq-eqb, ne-eqb, le-leb, lt-leb}
 use Rattle.spec.specs.Geometry.{good-length}
 use Rattle.lilota.proofs.good_length.Statement.{statement}
 use Rattle.lilota.proofs.good_length.Tie as tie
-use Rattle.lilota.proofs.good_length.Reads as reads
-use Rattle.lilota.proofs.good_length.Lts as lts
 
 returns : tie.Need-returns
 unfolding good-length

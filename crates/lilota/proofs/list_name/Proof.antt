@@ -1,16 +1,9 @@
-use mathlib.Core.Path.{_≡_, refl, sym, ap, ap₂, subst, _∙_}
-use mathlib.Core.Bool.{Bool, true, false}
-use Prim.Native.Nat.{ℕ, _+_, _-_}
-use lib.ListN.{take, drop}
-use Rattle.spec.specs.Answers.{Outcome, part-of}
-use Rattle.lilota.specs.Look.{Good, good, refused-is, getting-is, listing-is, named-file, indexed-file, found-none, found-get, found-listed, get-length, get-name, get-on, list-length, list-on, part-is}
+use Prim.Native.Nat.{_-_}
+use Rattle.lilota.specs.Look.{part-is}
 use Rattle.lilota.specs.Numbers.{listed-at}
 use borrow.Author.Needs.{needs}
 use Rattle.lilota.proofs.list_name.Statement.{statement}
 use Rattle.lilota.proofs.list_name.Tie as tie
-use Rattle.lilota.proofs.list_name.Reads as reads
-use Rattle.lilota.proofs.list_name.Lts as lts
-use Rattle.lilota.proofs.list_place.Reads as list-place-reads
 
 list-place-requires : tie.Need-list-place-requires
 list-place-requires c κs = tt

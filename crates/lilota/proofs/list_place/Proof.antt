@@ -1,15 +1,10 @@
-use mathlib.Core.Path.{_≡_, refl, sym, ap, ap₂, subst, _∙_}
-use mathlib.Core.Bool.{Bool, true, false}
-use Rattle.record.specs.Suffix.{flag, unflag}
-use Rattle.lilota.specs.Look.{Good, good, refused-is, getting-is, listing-is, named-file, indexed-file, found-none, found-get, found-listed, get-length, get-name, get-on, list-length, list-on, part-is}
+use mathlib.Core.Path.{_∙_}
+use Rattle.record.specs.Suffix.{flag}
+use Rattle.lilota.specs.Look.{list-length, list-on}
 use native.Mathlib.Omega.{arith}
 use borrow.Author.Needs.{needs}
 use Rattle.lilota.proofs.list_place.Statement.{statement}
 use Rattle.lilota.proofs.list_place.Tie as tie
-use Rattle.lilota.proofs.list_place.Reads as reads
-use Rattle.lilota.proofs.list_place.Lts as lts
-use Rattle.lilota.proofs.good_length.Reads as good-length-reads
-use Rattle.lilota.proofs.look.list_in.Reads as list-in-reads
 
 good-length-requires : tie.Need-good-length-requires
 good-length-requires c κs = search needs

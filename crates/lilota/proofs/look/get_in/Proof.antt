@@ -1,12 +1,7 @@
-use mathlib.Core.Path.{_≡_, refl, sym, ap, ap₂, subst, _∙_}
-use mathlib.Core.Bool.{Bool, true, false}
-use Rattle.lilota.specs.Look.{Good, good, refused-is, getting-is, listing-is, named-file, indexed-file, found-none, found-get, found-listed, get-length, get-name, get-on, list-length, list-on, part-is}
-use Rattle.reading.specs.Read.{reading-of, answered}
-use Rattle.reading.specs.Seek.{found-in}
-use Rattle.reading.specs.declared.Cursor.{Cursor}
-use Rattle.reading.specs.Cursor.{Sound}
-use Rattle.spec.specs.Answers.{found, file-of, getting, listing, list-of, carry-out}
-use Rattle.spec.specs.Files.{file-named, file-indexed}
+use mathlib.Core.Path.{sym, ap, _∙_}
+use Rattle.lilota.specs.Look.{good, refused-is}
+use Rattle.reading.specs.Read.{answered}
+use Rattle.spec.specs.Answers.{file-of, getting, carry-out}
 use Rattle.spec.specs.Basics.{Answer, onward}
 use Rattle.spec.specs.Chain.{Reading}
 use lib.ListN.{length}
@@ -14,10 +9,6 @@ use native.Mathlib.Omega.{arith}
 use borrow.Author.Needs.{needs}
 use Rattle.lilota.proofs.look.get_in.Statement.{statement}
 use Rattle.lilota.proofs.look.get_in.Tie as tie
-use Rattle.lilota.proofs.look.get_in.Reads as reads
-use Rattle.lilota.proofs.look.get_in.Lts as lts
-use Rattle.lilota.proofs.look.get_of.Reads as get-of-reads
-use Rattle.reading.proofs.image.read_settled.Reads as read-settled-reads
 
 read-settled-requires : tie.Need-read-settled-requires
 read-settled-requires c κs = let g = good (length (c .before .before .args .image .now)) (c .before .before .pre) in omega (arith, g .two, g .most)

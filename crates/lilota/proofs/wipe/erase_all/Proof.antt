@@ -1,13 +1,10 @@
 -- The invariant: the sectors up to here are erased, as far as the allowance goes.
 use Prim.Native.Nat.{_-_}
 use lib.ListN.{length}
-use Rattle.lilota.specs.Wipe.{Erasing, erasing-start, erasing-step, erasing-end, erasing-count, format-bad, format-done, format-cut}
+use Rattle.lilota.specs.Wipe.{Erasing, erasing-start, erasing-step, erasing-end, erasing-count}
 use native.Mathlib.Omega.{arith}
 use Rattle.lilota.proofs.wipe.erase_all.Statement.{statement}
 use Rattle.lilota.proofs.wipe.erase_all.Tie as tie
-use Rattle.lilota.proofs.wipe.erase_all.Reads as reads
-use Rattle.lilota.proofs.wipe.erase_all.Lts as lts
-use Rattle.flash.proofs.erase.Reads as erase-reads
 
 abbrev Inv-loop : tie.InvT-loop
 Inv-loop image₀ q₀ at₀ image q at = Erasing image₀ q₀ at image q

@@ -1,6 +1,4 @@
-use mathlib.Core.Path.{_≡_, refl, sym, ap, ap₂, subst, _∙_}
-use mathlib.Core.Bool.{Bool, true, false}
-use Rattle.lilota.specs.Look.{Good, good, refused-is, getting-is, listing-is, named-file, indexed-file, found-none, found-get, found-listed, get-length, get-name, get-on, list-length, list-on, part-is}
+use Rattle.lilota.specs.Look.{good}
 use Rattle.spec.specs.Write.{format-steps}
 use lib.ListN.{length}
 use Rattle.flash.specs.Did.{did-both}
@@ -8,10 +6,6 @@ use native.Mathlib.Omega.{arith}
 use borrow.Author.Needs.{needs}
 use Rattle.lilota.proofs.wipe.wipe.Statement.{statement}
 use Rattle.lilota.proofs.wipe.wipe.Tie as tie
-use Rattle.lilota.proofs.wipe.wipe.Reads as reads
-use Rattle.lilota.proofs.wipe.wipe.Lts as lts
-use Rattle.lilota.proofs.wipe.erase_all.Reads as erase-all-reads
-use Rattle.lilota.proofs.wipe.write_first.Reads as write-first-reads
 
 erase-all-requires : tie.Need-erase-all-requires
 erase-all-requires c κs = let g = good (length (c .before .before .args .image .now)) (c .before .before .pre .0) in (g .sectors, g .most, c .before .before .pre .1)

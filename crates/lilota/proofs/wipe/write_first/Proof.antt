@@ -1,14 +1,8 @@
-use mathlib.Core.Path.{_≡_, refl, sym, ap, ap₂, subst, _∙_}
-use mathlib.Core.Bool.{Bool, true, false}
 use Rattle.flash.specs.Did.{did-both}
 use native.Mathlib.Omega.{arith}
 use borrow.Author.Needs.{needs}
 use Rattle.lilota.proofs.wipe.write_first.Statement.{statement}
 use Rattle.lilota.proofs.wipe.write_first.Tie as tie
-use Rattle.lilota.proofs.wipe.write_first.Reads as reads
-use Rattle.lilota.proofs.wipe.write_first.Lts as lts
-use Rattle.flash.proofs.program.Reads as program-reads
-use Rattle.flash.proofs.program_bytes.Reads as program-bytes-reads
 
 slice-aggregate-program-bytes : tie.Need-slice-aggregate-program-bytes
 slice-aggregate-program-bytes c = search needs
