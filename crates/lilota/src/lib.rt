@@ -1,5 +1,6 @@
 // The public calls on an image of NOR flash: format, get and list, in the forms for C and for other callers.
 // Each asks nothing of its caller, and equates every outcome with the one that document 01 defines.
+mod c;
 mod look;
 mod wipe;
 
