@@ -18,7 +18,7 @@ pub struct Meter {
 
 impl Meter {
     // One more step is asked for.
-    pub fn counted(self) -> Meter
+    fn counted(self) -> Meter
         requires { ⌜ self .asked < 2 ^ 32 ⌝ }
         ensures { λ r. ⌜ (r .asked ≡ self .asked + 1) × (r .allowance ≡ self .allowance) ⌝ }
     {

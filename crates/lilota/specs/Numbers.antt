@@ -1,9 +1,15 @@
 -- What the public calls' answers say in document 01's words.
+use Prim.Native.Nat.{ℕ}
+use mathlib.Core.Path.{_≡_, refl}
 use Rattle.spec.specs.Step.{Image}
 use Rattle.spec.specs.Answers.{Numbers, Outcome, refusal}
 use Rattle.lilota.specs.declared.Written.{Written}
 use Rattle.lilota.specs.declared.Held.{Held}
 use Rattle.lilota.specs.declared.Listed.{Listed}
+
+-- the numbers that a call of the C interface gives back: its answer, and those that it leaves in lent numbers
+abbrev pub given : ℕ → ℕ → ℕ → ℕ → ℕ → Numbers
+given answer first second third steps = record { answer = answer; first = first; second = second; third = third; steps = steps }
 
 abbrev pub outcome : Numbers → Image → Outcome
 outcome n image = record { numbers = n; image = image }
@@ -18,3 +24,9 @@ held-at h = record { answer = h .answer; first = h .offset; second = h .length; 
 
 abbrev pub listed-at : Listed → Numbers
 listed-at l = record { answer = l .answer; first = l .offset; second = l .length; third = l .content; steps = 0 }
+
+-- an answer and the steps used say all that a writing call gives back
+pub given-written : (w : Written) → given (written w .answer) 0 0 0 (written w .steps) ≡ written w
+given-written (Written.Done n) = refl
+given-written (Written.Cut n) = refl
+given-written (Written.Refused n) = refl

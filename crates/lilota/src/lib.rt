@@ -1,5 +1,6 @@
 // The public calls on an image of NOR flash: format, get and list, in the forms for C and for other callers.
 // Each asks nothing of its caller, and equates every outcome with the one that document 01 defines.
+mod c;
 mod look;
 mod wipe;
 
@@ -72,7 +73,7 @@ pub fn format(image: &mut [u8], allowance: usize) -> Written
 }
 
 // Where the bytes of the file of this name stand.
-pub fn get_place<'a>(image: &'a [u8], name: &'a [u8]) -> Held
+pub fn get_place(image: &[u8], name: &[u8]) -> Held
     ensures { λ r. ⌜ (outcome (held-at r) (now (image .exit)) ≡ get (now (image .entry)) (now (name .entry))) × (r .offset + r .length ≤ length (now (image .entry))) ⌝ }
 {
     if good_length(image.len()) {
@@ -88,7 +89,7 @@ pub fn get_place<'a>(image: &'a [u8], name: &'a [u8]) -> Held
 }
 
 // The bytes of the file of this name, or none.
-pub fn get<'a>(image: &'a [u8], name: &'a [u8]) -> &'a [u8]
+pub fn get<'a>(image: &'a [u8], name: &[u8]) -> &'a [u8]
     ensures { λ r. ⌜ now r ≡ part-of (now (image .entry)) (get (now (image .entry)) (now (name .entry)) .numbers) ⌝ }
 {
     let p = get_place(image, name);
@@ -117,7 +118,7 @@ pub fn list_name(image: &[u8], index: usize) -> &[u8]
     ensures { λ r. ⌜ now r ≡ part-of (now (image .entry)) (list (now (image .entry)) index .numbers) ⌝ }
 {
     let p = list_place(image, index);
-    let from = p.offset;
-    let to = from + p.length;
-    &image[from..to]
+    let start = p.offset;
+    let end = start + p.length;
+    &image[start..end]
 }

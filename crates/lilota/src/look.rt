@@ -21,7 +21,7 @@ ghost use Rattle.reading.specs.declared.Read.{Read};
 ghost use Rattle.lilota.specs.Numbers.{held-at, listed-at, outcome};
 
 // The file of this name, of what was read.
-fn get_of<'a>(image: &'a [u8], name: &'a [u8], s: Survey) -> Held
+fn get_of(image: &[u8], name: &[u8], s: Survey) -> Held
     requires { ⌜ Surveyed (now image) s × Quiet (now image) (Read.Good s) ⌝ }
     ensures { λ r. ⌜ (outcome (held-at r) (now (image .exit)) ≡ carry-out (now (image .entry)) 0 (file-of (now (name .entry)) getting (reading-of (now (image .entry)) s))) × (r .offset + r .length ≤ length (now (image .entry))) ⌝ }
 {
@@ -41,7 +41,7 @@ fn get_of<'a>(image: &'a [u8], name: &'a [u8], s: Survey) -> Held
     }
 }
 
-pub fn get_in<'a>(image: &'a [u8], name: &'a [u8]) -> Held
+pub fn get_in(image: &[u8], name: &[u8]) -> Held
     requires { ⌜ good-length (length (now image)) ≡ true ⌝ }
     ensures { λ r. ⌜ (outcome (held-at r) (now (image .exit)) ≡ carry-out (now (image .entry)) 0 (onward (settled-reading (now (image .entry))) (file-of (now (name .entry)) getting))) × (r .offset + r .length ≤ length (now (image .entry))) ⌝ }
 {

@@ -8,8 +8,8 @@ use Rattle.lilota.proofs.list_name.Tie as tie
 list-place-requires : tie.Need-list-place-requires
 list-place-requires c κs = tt
 
-add-to : tie.Need-add-to
-add-to c = search needs
+add-end : tie.Need-add-end
+add-end c = search needs
 
 sub-result : tie.Need-sub-result
 sub-result c = search needs
@@ -26,4 +26,4 @@ returns c = part-is (c .before .before .before .before .args .image .now) (liste
 pub list-name-spec : {M : Type 1} → statement M
 list-name-spec =
     tie.close
-    (tie.spec list-place-requires add-to sub-result part-result-start part-result-end returns)
+    (tie.spec list-place-requires add-end sub-result part-result-start part-result-end returns)
