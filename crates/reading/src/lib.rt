@@ -1,0 +1,80 @@
+// Reading an image: its head, its chain, its files, whether it breaks a rule, whether it is settled.
+// Everything here only looks, and nothing passes over data bytes but the check of the free run.
+mod head;
+mod chain;
+mod files;
+mod scan;
+mod free;
+mod rules;
+pub mod image;
+use spec::Ending;
+use spec::Place;
+
+// The head's address, or the refusal's number.
+pub enum Headed {
+    At(usize),
+    Refused(u32),
+}
+
+// A place in the chain: the stretch [at, end) that is left, how many bytes from 0 on the chain may still go on to,
+// whether it has turned, and whether an unfinished record stands before.
+pub struct Cursor {
+    pub at: usize,
+    pub end: usize,
+    pub room: usize,
+    pub turned: bool,
+    pub held: bool,
+}
+
+// Where a record stands, with its n name bytes and d data bytes.
+pub struct Spot {
+    pub at: usize,
+    pub n: usize,
+    pub d: usize,
+}
+
+// What stands at a cursor: a record, with the cursor past it; or how the chain ends, with the address and whether it had turned.
+pub enum Step {
+    Record(Spot, Cursor),
+    End(usize, bool),
+    TornWrap(usize),
+    Broken(usize, bool),
+}
+
+// What is looked for among the files.
+pub enum Found {
+    At(Spot),
+    Nothing,
+}
+
+// What one pass over the chain tells: how many records there are; the first, the second and the last of them;
+// whether every FC or F8 record with a name has a good one; whether a START or CLEAN stands behind the second record;
+// whether the last record is unfinished.
+pub struct Tally {
+    pub records: usize,
+    pub first: Spot,
+    pub second: Spot,
+    pub last: Spot,
+    pub fine: bool,
+    pub further: bool,
+    pub held: bool,
+}
+
+// The tally of a whole chain, and how the chain ends.
+pub struct Pass {
+    pub tally: Tally,
+    pub end: Step,
+}
+
+// All that the calls go by: head, tail and turn; how the chain ends; the tally.
+pub struct Survey {
+    pub place: Place,
+    pub ending: Ending,
+    pub tally: Tally,
+}
+
+// What an image reads as, or the refusal's number.
+pub enum Read {
+    Good(Survey),
+    Refused(u32),
+}
