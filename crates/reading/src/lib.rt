@@ -2,7 +2,8 @@
 // Everything here only looks, and nothing passes over data bytes but the check of the free run.
 mod head;
 mod chain;
-mod files;
+pub mod files;
+pub mod largest;
 mod scan;
 mod free;
 mod rules;
