@@ -30,10 +30,13 @@ numbered-is (Written.Refused i) n k p q = ap₂ numbered p q
 
 -- ---- a plan with no moves, carried out
 
+spent-is : (r : Meter) (t : Bool) → leb (r .asked) (r .allowance) ≡ t → spent r ≡ elim t [ true ↦ Written.Done (r .asked) | false ↦ Written.Cut (r .allowance) ]
+spent-is r t e = ap (λ (b : Bool). elim b [ true ↦ Written.Done (r .asked) | false ↦ Written.Cut (r .allowance) ]) e
+
 answer-is : (ss : List Step) (k : ℕ) (r : Meter) (t : Bool) → r .asked ≡ length ss → r .allowance ≡ k → leb (length ss) k ≡ t → written (spent r) ≡ numbers-of k (doing ss 0 0 0)
 unfolding numbers-of
-answer-is ss k r true a b e = rw (spent, a, b, numbers-of, e)
-answer-is ss k r false a b e = rw (spent, a, b, numbers-of, e)
+answer-is ss k r true a b e = ap written (spent-is r true (ap₂ leb a b ∙ e)) ∙ rw (numbers-of, e) (ap (numbered 0) a)
+answer-is ss k r false a b e = ap written (spent-is r false (ap₂ leb a b ∙ e)) ∙ rw (numbers-of, e) (ap (numbered 4) b)
 
 pub carried : {s t : Image} {m r : Meter} {ss : List Step} (k : ℕ) → m .asked ≡ 0 → m .allowance ≡ k → Did s m ss t r → outcome (written (spent r)) t ≡ carry-out s k (give (doing ss 0 0 0))
 unfolding carry-out

@@ -89,7 +89,7 @@ module _ (image : Image) (r : Reading) (n : 0 < length image) where
       let p = passed (legal image (reading-from image h)) 5 (reading-from image h) r (g .on) in
       let q : Grounded h (r .place) = rw (p .1) at (grounded image h below (legal-whole image (reading-from image h) (p .0))) in
       let same : r .place .head ≡ h = q .head in
-      rw same (below, q)
+      (rw same below, record { head = refl; free = q .free; gap = q .gap })
 
   pub settled-place : give r ≡ settled-reading image → (r .place .head < length image) × Grounded (r .place .head) (r .place)
   unfolding settled-reading if-settled
