@@ -1,4 +1,6 @@
 pub mod Numbers
+pub mod Wipe
+pub mod Look
 pub mod Carry
 pub mod Ground
 pub mod Settled

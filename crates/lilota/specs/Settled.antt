@@ -1,12 +1,12 @@
 -- What a call that writes knows of an image that is settled, read as s.
-use Prim.Native.Nat.{ℕ, _+_, _%_, _≤_, _<_, _^_}
+use Prim.Native.Nat.{ℕ, _+_, _≤_, _<_}
 use native.Mathlib.Omega.{arith}
 use mathlib.Core.Path.{_≡_, refl, sym, ap, _∙_}
 use mathlib.Core.Bool.{Bool, true, false, _&&_, false≢true, and-eq-true-iff}
 use mathlib.Core.List.{List}
 use lib.ListN.{length}
-use lib.Dec.{leb, eqb}
-use borrow.Author.Tests.{leb-true, eqb-true}
+use lib.Dec.{leb}
+use borrow.Author.Tests.{leb-true}
 use Rattle.spec.specs.Step.{Image}
 use Rattle.spec.specs.Basics.{Answer, refuse, give, checked, onward, any, all}
 use Rattle.spec.specs.Geometry.{good-length}
@@ -21,6 +21,7 @@ use Rattle.spec.specs.Placed.{Sound}
 use Rattle.spec.specs.Answers.{if-settled, settled-reading}
 use Rattle.reading.specs.declared.Survey.{Survey}
 use Rattle.reading.specs.Read.{reading-of, Surveyed}
+use Rattle.lilota.specs.Look.{good}
 use Rattle.lilota.specs.Ground.{Grounded, grounded, head-below}
 
 pub record Settled (image : Image) (s : Survey) : Type 0 where
@@ -29,17 +30,7 @@ pub record Settled (image : Image) (s : Survey) : Type 0 where
   pub sound : Sound (s .place)
   pub gap : s .place .turned ≡ false → s .place .tail < s .place .length → s .place .tail + 8 ≤ s .place .length
 
--- ---- the length and the name
-
-pub record Good (n : ℕ) : Type 0 where
-  pub two : 8192 ≤ n
-  pub most : n ≤ 2 ^ 24
-
-pub good : (n : ℕ) → good-length n ≡ true → Good n
-unfolding good-length
-good n h =
-    let p = and-eq-true-iff (eqb (n % 4096) 0 && leb 8192 n) (leb n 16777216) .0 h in
-    record { two = leb-true 8192 n (and-eq-true-iff (eqb (n % 4096) 0) (leb 8192 n) .0 (p .0) .1); most = leb-true n 16777216 (p .1) }
+-- ---- the name
 
 pub name-short : (n : List ℕ) → name-ok n ≡ true → length n ≤ 63
 unfolding name-ok

@@ -1,24 +1,9 @@
-// What every call that writes begins and ends with: the check of the image's length, and the answer from the meter.
+// The answer of a call that writes: from its meter, and in the numbers that C gets.
 use crate::Written;
 use flash::Meter;
-use spec::SECTOR;
 ghost use mathlib.Core.Path.{_≡_};
-ghost use Rattle.spec.specs.Geometry.{good-length};
 ghost use Rattle.lilota.specs.Numbers.{written};
 ghost use Rattle.lilota.specs.Carry.{spent};
-
-// An image's length: whole sectors, two at least, 16 MiB at most.
-pub fn good_length(n: usize) -> bool
-    ensures { λ r. ⌜ r ≡ good-length n ⌝ }
-{
-    if n % SECTOR == 0 {
-        if n < 8192 {
-            return false;
-        }
-        return n <= 16777216;
-    }
-    false
-}
 
 // All steps asked for are done, or the allowance ended before the last of them.
 pub fn ended(m: Meter) -> Written

@@ -1,6 +1,6 @@
 // Put: the file of a name gets a content, in the place of an older one.
 use crate::carry::ended;
-use crate::carry::good_length;
+use crate::good_length;
 use crate::Written;
 use flash::Meter;
 use reading::files::file_named;
@@ -36,7 +36,7 @@ ghost use Rattle.lilota.specs.Numbers.{written, outcome};
 ghost use Rattle.lilota.specs.Settled.{Settled};
 
 // Whether there is room for a file of this name, beside the other files.
-fn has_room<'a>(image: &'a [u8], s: Survey, name: &'a [u8], d: usize) -> bool
+fn has_room(image: &[u8], s: Survey, name: &[u8], d: usize) -> bool
     requires { ⌜ Settled (now image) s × (length (now name) ≤ 63) ⌝ }
     ensures { λ r. ⌜ r ≡ room (s .place) (size-of (length (now (name .entry))) d) (largest-with (now (name .entry)) (size-of (length (now (name .entry))) d) (reading-of (now (image .entry)) s .entries)) ⌝ }
 {
@@ -46,7 +46,7 @@ fn has_room<'a>(image: &'a [u8], s: Survey, name: &'a [u8], d: usize) -> bool
 }
 
 // The file that a put of this name replaces.
-fn old_file<'a>(image: &'a [u8], start: Cursor, name: &'a [u8]) -> Old
+fn old_file(image: &[u8], start: Cursor, name: &[u8]) -> Old
     requires { ⌜ Sound (now image) start ⌝ }
     ensures { λ r. ⌜ (r ≡ old-of (first-such (has-name (now (name .entry))) (keep is-file (rest (now (image .entry)) start .entries)))) × Lies r (length (now (image .entry))) ⌝ }
 {

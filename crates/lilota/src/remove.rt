@@ -1,6 +1,6 @@
 // Remove: the file of a name goes.
 use crate::carry::ended;
-use crate::carry::good_length;
+use crate::good_length;
 use crate::Written;
 use flash::Meter;
 use reading::files::file_named;

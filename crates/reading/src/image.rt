@@ -1,16 +1,16 @@
 // The whole reading of an image: the survey that the calls go by, or a refusal.
-use crate::chain::start_at;
-use crate::free::floor;
-use crate::head::head;
-use crate::rules::legal;
-use crate::rules::settled;
-use crate::scan::pass;
 use crate::Cursor;
 use crate::Headed;
 use crate::Read;
 use crate::Step;
 use crate::Survey;
 use crate::Tally;
+use crate::chain::start_at;
+use crate::free::floor;
+use crate::head::head;
+use crate::rules::legal;
+use crate::rules::settled;
+use crate::scan::pass;
 use spec::Ending;
 use spec::Place;
 ghost use mathlib.Core.Path.{_≡_};

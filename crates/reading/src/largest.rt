@@ -16,7 +16,7 @@ ghost use Rattle.reading.specs.Fold.{Whole};
 ghost use Rattle.reading.specs.Largest.{others};
 
 // The larger of a size and this record's, if it is a file of another name.
-fn larger_with<'a>(image: &'a [u8], e: Spot, name: &'a [u8], most: usize) -> usize
+fn larger_with(image: &[u8], e: Spot, name: &[u8], most: usize) -> usize
     requires { ⌜ Whole (now image) e × (e .n < 64) × (e .d < 2 ^ 32) ⌝ }
     ensures { λ r. ⌜ r ≡ largest most (others (now (name .entry)) (entry-of (now (image .entry)) e ∷ [])) ⌝ }
 {
@@ -34,7 +34,7 @@ fn larger_with<'a>(image: &'a [u8], e: Spot, name: &'a [u8], most: usize) -> usi
 }
 
 // The largest size among the files of other names, where nothing is superseded; 0 where there are none.
-pub fn largest_other<'a>(image: &'a [u8], start: Cursor, name: &'a [u8]) -> usize
+pub fn largest_other(image: &[u8], start: Cursor, name: &[u8]) -> usize
     requires { ⌜ Sound (now image) start ⌝ }
     ensures { λ r. ⌜ r ≡ largest 0 (others (now (name .entry)) (rest (now (image .entry)) start .entries)) ⌝ }
 {
