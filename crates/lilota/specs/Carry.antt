@@ -1,11 +1,12 @@
 -- From the meter to the answer of a call that writes, and a refusal with the image unchanged.
-use Prim.Native.Nat.{ℕ, _+_, _-_, _≤_}
+use Prim.Native.Nat.{ℕ, _+_, _-_, _≤_, _<_}
 use native.Mathlib.Omega.{arith}
 use mathlib.Core.Path.{_≡_, refl, sym, ap, ap₂, _∙_}
 use mathlib.Core.Bool.{Bool, true, false}
 use mathlib.Core.List.{List}
 use lib.ListN.{length, take}
 use lib.Dec.{leb}
+use borrow.Author.Tests.{le-leb, lt-leb}
 use Rattle.spec.specs.Step.{Image, Step, run}
 use Rattle.spec.specs.Basics.{Answer, refuse, give, onward}
 use Rattle.spec.specs.Chain.{Reading}
@@ -23,15 +24,24 @@ spent m = elim (leb (m .asked) (m .allowance)) [ true ↦ Written.Done (m .asked
 abbrev pub numbered : ℕ → ℕ → Numbers
 numbered n steps = record { answer = n; first = 0; second = 0; third = 0; steps = steps }
 
-pub numbered-is : (w : Written) (n k : ℕ) → n ≡ written w .answer → k ≡ written w .steps → numbered n k ≡ written w
+numbered-is : (w : Written) (n k : ℕ) → n ≡ written w .answer → k ≡ written w .steps → numbered n k ≡ written w
 numbered-is (Written.Done i) n k p q = ap₂ numbered p q
 numbered-is (Written.Cut i) n k p q = ap₂ numbered p q
 numbered-is (Written.Refused i) n k p q = ap₂ numbered p q
+
+pub numbered-as : (w : Written) (n k : ℕ) (t : Image) (o : Outcome) → n ≡ written w .answer → k ≡ written w .steps → outcome (written w) t ≡ o → outcome (numbered n k) t ≡ o
+numbered-as w n k t o p q e = ap (λ (x : Numbers). outcome x t) (numbered-is w n k p q) ∙ e
 
 -- ---- a plan with no moves, carried out
 
 spent-is : (r : Meter) (t : Bool) → leb (r .asked) (r .allowance) ≡ t → spent r ≡ elim t [ true ↦ Written.Done (r .asked) | false ↦ Written.Cut (r .allowance) ]
 spent-is r t e = ap (λ (b : Bool). elim b [ true ↦ Written.Done (r .asked) | false ↦ Written.Cut (r .allowance) ]) e
+
+pub spent-done : (r : Meter) → r .asked ≤ r .allowance → Written.Done (r .asked) ≡ spent r
+spent-done r h = sym (spent-is r true (le-leb (r .asked) (r .allowance) h))
+
+pub spent-cut : (r : Meter) → r .allowance < r .asked → Written.Cut (r .allowance) ≡ spent r
+spent-cut r h = sym (spent-is r false (lt-leb (r .asked) (r .allowance) h))
 
 answer-is : (ss : List Step) (k : ℕ) (r : Meter) (t : Bool) → r .asked ≡ length ss → r .allowance ≡ k → leb (length ss) k ≡ t → written (spent r) ≡ numbers-of k (doing ss 0 0 0)
 unfolding numbers-of

@@ -17,19 +17,16 @@ use Rattle.reading.specs.declared.Survey.{Survey}
 use Rattle.reading.specs.Rest.{entry-of}
 use Rattle.reading.specs.FileLaws.{is-file}
 use Rattle.reading.specs.Seek.{found-in}
-use Rattle.reading.specs.NamesLaw.{files-are}
 use Rattle.reading.specs.Read.{reading-of}
 use Rattle.lilota.specs.Numbers.{outcome}
+use Rattle.lilota.specs.Look.{named-file}
 use Rattle.lilota.specs.Settled.{Settled}
 
--- what was found is the definitions' file
+-- what is done with the file that was found
 module _ (image : Image) (k : ℕ) (s : Survey) (name : List ℕ) (w : Settled image s) (f : Found)
     (q : found-in image f ≡ first-such (has-name name) (keep is-file (reading-of image s .entries))) where
-  pub found-file : (g : Entry → Plan) → carry-out image k (found g (found-in image f)) ≡ carry-out image k (file-of name g (reading-of image s))
-  unfolding file-named
-  found-file g =
-      ap (λ (o : Option Entry). carry-out image k (found g o))
-      (q ∙ ap (first-such (has-name name)) (sym (files-are (reading-of image s .entries) (w .quiet))))
+  pub found-file : (o : Option Entry) → found-in image f ≡ o → carry-out image k (found removing o) ≡ carry-out image k (file-of name removing (reading-of image s))
+  found-file o e = ap (λ (x : Option Entry). carry-out image k (found removing x)) (sym e ∙ named-file image s (w .quiet) f name q)
 
 module _ (image : Image) (k : ℕ) (name : List ℕ) where
   pub remove-length : good-length (length image) ≡ false → outcome (refusal 22) image ≡ remove image name k

@@ -1,15 +1,12 @@
+use Rattle.lilota.specs.Carry.{spent-done, spent-cut}
 use Rattle.lilota.proofs.carry.ended.Statement.{statement}
 use Rattle.lilota.proofs.carry.ended.Tie as tie
-use Rattle.lilota.proofs.carry.ended.Reads as reads
-use Rattle.lilota.proofs.carry.ended.Lts as lts
 
--- src/carry.rt:28:9
 returns : tie.Need-returns
-returns c = ?
+returns c = spent-done (c .before .before .args .m) (c .if1 .taken)
 
--- src/carry.rt:24:1
 returns-2 : tie.Need-returns-2
-returns-2 c = ?
+returns-2 c = spent-cut (c .before .before .args .m) (c .if1 .left)
 
 pub ended-spec : {M : Type 1} → statement M
 ended-spec = tie.close (tie.spec returns returns-2)

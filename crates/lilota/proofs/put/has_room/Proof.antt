@@ -1,27 +1,27 @@
+use Prim.Native.Nat.{ℕ, max}
+use mathlib.Core.Path.{ap, _∙_}
+use lib.ListN.{length}
+use Rattle.spec.specs.Record.{size-of}
+use Rattle.spec.specs.Place.{room}
+use Rattle.reading.specs.Read.{reading-of}
+use Rattle.lilota.specs.Put.{largest-is}
 use borrow.Author.Needs.{needs}
 use Rattle.lilota.proofs.put.has_room.Statement.{statement}
 use Rattle.lilota.proofs.put.has_room.Tie as tie
-use Rattle.lilota.proofs.put.has_room.Reads as reads
-use Rattle.lilota.proofs.put.has_room.Lts as lts
-use Rattle.reading.proofs.image.first_cursor.Reads as first-cursor-reads
-use Rattle.reading.proofs.largest.largest_other.Reads as largest-other-reads
-use Rattle.writing.proofs.has_room_for.Reads as has-room-for-reads
 
--- src/put.rt:44:39
 first-cursor-requires : tie.Need-first-cursor-requires
 first-cursor-requires c κs = search needs
 
--- src/put.rt:44:9
 largest-other-requires : tie.Need-largest-other-requires
-largest-other-requires c κs = ?
+largest-other-requires c κs = rw (c .first-cursor .ensures) (c .before .before .before .before .pre .0 .surveyed .tallied .sound)
 
--- src/put.rt:45:5
 has-room-for-requires : tie.Need-has-room-for-requires
 has-room-for-requires c κs = search needs
 
--- src/put.rt:39:1
 returns : tie.Need-returns
-returns c = ?
+returns c = let a = c .before .before .before .before .before .before .args in let s = size-of (length (a .name .now)) (a .d) in
+    c .has-room-for .ensures
+    ∙ ap (λ (l : ℕ). room (a .s .place) s l) (ap (max s) (rw (c .before .before .first-cursor .ensures) at (c .before .largest-other .ensures)) ∙ largest-is (a .name .now) s (reading-of (a .image .now) (a .s) .entries) (c .before .before .before .before .before .before .pre .0 .quiet))
 
 pub has-room-spec : {M : Type 1} → statement M
 has-room-spec =

@@ -1,39 +1,30 @@
+use mathlib.Core.Path.{_∙_}
+use Rattle.record.specs.Suffix.{flag}
+use Rattle.lilota.specs.Put.{put-length, put-name, put-on}
 use borrow.Author.Needs.{needs}
 use Rattle.lilota.proofs.put.put.Statement.{statement}
 use Rattle.lilota.proofs.put.put.Tie as tie
-use Rattle.lilota.proofs.put.put.Reads as reads
-use Rattle.lilota.proofs.put.put.Lts as lts
-use Rattle.lilota.proofs.carry.good_length.Reads as good-length-reads
-use Rattle.lilota.proofs.put.put_named.Reads as put-named-reads
-use Rattle.record.proofs.name.name_ok.Reads as name-ok-reads
 
--- src/put.rt:102:8
 good-length-requires : tie.Need-good-length-requires
 good-length-requires c κs = search needs
 
--- src/put.rt:103:12
 name-ok-requires : tie.Need-name-ok-requires
 name-ok-requires c κs = search needs
 
--- src/put.rt:104:13
 put-named-requires : tie.Need-put-named-requires
-put-named-requires c κs = ?
+put-named-requires c κs = (flag (c .before .before .before .before .good-length .ensures) (c .before .before .before .if1 .taken), flag (c .before .before .name-ok .ensures) (c .before .if2 .taken))
 
--- src/put.rt:104:13
 same-length : tie.Need-same-length
 same-length c = search needs
 
--- src/put.rt:104:13
 returns : tie.Need-returns
-returns c = ?
+returns c = let a = c .before .before .before .before .before .before .before .before .before .before .before .args in c .before .before .put-named .ensures ∙ put-on (a .image .now) (a .allowance) (a .name .now) (a .content .now) (flag (c .before .before .before .before .before .before .before .good-length .ensures) (c .before .before .before .before .before .before .if1 .taken)) (flag (c .before .before .before .before .before .name-ok .ensures) (c .before .before .before .before .if2 .taken))
 
--- src/put.rt:99:1
 returns-2 : tie.Need-returns-2
-returns-2 c = ?
+returns-2 c = let a = c .before .before .before .before .before .before .before .args in put-name (a .image .now) (a .allowance) (a .name .now) (a .content .now) (flag (c .before .before .before .good-length .ensures) (c .before .before .if1 .taken)) (flag (c .before .name-ok .ensures) (c .if2 .left))
 
--- src/put.rt:99:1
 returns-3 : tie.Need-returns-3
-returns-3 c = ?
+returns-3 c = let a = c .before .before .before .before .before .args in put-length (a .image .now) (a .allowance) (a .name .now) (a .content .now) (flag (c .before .good-length .ensures) (c .if1 .left))
 
 pub put-spec : {M : Type 1} → statement M
 put-spec =

@@ -1,31 +1,25 @@
+use Rattle.lilota.specs.Put.{old-named, ready}
+use lib.ListN.{length}
 use borrow.Author.Needs.{needs}
 use Rattle.lilota.proofs.put.replace.Statement.{statement}
 use Rattle.lilota.proofs.put.replace.Tie as tie
-use Rattle.lilota.proofs.put.replace.Reads as reads
-use Rattle.lilota.proofs.put.replace.Lts as lts
-use Rattle.lilota.proofs.put.old_file.Reads as old-file-reads
-use Rattle.reading.proofs.image.first_cursor.Reads as first-cursor-reads
-use Rattle.writing.proofs.write_file.Reads as write-file-reads
 
--- src/put.rt:67:31
 first-cursor-requires : tie.Need-first-cursor-requires
 first-cursor-requires c κs = search needs
 
--- src/put.rt:67:9
 old-file-requires : tie.Need-old-file-requires
-old-file-requires c κs = ?
+old-file-requires c κs = rw (c .first-cursor .ensures) (c .before .before .before .before .before .before .pre .0 .surveyed .tallied .sound)
 
--- src/put.rt:68:5
 write-file-requires : tie.Need-write-file-requires
-write-file-requires c κs = ?
+write-file-requires c κs = let a = c .before .before .before .before .before .before .before .before .args in let p = c .before .before .before .before .before .before .before .before .pre in
+    (ready (a .image .now) (a .s) (length (a .name .now)) (length (a .content .now)) (a .m .asked) (p .0) (p .1) (p .2) (p .3), c .before .old-file .ensures .1)
 
--- src/put.rt:62:1
 same-length : tie.Need-same-length
 same-length c = search needs
 
--- src/put.rt:62:1
 returns : tie.Need-returns
-returns c = ?
+returns c = let a = c .before .before .before .before .before .before .before .before .before .before .before .args in
+    rw (old-named (a .image .now) (a .s) (a .s .place) (c .before .before .before .before .old-file .result) (a .name .now) (a .content .now) (c .before .before .before .before .before .before .before .before .before .before .before .pre .0) (rw (c .before .before .before .before .before .first-cursor .ensures) at (c .before .before .before .before .old-file .ensures .0))) at (c .before .before .write-file .ensures)
 
 pub replace-spec : {M : Type 1} → statement M
 replace-spec =

@@ -1,39 +1,30 @@
+use mathlib.Core.Path.{_∙_}
+use Rattle.record.specs.Suffix.{flag}
+use Rattle.lilota.specs.Remove.{remove-length, remove-name, remove-on}
 use borrow.Author.Needs.{needs}
 use Rattle.lilota.proofs.remove.remove.Statement.{statement}
 use Rattle.lilota.proofs.remove.remove.Tie as tie
-use Rattle.lilota.proofs.remove.remove.Reads as reads
-use Rattle.lilota.proofs.remove.remove.Lts as lts
-use Rattle.lilota.proofs.carry.good_length.Reads as good-length-reads
-use Rattle.lilota.proofs.remove.remove_named.Reads as remove-named-reads
-use Rattle.record.proofs.name.name_ok.Reads as name-ok-reads
 
--- src/remove.rt:58:8
 good-length-requires : tie.Need-good-length-requires
 good-length-requires c κs = search needs
 
--- src/remove.rt:59:12
 name-ok-requires : tie.Need-name-ok-requires
 name-ok-requires c κs = search needs
 
--- src/remove.rt:60:13
 remove-named-requires : tie.Need-remove-named-requires
-remove-named-requires c κs = ?
+remove-named-requires c κs = flag (c .before .before .before .before .good-length .ensures) (c .before .before .before .if1 .taken)
 
--- src/remove.rt:60:13
 same-length : tie.Need-same-length
 same-length c = search needs
 
--- src/remove.rt:60:13
 returns : tie.Need-returns
-returns c = ?
+returns c = let a = c .before .before .before .before .before .before .before .before .before .before .args in c .before .before .remove-named .ensures ∙ remove-on (a .image .now) (a .allowance) (a .name .now) (flag (c .before .before .before .before .before .before .before .good-length .ensures) (c .before .before .before .before .before .before .if1 .taken)) (flag (c .before .before .before .before .before .name-ok .ensures) (c .before .before .before .before .if2 .taken))
 
--- src/remove.rt:55:1
 returns-2 : tie.Need-returns-2
-returns-2 c = ?
+returns-2 c = let a = c .before .before .before .before .before .before .args in remove-name (a .image .now) (a .allowance) (a .name .now) (flag (c .before .before .before .good-length .ensures) (c .before .before .if1 .taken)) (flag (c .before .name-ok .ensures) (c .if2 .left))
 
--- src/remove.rt:55:1
 returns-3 : tie.Need-returns-3
-returns-3 c = ?
+returns-3 c = let a = c .before .before .before .before .args in remove-length (a .image .now) (a .allowance) (a .name .now) (flag (c .before .good-length .ensures) (c .if1 .left))
 
 pub remove-spec : {M : Type 1} → statement M
 remove-spec =

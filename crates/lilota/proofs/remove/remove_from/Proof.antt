@@ -1,52 +1,45 @@
+use mathlib.Core.Path.{refl, ap, _∙_}
+use mathlib.Core.Option.{none, some}
+use native.Mathlib.Omega.{arith}
+use Rattle.reading.specs.Rest.{entry-of}
+use Rattle.reading.specs.Seek.{found-in}
+use Rattle.lilota.specs.Carry.{carried, refused}
+use Rattle.lilota.specs.Remove.{found-file}
 use borrow.Author.Needs.{needs}
 use Rattle.lilota.proofs.remove.remove_from.Statement.{statement}
 use Rattle.lilota.proofs.remove.remove_from.Tie as tie
-use Rattle.lilota.proofs.remove.remove_from.Reads as reads
-use Rattle.lilota.proofs.remove.remove_from.Lts as lts
-use Rattle.lilota.proofs.carry.ended.Reads as ended-reads
-use Rattle.reading.proofs.files.file_named.Reads as file-named-reads
-use Rattle.reading.proofs.image.first_cursor.Reads as first-cursor-reads
-use Rattle.writing.proofs.build.set_status.Reads as set-status-reads
 
--- src/remove.rt:31:31
 first-cursor-requires : tie.Need-first-cursor-requires
 first-cursor-requires c κs = search needs
 
--- src/remove.rt:31:9
 file-named-requires : tie.Need-file-named-requires
-file-named-requires c κs = ?
+file-named-requires c κs = rw (c .first-cursor .ensures) (c .before .before .before .before .before .pre .surveyed .tallied .sound)
 
--- src/remove.rt:32:19
 enum-known-f : tie.Need-enum-known-f
 enum-known-f c = search needs
 
--- src/remove.rt:33:9
 enum-told : tie.Need-enum-told
 enum-told c = search needs
 
--- src/remove.rt:33:9
 same-length : tie.Need-same-length
 same-length c = search needs
 
--- src/remove.rt:33:9
 returns : tie.Need-returns
-returns c = ?
+returns c = let a = c .before .before .before .before .before .before .before .before .args in
+    refused (a .image .now) (a .allowance) 2 ∙ found-file (a .image .now) (a .allowance) (a .s) (a .name .now) (c .before .before .before .before .before .before .before .before .pre) (c .before .before .file-named .result) (rw (c .before .before .before .first-cursor .ensures) at (c .before .before .file-named .ensures .0)) none (ap (found-in (a .image .now)) (c .enum-told .given .1))
 
--- src/remove.rt:39:11
 set-status-requires : tie.Need-set-status-requires
-set-status-requires c κs = ?
+set-status-requires c κs = let w = rw (c .before .before .f .given .1) at (c .before .before .before .before .file-named .ensures .1) in (omega (arith, w .fits), omega arith)
 
--- src/remove.rt:39:5
 ended-requires : tie.Need-ended-requires
 ended-requires c κs = search needs
 
--- src/remove.rt:26:1
 same-length-2 : tie.Need-same-length-2
 same-length-2 c = search needs
 
--- src/remove.rt:26:1
 returns-2 : tie.Need-returns-2
-returns-2 c = ?
+returns-2 c = let a = c .before .before .before .before .before .before .before .before .before .before .before .before .before .before .args in
+    rw (c .ended .ensures) (carried (a .allowance) refl refl (c .before .before .before .set-status .ensures) ∙ found-file (a .image .now) (a .allowance) (a .s) (a .name .now) (c .before .before .before .before .before .before .before .before .before .before .before .before .before .before .pre) (c .before .before .before .before .before .before .before .before .file-named .result) (rw (c .before .before .before .before .before .before .before .before .before .first-cursor .ensures) at (c .before .before .before .before .before .before .before .before .file-named .ensures .0)) (some (entry-of (a .image .now) (c .before .before .before .before .before .before .f .given .0 .0))) (ap (found-in (a .image .now)) (c .before .before .before .before .before .before .f .given .1)))
 
 pub remove-from-spec : {M : Type 1} → statement M
 remove-from-spec =
