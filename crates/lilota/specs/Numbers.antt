@@ -1,6 +1,5 @@
 -- What the public calls' answers say in document 01's words.
 use Prim.Native.Nat.{ℕ}
-use mathlib.Core.Path.{_≡_, refl}
 use Rattle.spec.specs.Step.{Image}
 use Rattle.spec.specs.Answers.{Numbers, Outcome, refusal}
 use Rattle.lilota.specs.declared.Written.{Written}
@@ -24,9 +23,3 @@ held-at h = record { answer = h .answer; first = h .offset; second = h .length; 
 
 abbrev pub listed-at : Listed → Numbers
 listed-at l = record { answer = l .answer; first = l .offset; second = l .length; third = l .content; steps = 0 }
-
--- an answer and the steps used say all that a writing call gives back
-pub given-written : (w : Written) → given (written w .answer) 0 0 0 (written w .steps) ≡ written w
-given-written (Written.Done n) = refl
-given-written (Written.Cut n) = refl
-given-written (Written.Refused n) = refl

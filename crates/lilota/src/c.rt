@@ -1,41 +1,20 @@
-// The C interface: each call with numbers and byte slices; what it gives back besides the answer goes through lent numbers.
-use crate::Written;
+// The C interface of format, get and list: numbers and byte slices; what a call gives back besides the answer goes through lent numbers.
+// Put and remove have theirs beside them.
 use crate::format;
 use crate::get_place;
 use crate::list_place;
 ghost use mathlib.Core.Path.{_≡_};
 ghost use Rattle.spec.specs.Answers.{format, get, list};
-ghost use Rattle.lilota.specs.Numbers.{given, written, outcome};
-
-// The answer's number.
-fn answer_of(w: Written) -> u32
-    ensures { λ r. ⌜ r ≡ written w .answer ⌝ }
-{
-    match w {
-        Written::Done(_) => 0,
-        Written::Cut(_) => 4,
-        Written::Refused(n) => n,
-    }
-}
-
-// The steps used.
-fn steps_of(w: Written) -> usize
-    ensures { λ r. ⌜ r ≡ written w .steps ⌝ }
-{
-    match w {
-        Written::Done(n) => n,
-        Written::Cut(n) => n,
-        Written::Refused(_) => 0,
-    }
-}
+ghost use Rattle.lilota.specs.Numbers.{given, outcome};
+ghost use Rattle.lilota.specs.Carry.{numbered};
 
 #[no_mangle]
 pub extern "C" fn lilota_format(image: &mut [u8], allowance: usize, steps: &mut usize) -> u32
-    ensures { λ r. ⌜ outcome (given r 0 0 0 (now (steps .exit))) (now (image .exit)) ≡ format (now (image .entry)) allowance ⌝ }
+    ensures { λ r. ⌜ outcome (numbered r (now (steps .exit))) (now (image .exit)) ≡ format (now (image .entry)) allowance ⌝ }
 {
     let w = format(image, allowance);
-    *steps = steps_of(w);
-    answer_of(w)
+    *steps = w.steps();
+    w.answer()
 }
 
 #[no_mangle]

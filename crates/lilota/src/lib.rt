@@ -1,7 +1,10 @@
-// The public calls on an image of NOR flash: format, get and list, in the forms for C and for other callers.
+// The public calls on an image of NOR flash: format, put, get, list and remove, in the forms for C and for other callers.
 // Each asks nothing of its caller, and equates every outcome with the one that document 01 defines.
 mod c;
+mod carry;
 mod look;
+pub mod put;
+pub mod remove;
 mod wipe;
 
 use flash::Meter;

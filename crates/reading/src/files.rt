@@ -35,7 +35,7 @@ fn same_bytes(x: &[u8], y: &[u8]) -> bool
 }
 
 // The record has this name.
-fn has_name(image: &[u8], e: Spot, name: &[u8]) -> bool
+pub fn has_name(image: &[u8], e: Spot, name: &[u8]) -> bool
     requires { ⌜ Whole (now image) e ⌝ }
     ensures { λ r. ⌜ r ≡ has-name (now (name .entry)) (entry-of (now (image .entry)) e) ⌝ }
 {

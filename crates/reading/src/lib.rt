@@ -5,6 +5,7 @@ pub mod files;
 mod free;
 mod head;
 pub mod image;
+pub mod largest;
 mod rules;
 mod scan;
 
