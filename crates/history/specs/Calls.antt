@@ -135,7 +135,7 @@ swept-of l im i = go (settling l im i)
 
 -- ---- get and list have no steps
 
-abbrev pub Stepless : Answer Plan → Type 0
+abbrev Stepless : Answer Plan → Type 0
 Stepless p = steps-of p ≡ []
 
 found-none : (f : Entry → Plan) (o : Option Entry) → ((e : Entry) → f e .steps ≡ []) → Stepless (found f o)

@@ -10,7 +10,7 @@ use Rattle.spec.specs.Step.{Image, run}
 use Rattle.spec.specs.Basics.{give}
 use Rattle.spec.specs.Answers.{Numbers, Plan, cut, numbers-of, carry-out}
 
-pub numbers-by : (k : ℕ) (p : Plan) (b : Bool) → leb (length (p .steps)) k ≡ b → numbers-of k p ≡ elim b as (λ t. Numbers) [ true ↦ p .done | false ↦ cut k p ]
+numbers-by : (k : ℕ) (p : Plan) (b : Bool) → leb (length (p .steps)) k ≡ b → numbers-of k p ≡ elim b as (λ t. Numbers) [ true ↦ p .done | false ↦ cut k p ]
 unfolding numbers-of
 numbers-by k p b e = ap (λ (t : Bool). elim t as (λ u. Numbers) [ true ↦ p .done | false ↦ cut k p ]) e
 

@@ -39,7 +39,7 @@ pub record Rests (l : Ledger) (im : Image) (ss : List Step) (h : ℕ) : Type 0 w
   pub rested : Rested l (run im ss) (reading-from (run im ss) h)
 
 -- steps that keep the invariant, and such steps behind them
-pub rests-append : {l : Ledger} {im : Image} (ss ts : List Step) {h : ℕ} → Safe (Inv l) im ss → Rests l (run im ss) ts h → Rests l im (ss ++ ts) h
+rests-append : {l : Ledger} {im : Image} (ss ts : List Step) {h : ℕ} → Safe (Inv l) im ss → Rests l (run im ss) ts h → Rests l im (ss ++ ts) h
 rests-append {l} {im} ss ts {h} s r =
     record { safe = safe-append (Inv l) im ss ts s (r .safe); rested = subst (λ (i : Image). Rested l i (reading-from i h)) (sym (run-append im ss ts)) (r .rested) }
 

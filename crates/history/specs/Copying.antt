@@ -42,17 +42,17 @@ kind-perm {k} {l} p im (clean B F {x = x} {y} {es} d e a b c m o) = clean B F d 
 kind-perm {k} {l} p im (both B F {x = x} {y} {es} d e a b c y0 f m o) = both B F d e a b c y0 f m (ok-perm (x ∷ y ∷ es) k l p o)
 kind-perm {k} {l} p im (vacated {x = x} {es} d e b a m o) = vacated d e b a m (ok-perm (x ∷ es) k l p o)
 
-pub inv-perm : {k l : Ledger} → List·Permᴰ k l → (im : Image) → Inv k im → Inv l im
+inv-perm : {k l : Ledger} → List·Permᴰ k l → (im : Image) → Inv k im → Inv l im
 inv-perm p im i = record { good = i .good; kind = kind-perm p im (i .kind) }
 
-pub rested-perm : {k l : Ledger} {im : Image} {r : Reading} → List·Permᴰ k l → Rested k im r → Rested l im r
+rested-perm : {k l : Ledger} {im : Image} {r : Reading} → List·Permᴰ k l → Rested k im r → Rested l im r
 rested-perm {k} {l} p q =
     record { good = q .good; h = q .h; S = q .S; B = q .B; F = q .F; t = q .t; es = q .es; laid = q .laid; tail = q .tail; starts = q .starts; ok = ok-perm (q .es) k l p (q .ok); is = q .is }
 
 -- ---- what put leaves
 
 -- as it is read from the head on
-pub head-read : {l : Ledger} {im : Image} {r : Reading} {h : ℕ} → Rested l im r → r .place .head ≡ h → r ≡ reading-from im h
+head-read : {l : Ledger} {im : Image} {r : Reading} {h : ℕ} → Rested l im r → r .place .head ≡ h → r ≡ reading-from im h
 head-read {l} {im} {r} {h} q e =
     let k : q .h ≡ h = sym (ap (λ (x : Reading). x .place .head) (q .is)) ∙ e in
     q .is ∙ sym (laid-reads (q .laid) (q .tail) ∙ ap (λ (fs : List Entry). read (length im) (q .h) (q .S) (q .t) fs Ending.Tail) (append-nil (q .es))) ∙ ap (reading-from im) k
@@ -72,7 +72,7 @@ pub record Dead-first (es : List Entry) : Type 0 where
   pub dead : alive x ≡ false
 
 -- a file is there, and not the first record
-pub dead-first : (x : Entry) (zs : List Entry) (f : File) (l : Ledger) → alive x ≡ false → Matches (x ∷ zs) (f ∷ l) → Dead-first (x ∷ zs)
+dead-first : (x : Entry) (zs : List Entry) (f : File) (l : Ledger) → alive x ≡ false → Matches (x ∷ zs) (f ∷ l) → Dead-first (x ∷ zs)
 dead-first x [] f l d m = absurd (let e : f ∷ l ≡ [] = none-left m (ap (map as-file) (keep-no alive x [] d)) in let z : _≡_ {A = ℕ} 0 1 = cc in omega arith)
 dead-first x (y ∷ zs) f l d m = record { x = x; y = y; rest = zs; is = refl; dead = d }
 

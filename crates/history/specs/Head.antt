@@ -20,7 +20,7 @@ use Rattle.history.specs.Walk.{Quiet, Walks, walks-record, walks-clean, 
 -- ---- the choice
 
 -- where the search that follows the walk ends
-abbrev pub sought-at : List ℕ → ℕ
+abbrev sought-at : List ℕ → ℕ
 sought-at image = sought image (walk (suc (length image)) 0 image)
 
 head-by : (image : List ℕ) (a : ℕ) (h : Answer ℕ) → start-here image ≡ false → wrap-here image ≡ false → sought-at image ≡ a → chosen image a ≡ h → head image ≡ h
@@ -79,7 +79,7 @@ pub reaches-more : {at m : ℕ} {s t : List ℕ} → Reaches₁ at s t m → Rea
 reaches-more r = record { by = r .by; g = r .g; j = r .j; land = lands-more (r .land); whole = r .whole; quiet = r .quiet; far = r .far }
 
 -- the head stands right there
-pub reaches-head : {b : ℕ} (at : ℕ) (t : List ℕ) → Head-low b → (at ≡ 0 → ⊥) → Reaches₁ at (b ∷ 90 ∷ t) (b ∷ 90 ∷ t) 0
+reaches-head : {b : ℕ} (at : ℕ) (t : List ℕ) → Head-low b → (at ≡ 0 → ⊥) → Reaches₁ at (b ∷ 90 ∷ t) (b ∷ 90 ∷ t) 0
 reaches-head at t b h = record { by = 0; g = []; j = 0; land = lands-head at t b h; whole = refl; quiet = tt; far = refl }
 
 -- a region without marks, at least a word
@@ -200,7 +200,7 @@ front-wrap (front-gap {x} {y} h) w = rw (not-high y h) (and-false (is-wrap x))
 front-wrap (front-begun {s}) w = low-wrap (getD s 0 0)
 
 -- what the search gives, on an image whose records at the front end at s
-pub found : {b : ℕ} (low : List Rec) (s t : List ℕ) (m : ℕ) → All-fine low → Walked 0 low → Head-low b → Reaches (sizes low) s (b ∷ 90 ∷ t) m →
+found : {b : ℕ} (low : List Rec) (s t : List ℕ) (m : ℕ) → All-fine low → Walked 0 low → Head-low b → Reaches (sizes low) s (b ∷ 90 ∷ t) m →
     sought-at (lay low s) ≡ sizes low + m
 found {b} low s t m f w h r =
     let e : length s - r .by ≡ length (r .g) + length (b ∷ 90 ∷ t) = sym (length-drop (r .by) s) ∙ ap length (r .land .there) ∙ length-append (r .g) (b ∷ 90 ∷ t) in

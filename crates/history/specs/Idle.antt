@@ -42,16 +42,16 @@ module _ {l : Ledger} (w : Work) (q : Rested l (w .image) (w .reading)) where
   entries-is : w .reading .entries ≡ q .es
   entries-is = ap (λ (r : Reading). r .entries) (q .is)
 
-  pub idle-1 : repair-1 w ≡ w
+  idle-1 : repair-1 w ≡ w
   idle-1 = one-none w (ap head-clean entries-is ∙ starts-clean (q .es) (q .starts))
 
-  pub idle-2 : repair-2-on w ≡ w
+  idle-2 : repair-2-on w ≡ w
   idle-2 = ap (repair-2 w) entries-is ∙ two-plain w (q .es) (q .starts)
 
-  pub idle-3 : repair-3 w ≡ w
+  idle-3 : repair-3 w ≡ w
   idle-3 = three-none w (subst (Each Finished) (sym entries-is) (fine-finished (q .es) (laid-fine (q .laid)))) (ap (λ (r : Reading). r .ending) (q .is))
 
-  pub idle-4 : repair-4 w ≡ w
+  idle-4 : repair-4 w ≡ w
   idle-4 = four-none w (subst Unique (sym entries-is) (q .ok .unique))
 
 pub after-some : (w : Work) (ss : List Step) (h : ℕ) → (ss ≡ [] → ⊥) → after w ss h ≡ reread w ss (run (w .image) ss) h

@@ -10,7 +10,7 @@
 --   vacated   the head is Y, CLEAN; sectors of X are erased or still hold remains without a mark. Mount erases them and makes Y START.
 -- In each kind the live files are those of the ledger. A step of any call leads from one of these images to another with the same files, but for
 -- a put's commit and a remove's one step, which change the files as the ledger does. And each of them is read, judged legal and mended.
-use Prim.Native.Nat.{ℕ, _+_, _*_, _≤_, _<_}
+use Prim.Native.Nat.{ℕ, _*_, _≤_, _<_}
 use mathlib.Core.Path.{_≡_}
 use mathlib.Core.Bool.{Bool, true, false}
 use mathlib.Core.List.{List, [], _∷_, _++_}

@@ -25,12 +25,12 @@ left-quiet x c =
     subst (λ (m : ℕ). Quiet m (forgotten x)) n (mark-second (x .low) (drop 2 (forgotten x)), c)
 
 -- all that stands before the head, and something behind it
-pub before-head : (low : List Rec) (seg : Seg) (free lost t : List ℕ) → lay low (seg-onto seg (free ++ lost)) ++ t ≡ lay low (seg-onto seg (free ++ (lost ++ t)))
+before-head : (low : List Rec) (seg : Seg) (free lost t : List ℕ) → lay low (seg-onto seg (free ++ lost)) ++ t ≡ lay low (seg-onto seg (free ++ (lost ++ t)))
 before-head low seg free lost t =
     ap (λ (m : List ℕ). m ++ t) (lay-is low (seg-onto seg (free ++ lost))) ∙ append-assoc (lay low []) (seg-onto seg (free ++ lost)) t ∙ sym (lay-is low (seg-onto seg (free ++ lost) ++ t))
     ∙ ap (lay low) (sym (seg-append seg (free ++ lost) t) ∙ ap (seg-onto seg) (append-assoc free lost t))
 
-pub before-length : {im : List ℕ} {a l : ℕ} {lost : List ℕ} {h : ℕ} {low : List Rec} {seg : Seg} {f : ℕ} {free : List ℕ} {high : List Rec} {end : End} → Turned im a l lost h low seg f free high end →
+before-length : {im : List ℕ} {a l : ℕ} {lost : List ℕ} {h : ℕ} {low : List Rec} {seg : Seg} {f : ℕ} {free : List ℕ} {high : List Rec} {end : End} → Turned im a l lost h low seg f free high end →
     length (lay low (seg-onto seg (free ++ lost))) ≡ h
 before-length {lost = lost} {low = low} {seg} {free = free} s =
     length-lay low (seg-onto seg (free ++ lost)) ∙ omega (arith, length-seg seg (free ++ lost), length-append free lost, s .free-length, s .lost-length, s .below, s .at)

@@ -98,7 +98,7 @@ post-none {im} {h} {S} {es} {below} {free} d =
     none-at (K .post) (omega (arith, ap length (K .is), length-append (K .pre) (free ++ K .post), length-append free (K .post), K .at))
 
 module _ {im : Image} {h S : ℕ} {es : List Entry} (g : length im % 4096 ≡ 0) where
-  pub vacant-bare : (t : Bool) → Vacant h S t es im → Bare h es (run im (erase-steps im (place im h S t)))
+  vacant-bare : (t : Bool) → Vacant h S t es im → Bare h es (run im (erase-steps im (place im h S t)))
   unfolding erase-steps free-sectors
   vacant-bare true v =
       let L : floor h ≡ S + length (v .free) = limit-is (v .laid) in

@@ -1,30 +1,29 @@
 -- Every laid image is read: the head is found, and the chain from it gives the records.
-use Prim.Native.Nat.{ℕ, zero, suc, _+_, _*_, _≤_, _<_}
+use Prim.Native.Nat.{ℕ, suc, _+_, _≤_}
 use native.Mathlib.Omega.{arith}
 use mathlib.Core.Path.{_≡_, refl, sym, ap, ap₂, _∙_, subst}
 use mathlib.Core.Bool.{Bool, true, false, _||_}
 use mathlib.Core.List.{List, [], _∷_, _++_, append-assoc, append-nil}
-use lib.ListN.{length, length-replicate, length-append}
+use lib.ListN.{length}
 use lib.Dec.{eqb}
 use borrow.Author.Tests.{eqb-true, eqb-false}
 use Rattle.spec.specs.declared.Next.{Next}
 use Rattle.spec.specs.declared.Ending.{Ending}
 use Rattle.spec.specs.Step.{Image}
-use Rattle.spec.specs.Basics.{Answer, refuse, give, blank, part, Each}
+use Rattle.spec.specs.Basics.{give, blank, part, Each}
 use Rattle.spec.specs.Geometry.{floor}
 use Rattle.spec.specs.Bytes.{is-start, is-clean}
 use Rattle.spec.specs.Record.{Rec, Entry, clean-here}
 use Rattle.spec.specs.Head.{head}
-use Rattle.spec.specs.Chain.{Reading, chain, read, reading-from}
-use Rattle.spec.specs.Reading.{blank-part, free-blank, tail-blank, free-ok, head-clean, marked, reading}
-use Rattle.history.specs.Lay.{blanks, onto, lay, rsize, sizes, entries-of, Low, low-record, low-start, low-clean, Fine, All-fine}
+use Rattle.spec.specs.Chain.{chain, read, reading-from}
+use Rattle.spec.specs.Reading.{blank-part, free-blank, tail-blank, free-ok, reading}
+use Rattle.history.specs.Lay.{blanks, lay, rsize, sizes, entries-of, Low, low-record, low-start, low-clean, All-fine}
 use Rattle.history.specs.Last.{Ends, stops-clear, stops-over, blank-blanks}
-use Rattle.history.specs.Walk.{Quiet, Walks, walks-record, walks-clean, Walked}
+use Rattle.history.specs.Walk.{Walks, walks-record, walks-clean, Walked}
 use Rattle.history.specs.Shape.{chain-of, shape-full, shape-last, low-clear}
-use Rattle.history.specs.Quiet.{blank-split}
 use Rattle.history.specs.Seg.{Seg, seg-none, seg-torn, seg-cut, seg-held, seg-onto, seg-size, seg-entries, seg-open, seg-ends}
-use Rattle.history.specs.Straight.{Straight, bottom, straight-start, straight-clean, straight-zero, straight-none, straight-reading}
-use Rattle.history.specs.Turned.{Turned, Opens, opens-ff, opens-none, End, end-bytes, turned-start, turned-clean, turned-reading}
+use Rattle.history.specs.Straight.{Straight, bottom, straight-clean, straight-none, straight-reading}
+use Rattle.history.specs.Turned.{Opens, opens-ff, opens-none, turned-start, turned-clean, turned-reading}
 use Rattle.history.specs.Legal.{Ruled, reading-by}
 use Rattle.history.specs.Whole.{started, gap-part, free-part, free₁, below, here, is-clean-0, is-clean-A0}
 use Rattle.history.specs.Laid.{Laid, laid-straight, laid-turned, Tail, tail-clear, tail-floor, tail-N, tail-turn}
@@ -40,12 +39,8 @@ read-same p q r = cc
 never : (b : Bool) → b ≡ true → b ≡ false → ⊥
 never b p q = let z : _≡_ {A = ℕ} 0 1 = cc in omega arith
 
-blanks-empty : (F : ℕ) → blanks F ≡ [] → F ≡ 0
-blanks-empty zero e = refl
-blanks-empty (suc F) e = absurd (let z : _≡_ {A = ℕ} 0 1 = cc in omega arith)
-
 -- something is open at S, unless nothing is
-pub open-or : (g : Seg) → (g ≡ seg-none → ⊥) → seg-open g ≡ true
+open-or : (g : Seg) → (g ≡ seg-none → ⊥) → seg-open g ≡ true
 open-or seg-none n = absurd (n refl)
 open-or (seg-torn c x y z w t b m) n = refl
 open-or (seg-cut d n f) m = refl
@@ -58,7 +53,7 @@ low-plain low-record h = refl
 low-plain low-start h = absurd (let z : _≡_ {A = ℕ} 0 1 = cc in omega arith)
 low-plain low-clean h = absurd (let z : _≡_ {A = ℕ} 0 1 = cc in omega arith)
 
-pub walked-plain : (rs : List Rec) (at : ℕ) → All-fine rs → Each Unmarked (entries-of at rs) → Walked at rs
+walked-plain : (rs : List Rec) (at : ℕ) → All-fine rs → Each Unmarked (entries-of at rs) → Walked at rs
 walked-plain [] at f m = tt
 walked-plain (r ∷ rs) at f m = (subst (Walks at) (sym (low-plain (f .0 .low-ok) (m .0))) walks-record, walked-plain rs (at + rsize r) (f .1) (m .1))
 
@@ -115,7 +110,7 @@ module _ {im : Image} {h S : ℕ} {t : Bool} {es : List Entry} {seg : Seg} {unde
 -- ---- the head is found
 
 -- START
-pub start-found : {im : Image} {h S : ℕ} {t : Bool} {x : Entry} {es : List Entry} {seg : Seg} {under free : List ℕ} → Laid im h S t (x ∷ es) seg under free → x .it .low ≡ 0 → head im ≡ give h
+start-found : {im : Image} {h S : ℕ} {t : Bool} {x : Entry} {es : List Entry} {seg : Seg} {under free : List ℕ} → Laid im h S t (x ∷ es) seg under free → x .it .low ≡ 0 → head im ≡ give h
 start-found (laid-straight f s et eS ee lf qf) l = started s (first-low ee l)
 start-found (laid-turned s et eS ee eb) l = turned-start s (first-low ee l)
 
@@ -129,7 +124,7 @@ clean-first [] free rest x o n f m = go o n
     go opens-ff n = refl
     go opens-none n = absurd (omega arith)
 
-pub clean-found :
+clean-found :
     {im : Image} {h S : ℕ} {t : Bool} {x : Entry} {es : List Entry} {under free : List ℕ} → Laid im h S t (x ∷ es) seg-none under free → x .it .low ≡ 160 → Each Unmarked es → head im ≡ give h
 clean-found {im = im} {h = h} (laid-straight {x = y} {ys = ys} f s et eS ee lf qf) l m = go (eqb h 0) refl
   where

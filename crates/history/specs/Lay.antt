@@ -97,7 +97,7 @@ ends-plain : (held : Bool) (x : ℕ) → 33 ≤ x → x ≤ 126 → ends-name he
 unfolding ends-name
 ends-plain held x h l = rw (ends-name, ne-eqb x 0 (λ e. omega arith), ne-eqb x 255 (λ e. omega arith)) (and-false held)
 
-pub name-length-at : (k : ℕ) (held : Bool) (w : List ℕ) (t : ℕ) (s : List ℕ) → length w < k → Plain w → ends-name held t ≡ true → name-length k held (w ++ (t ∷ s)) ≡ length w
+name-length-at : (k : ℕ) (held : Bool) (w : List ℕ) (t : ℕ) (s : List ℕ) → length w < k → Plain w → ends-name held t ≡ true → name-length k held (w ++ (t ∷ s)) ≡ length w
 unfolding name-length
 name-length-at zero held w t s h p e = absurd (not-suc-le-zero h)
 name-length-at (suc k) held [] t s h p e = rw (e, name-length)
@@ -168,7 +168,7 @@ next-laid : (b st x y z w : ℕ) (s : List ℕ) → Low b → Stat st → next (
 unfolding next long
 next-laid b st x y z w s l t = kind-next l t (b ∷ 90 ∷ st ∷ 255 ∷ x ∷ y ∷ z ∷ w ∷ s)
 
-pub next-onto : (r : Rec) (s : List ℕ) → Fine r → next (onto r s) ≡ Next.Record (length (r .name)) (length (r .content))
+next-onto : (r : Rec) (s : List ℕ) → Fine r → next (onto r s) ≡ Next.Record (length (r .name)) (length (r .content))
 next-onto r s f = next-laid (r .low) (r .status) _ _ _ _ _ (f .low-ok) (f .status-ok) ∙ record-at-onto false r s (f .fit)
 
 -- the status says that it is finished
@@ -187,7 +187,7 @@ unfolding chain
 chain-record k at n d s e = rw (e, chain)
 
 -- ---- the chain over laid records: it goes on, with what follows them, as if it had begun there
-pub chain-onto : (r : Rec) (k at : ℕ) (s : List ℕ) → Fine r → chain (suc k) false at (onto r s) ≡ add (record { at = at; it = r }) (chain k false (at + rsize r) s)
+chain-onto : (r : Rec) (k at : ℕ) (s : List ℕ) → Fine r → chain (suc k) false at (onto r s) ≡ add (record { at = at; it = r }) (chain k false (at + rsize r) s)
 chain-onto r k at s f =
     rw (chain-record k at (length (r .name)) (length (r .content)) (onto r s) (next-onto r s f), rec-of-onto r s, drop-onto r s, finished (f .status-ok))
 

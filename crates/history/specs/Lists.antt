@@ -18,7 +18,7 @@ and-no false b h = refl
 -- ---- lists
 
 module _ {A : Type 0} where
-  pub any-no : (p : A → Bool) (x : A) (xs : List A) → p x ≡ false → any p (x ∷ xs) ≡ any p xs
+  any-no : (p : A → Bool) (x : A) (xs : List A) → p x ≡ false → any p (x ∷ xs) ≡ any p xs
   any-no p x xs e = rw (e, any)
 
   pub keep-no : (p : A → Bool) (x : A) (xs : List A) → p x ≡ false → keep p (x ∷ xs) ≡ keep p xs
@@ -85,9 +85,6 @@ module _ {A : Type 0} where
       go : (b : Bool) → p x ≡ b → any p (xs ++ (o ∷ ys)) ≡ any p (xs ++ ys) → any p (x ∷ (xs ++ (o ∷ ys))) ≡ any p (x ∷ (xs ++ ys))
       go true h i = any-yes (xs ++ (o ∷ ys)) h ∙ sym (any-yes (xs ++ ys) h)
       go false h i = any-no p x (xs ++ (o ∷ ys)) h ∙ i ∙ sym (any-no p x (xs ++ ys) h)
-
-  pub keep-insert : (p : A → Bool) (xs ys : List A) (o : A) → p o ≡ false → keep p (xs ++ (o ∷ ys)) ≡ keep p (xs ++ ys)
-  keep-insert p xs ys o e = keep-append p xs (o ∷ ys) ∙ ap (λ (l : List A). keep p xs ++ l) (keep-no p o ys e) ∙ sym (keep-append p xs ys)
 
   pub all-each : (p : A → Bool) (xs : List A) → Each (λ x. p x ≡ true) xs → all p xs ≡ true
   all-each p [] h = refl

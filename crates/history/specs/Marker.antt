@@ -1,15 +1,14 @@
 -- The marker: from not turned, by a torn wrap, to turned; and a chain that ends exactly at N, which has turned with the same bytes.
-use Prim.Native.Nat.{ℕ, zero, suc, _+_, _-_, _*_, _/_, _≤_, _<_}
+use Prim.Native.Nat.{ℕ, zero, suc, _+_, _-_, _*_, _≤_}
 use native.Mathlib.Omega.{arith}
 use native.Mathlib.Nat.{zero-add}
-use mathlib.Core.Path.{_≡_, refl, sym, ap, _∙_, subst}
+use mathlib.Core.Path.{_≡_, sym, ap, _∙_, subst}
 use mathlib.Core.Bool.{true}
 use mathlib.Core.List.{List, [], _∷_, _++_, append-nil}
 use lib.ListN.{length, take, length-replicate}
 use Rattle.spec.specs.declared.Next.{Next}
 use Rattle.spec.specs.declared.Ending.{Ending}
 use Rattle.spec.specs.Step.{run, moved}
-use Rattle.spec.specs.Geometry.{floor}
 use Rattle.spec.specs.Record.{Rec}
 use Rattle.spec.specs.Chain.{read, reading-from}
 use Rattle.spec.specs.Write.{marker-steps}

@@ -1,21 +1,19 @@
 -- What a change of one record does to the live files, on lists of records alone.
-use Prim.Native.Nat.{ℕ, zero, suc, _+_}
-use native.Mathlib.Omega.{arith}
+use Prim.Native.Nat.{ℕ}
 use mathlib.Core.Path.{_≡_, refl, sym, ap, ap₂, _∙_, subst}
-use mathlib.Core.Bool.{Bool, true, false, _&&_, not}
+use mathlib.Core.Bool.{Bool, true, false, not}
 use mathlib.Core.Option.{Option, none, some}
-use mathlib.Core.List.{List, [], _∷_, _++_, map, append-nil, append-assoc, List·Permᴰ, List·Permᴰ·cons, List·Permᴰ·trans, Permᴰ·refl, Permᴰ·symm, Permᴰ·middle, Permᴰ·append-nil}
-use lib.ListN.{length}
+use mathlib.Core.List.{List, [], _∷_, _++_, map, append-nil, append-assoc, List·Permᴰ, List·Permᴰ·cons, List·Permᴰ·trans, Permᴰ·symm, Permᴰ·middle, Permᴰ·append-nil}
 use lib.Dec.{eqb}
 use borrow.Author.Tests.{eqb-true, eq-eqb}
-use Rattle.spec.specs.Basics.{same, keep, first-such, Each}
+use Rattle.spec.specs.Basics.{same, keep, first-such}
 use Rattle.spec.specs.Record.{name-ok, Entry, name-of, content-of}
 use Rattle.spec.specs.Files.{named, named-as, has-named, has-name, file-named}
 use Rattle.spec.specs.History.{File, Ledger, not-named, without, with-file}
-use Rattle.history.specs.Lists.{keep-no, keep-yes, keep-append, each-map, each-end, each-swap, each-insert, each-without, each-at, each-append, each-left, each-right, each-all, pairwise-end, pairwise-without, pairwise-before, pairwise-behind, pairwise-insert, any-last, first-yes, first-no}
+use Rattle.history.specs.Lists.{keep-no, keep-yes, each-map, each-end, each-swap, each-insert, each-without, each-at, each-append, each-all, pairwise-end, pairwise-without, pairwise-before, pairwise-behind, pairwise-insert, any-last, first-yes, first-no}
 use Rattle.history.specs.Store.{same-sym, alive, Apart, Unique, Well-named, fc-alive, f8-alive, dead-apart, dead-named, files-alive}
 use Rattle.history.specs.Shadow.{Shadowed}
-use Rattle.history.specs.Ledger.{as-file, contents, Matches, Absent, perm-keep, keep-contents, contents-append, contents-one, matches-dead, none-absent, not-none, dead-not}
+use Rattle.history.specs.Ledger.{as-file, contents, Matches, Absent, perm-keep, keep-contents, contents-append, contents-one, matches-dead, dead-not}
 use Rattle.history.specs.Kinds.{Ok, Bytes, Live-bytes}
 
 -- ---- names

@@ -4,12 +4,12 @@ use native.Mathlib.Omega.{arith}
 use native.Mathlib.Nat.{zero-add, add-zero}
 use mathlib.Core.Path.{_≡_, refl, sym, ap, _∙_, subst}
 use mathlib.Core.List.{List, [], _∷_, _++_, append-assoc, append-nil}
-use lib.ListN.{length, take, set, length-append, length-replicate}
-use lib.Seq.{take-nil, length-take-le, take-all, take-length, take-append-le}
+use lib.ListN.{length, take, length-append, length-replicate}
+use lib.Seq.{take-nil, length-take-le, take-all, take-length}
 use Rattle.spec.specs.Step.{Step, program, apply, run, bytes-at}
 use Rattle.spec.specs.Geometry.{up8}
 use Rattle.spec.specs.Record.{size-of, Rec}
-use Rattle.spec.specs.Write.{header-steps, name-steps, data-steps, commit-steps, record-steps}
+use Rattle.spec.specs.Write.{header-steps, name-steps, data-steps, record-steps}
 use Rattle.history.specs.Lay.{blanks, pad, lens, onto, Plain, Fit}
 use Rattle.history.specs.Last.{Begun, begun-ff, begun-5a, begun-none, held}
 use Rattle.history.specs.Quiet.{blank-split}
@@ -190,18 +190,6 @@ open-done n c s f h =
     ∙ run-append H (name-steps n) D ∙ ap (λ (l : List ℕ). run l D) (named n c s f h)
     ∙ (rw (all, take-length c, append-nil c) at (data-done n c r (length c) 0 (omega arith) (omega arith)))
 
--- the commit is the last step of a record
-split-record : (n c : List ℕ) → record-steps n c ≡ open-steps n c ++ commit-steps
-split-record n c =
-    ap (λ (ss : List Step). header-steps (length c) ++ ss) (sym (append-assoc (name-steps n) (data-steps (length n) c) commit-steps))
-    ∙ sym (append-assoc (header-steps (length c)) (body-steps n c) commit-steps)
-
--- with the commit
-pub record-done : (n c s : List ℕ) (f : ℕ) → size-of (length n) (length c) ≤ f → run (blanks f ++ s) (record-steps n c) ≡ onto (file n c) (blanks (f - size-of (length n) (length c)) ++ s)
-record-done n c s f h =
-    ap (run (blanks f ++ s)) (split-record n c)
-    ∙ run-append (blanks f ++ s) (open-steps n c) commit-steps ∙ ap (λ (l : List ℕ). set l 2 252) (open-done n c s f h)
-
 pub length-record : (n c : List ℕ) → length (record-steps n c) ≡ 9 + length n + length c
 length-record n c = simp (length-append, length-bytes) (omega arith)
 
@@ -212,10 +200,3 @@ programs-bytes a (x ∷ w) ss p = programs-bytes (a + 1) w ss p
 pub record-programs : (n c : List ℕ) → Programs (record-steps n c)
 record-programs n c = rw (append-assoc (bytes-at 8 n)) (programs-bytes 8 n _ (programs-bytes (8 + up8 (length n + 1)) c _ tt))
 
-length-open : (n c : List ℕ) → length (open-steps n c) ≡ 8 + length n + length c
-length-open n c = simp (length-append, length-bytes) (omega arith)
-
-pub take-open : (n c : List ℕ) (k : ℕ) → k ≤ 8 + length n + length c → take k (record-steps n c) ≡ take k (open-steps n c)
-take-open n c k h =
-    ap (take k) (split-record n c)
-    ∙ take-append-le k (open-steps n c) commit-steps (omega (arith, length-open n c))

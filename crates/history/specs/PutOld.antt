@@ -10,7 +10,7 @@ use borrow.Author.Tests.{eqb-true, eq-eqb}
 use Rattle.spec.specs.declared.Ending.{Ending}
 use Rattle.spec.specs.Step.{Image, Step, program, run}
 use Rattle.spec.specs.Geometry.{good-length}
-use Rattle.spec.specs.Basics.{empty, Each}
+use Rattle.spec.specs.Basics.{empty}
 use Rattle.spec.specs.Bytes.{is-start, is-clean, is-committed}
 use Rattle.spec.specs.Record.{Entry, name-of, content-of}
 use Rattle.spec.specs.Files.{named}
@@ -55,11 +55,11 @@ or-other true b p h = cc
 or-other false b p h = h
 
 -- a live file that is not FC is F8
-pub f8-by : (e : Entry) → is-committed (e .it .status) ≡ false → alive e ≡ true → named 0xF8 e ≡ true
+f8-by : (e : Entry) → is-committed (e .it .status) ≡ false → alive e ≡ true → named 0xF8 e ≡ true
 unfolding is-committed alive named
 f8-by e c a = or-other (named 0xFC e) (named 0xF8 e) (ap (λ (b : Bool). b && not (empty (name-of e))) c) a
 
-pub fc-by : (e : Entry) → is-committed (e .it .status) ≡ true → e .it .status ≡ 252
+fc-by : (e : Entry) → is-committed (e .it .status) ≡ true → e .it .status ≡ 252
 unfolding is-committed
 fc-by e c = eqb-true (e .it .status) 252 c
 

@@ -29,12 +29,12 @@ use Rattle.history.specs.PutSound.{open-sound, commit-last}
 
 -- ---- lengths
 
-pub length-run : (im : Image) (ss : List Step) → Programs ss → length (run im ss) ≡ length im
+length-run : (im : Image) (ss : List Step) → Programs ss → length (run im ss) ≡ length im
 length-run im [] p = refl
 length-run im (program a b ∷ ss) p = length-run (set im a b) ss p ∙ length-set im a b
 length-run im (erase a ∷ ss) p = absurd p
 
-pub programs-moved : (a : ℕ) (ss : List Step) → Programs ss → Programs (moved a ss)
+programs-moved : (a : ℕ) (ss : List Step) → Programs ss → Programs (moved a ss)
 programs-moved a [] p = tt
 programs-moved a (program i b ∷ ss) p = programs-moved a ss p
 programs-moved a (erase i ∷ ss) p = absurd p

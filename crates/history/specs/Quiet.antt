@@ -46,10 +46,10 @@ quiet-take (suc j) k p s e q =
 
 -- ---- no mark, wherever it stands
 
-abbrev pub mark-pair : ℕ → ℕ → Bool
+abbrev mark-pair : ℕ → ℕ → Bool
 mark-pair a b = (is-start a || is-clean a || is-record a) && is-high b
 
-abbrev pub Calm : List ℕ → Type 0
+abbrev Calm : List ℕ → Type 0
 Calm [] = Unit {0}
 Calm (x ∷ s) = (mark-pair x (getD s 0 0) ≡ false) × Calm s
 

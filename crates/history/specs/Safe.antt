@@ -35,11 +35,6 @@ module _ (P : Image → Type 0) where
   safe-sound im [] s = tt
   safe-sound im (x ∷ ss) s = (s .1, safe-sound (apply im x) ss (s .2))
 
-  pub safe-sound-cut : (im : Image) (ss : List Step) → Safe P im ss → (k : ℕ) → Steps-sound im (take k ss)
-  safe-sound-cut im ss s zero = tt
-  safe-sound-cut im [] s (suc k) = tt
-  safe-sound-cut im (x ∷ ss) s (suc k) = (s .1, safe-sound-cut (apply im x) ss (s .2) k)
-
   pub safe-append : (im : Image) (ss ts : List Step) → Safe P im ss → Safe P (run im ss) ts → Safe P im (ss ++ ts)
   safe-append im [] ts s t = t
   safe-append im (x ∷ ss) ts s t = (s .0, s .1, safe-append (apply im x) ss ts (s .2) t)

@@ -11,7 +11,7 @@ use Rattle.spec.specs.Record.{Entry}
 use Rattle.spec.specs.Chain.{Reading, read}
 use Rattle.spec.specs.Reading.{head-clean, reading}
 use Rattle.spec.specs.Move.{Work, begin, after}
-use Rattle.spec.specs.Mount.{repair-1, repair-2, repair-2-on, repair-3, repair-4, void-steps, last-steps, torn-wrap-steps, delete-step, drop-steps, mended, settled}
+use Rattle.spec.specs.Mount.{repair-1, repair-2, repair-3, repair-4, void-steps, last-steps, torn-wrap-steps, delete-step, drop-steps, mended, settled}
 use Rattle.spec.specs.Answers.{if-settled, settled-reading}
 use Rattle.history.specs.Store.{Finished, Unmarked, Unique, Calm-store, none-superseded, or-left, or-right}
 
@@ -46,14 +46,14 @@ pub four-none : (w : Work) → Unique (w .reading .entries) → repair-4 w ≡ w
 unfolding repair-4 drop-steps
 four-none w u = ap (λ (l : List Entry). after w (map delete-step l) (w .reading .place .head)) (none-superseded (w .reading .entries) u) ∙ after-none w (w .reading .place .head)
 
-pub mended-none : (im : Image) (N h t : ℕ) (b : Bool) (x : Entry) (es : List Entry) → Calm-store x es → is-clean (x .it .low) ≡ false →
+mended-none : (im : Image) (N h t : ℕ) (b : Bool) (x : Entry) (es : List Entry) → Calm-store x es → is-clean (x .it .low) ≡ false →
     mended im (read N h t b (x ∷ es) Ending.Tail) ≡ begin im (read N h t b (x ∷ es) Ending.Tail)
 unfolding mended
 mended-none im N h t b x es c k =
     let w : Work = begin im (read N h t b (x ∷ es) Ending.Tail) in
     rw (mended, one-none w k, two-none w x es (c .unmarked), three-none w (c .finished) refl, four-none w (c .unique))
 
-pub settled-calm : (im : Image) (N h t : ℕ) (b : Bool) (x : Entry) (es : List Entry) → Calm-store x es → is-clean (x .it .low) ≡ false → settled im (read N h t b (x ∷ es) Ending.Tail) ≡ true
+settled-calm : (im : Image) (N h t : ℕ) (b : Bool) (x : Entry) (es : List Entry) → Calm-store x es → is-clean (x .it .low) ≡ false → settled im (read N h t b (x ∷ es) Ending.Tail) ≡ true
 unfolding settled
 settled-calm im N h t b x es c k = rw (settled, mended-none im N h t b x es c k)
 

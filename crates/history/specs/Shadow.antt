@@ -4,9 +4,9 @@ use mathlib.Core.Bool.{Bool, true, false, _&&_, _||_, not, and-false}
 use mathlib.Core.List.{List, [], _∷_, _++_}
 use Rattle.spec.specs.Basics.{keep}
 use Rattle.spec.specs.Record.{Entry}
-use Rattle.spec.specs.Files.{same-name, named, named-as, has-named, live, superseded, files}
-use Rattle.history.specs.Lists.{any-insert, keep-insert, keep-append, keep-yes, keep-same, each-all}
-use Rattle.history.specs.Store.{alive, Unique, files-alive, none-superseded, fc-not-f8}
+use Rattle.spec.specs.Files.{named, named-as, has-named, live, superseded}
+use Rattle.history.specs.Lists.{any-insert, keep-append, keep-yes, keep-same, each-all}
+use Rattle.history.specs.Store.{Unique, none-superseded, fc-not-f8}
 
 empty-left : (a b : List Entry) → a ++ b ≡ [] → a ≡ []
 empty-left [] b h = refl
@@ -29,7 +29,7 @@ module _ (xs ys : List Entry) (o : Entry) (s : Shadowed xs ys o) where
   R = xs ++ ys
 
   -- o is no FC, so nobody sees it
-  pub has-same : (e : Entry) → has-named 0xFC es e ≡ has-named 0xFC R e
+  has-same : (e : Entry) → has-named 0xFC es e ≡ has-named 0xFC R e
   unfolding has-named
   has-same e = any-insert (named-as 0xFC e) xs ys o (rw (fc-not-f8 o (s .old)))
 
@@ -40,10 +40,6 @@ module _ (xs ys : List Entry) (o : Entry) (s : Shadowed xs ys o) where
   pub o-dead : live es o ≡ false
   unfolding live
   o-dead = rw (live, has-same o, s .covered, fc-not-f8 o (s .old)) (and-false (named 0xF8 o))
-
-  -- the files are those of R
-  pub shadow-files : files es ≡ keep alive R
-  shadow-files = keep-insert (live es) xs ys o o-dead ∙ keep-same (live es) (live R) R (each-all (λ e. live es e ≡ live R e) live-same R) ∙ files-alive R (s .unique)
 
   super-same : (e : Entry) → superseded es e ≡ superseded R e
   unfolding superseded

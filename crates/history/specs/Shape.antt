@@ -43,7 +43,7 @@ module _ (low high : List Rec) (gap lost rest : List ℕ) (h : ℕ) (below : siz
   pub drop-high : drop h image ≡ lay high rest
   drop-high = ap (drop h) split ∙ drop-past (lay low gap) (lost ++ lay high rest) h (length lost) (sym here ∙ ap (λ (k : ℕ). k + length lost) (sym low-length)) ∙ drop-at lost (lay high rest) (length lost) refl
 
-  pub length-image : length image ≡ h + sizes high + length rest
+  length-image : length image ≡ h + sizes high + length rest
   length-image =
       length-lay low (gap ++ (lost ++ lay high rest))
       ∙ omega (arith, length-append gap (lost ++ lay high rest), length-append lost (lay high rest), length-lay high rest)
@@ -54,18 +54,18 @@ module _ (low high : List Rec) (gap lost rest : List ℕ) (h : ℕ) (below : siz
       ap (λ (n : ℕ). chain n false at (lay rs s)) i ∙ chain-lay rs (suc (suc (k - suc (length rs)))) at s f
       ∙ ap (before (entries-of at rs)) (e (k - suc (length rs))) ∙ before-chain (entries-of at rs) es o t x
 
-  pub high-read : (es : List Entry) (o : Bool) (t : ℕ) (x : Next) → All-fine high → 1 ≤ sizes high → Ends (h + sizes high) rest (chain-of es o t x) →
+  high-read : (es : List Entry) (o : Bool) (t : ℕ) (x : Next) → All-fine high → 1 ≤ sizes high → Ends (h + sizes high) rest (chain-of es o t x) →
       from-head image h ≡ chain-of (entries-of h high ++ es) o t x
   high-read es o t x f l e = ap (chain (suc (length image)) false h) drop-high ∙ fuel high (length image) h rest es o t x f e (omega (arith, length-image, lots high))
 
-  pub low-read : (es : List Entry) (o : Bool) (t : ℕ) (x : Next) → All-fine low → 1 ≤ floor h → Ends (sizes low) gap (chain-of es o t x) →
+  low-read : (es : List Entry) (o : Bool) (t : ℕ) (x : Next) → All-fine low → 1 ≤ floor h → Ends (sizes low) gap (chain-of es o t x) →
       from-zero image h false ≡ chain-of (entries-of 0 low ++ es) o t x
   low-read es o t x f l e =
       ap (chain (suc (length image)) false 0) take-low
       ∙ fuel low (length image) 0 gap es o t x f (subst (λ (a : ℕ). Ends a gap (chain-of es o t x)) (sym (zero-add (sizes low))) e) (omega (arith, length-image, lots low))
 
   -- behind an unfinished record nothing but an end may stand
-  pub low-stops : (x : Next) → low ≡ [] → Stops 0 gap x → from-zero image h true ≡ stop true 0 x
+  low-stops : (x : Next) → low ≡ [] → Stops 0 gap x → from-zero image h true ≡ stop true 0 x
   low-stops x z e = ap (chain (suc (length image)) true 0) (take-low ∙ ap (λ (rs : List Rec). lay rs gap) z) ∙ e true (length image)
 
 -- ---- from the two chains to the reading

@@ -1,31 +1,31 @@
 -- On a rested image list and get give the ledger's files: each entry's bytes are read where it stands, and no two live entries have one name.
-use Prim.Native.Nat.{ℕ, zero, suc, _+_, _≤_, _<_}
+use Prim.Native.Nat.{ℕ, zero, suc, _+_, _<_}
 use native.Mathlib.Omega.{arith}
 use native.Mathlib.Nat.{not-suc-le-zero}
-use mathlib.Core.Path.{_≡_, refl, sym, ap, ap₂, _∙_, subst}
-use mathlib.Core.Bool.{Bool, true, false, not}
+use mathlib.Core.Path.{_≡_, refl, sym, ap, _∙_, subst}
+use mathlib.Core.Bool.{Bool, true, false}
 use mathlib.Core.Option.{Option, none, some}
 use mathlib.Core.List.{List, [], _∷_, _++_, map, append-assoc, List·Permᴰ, List·Permᴰ·nil, List·Permᴰ·cons, List·Permᴰ·swap, List·Permᴰ·trans, Permᴰ·symm}
 use lib.ListN.{length, take, drop, getElem?}
 use lib.Seq.{drop-drop}
-use Rattle.spec.specs.Step.{Image, run}
-use Rattle.spec.specs.Basics.{Answer, refuse, give, checked, onward, same, any, keep, first-such, Each}
-use Rattle.spec.specs.Geometry.{up8, good-length}
+use Rattle.spec.specs.Step.{Image}
+use Rattle.spec.specs.Basics.{Answer, refuse, give, same, any, keep, first-such, Each}
+use Rattle.spec.specs.Geometry.{up8}
 use Rattle.spec.specs.Record.{name-ok, rec-of, Rec, Entry, name-of, content-of, data-at}
 use Rattle.spec.specs.Chain.{Reading}
 use Rattle.spec.specs.Files.{files, has-name, file-named}
-use Rattle.spec.specs.Answers.{Numbers, Plan, refusal, success, numbers-of, carry-out, settled-reading, doing, found, file-of, file-plan, getting, get-plan, listing, list-of, list-plan, get, list, part-of}
+use Rattle.spec.specs.Answers.{Numbers, Plan, refusal, success, numbers-of, carry-out, doing, found, file-plan, getting, get-plan, listing, list-plan, get, list, part-of}
 use Rattle.spec.specs.History.{File, Ledger, is-named, has}
-use Rattle.spec.specs.Demand.{Lists, Listed, Got, Shows}
+use Rattle.spec.specs.Demand.{Listed, Got, Shows}
 use Rattle.history.specs.Lay.{onto, rec-of-onto, drop-past}
-use Rattle.history.specs.Lists.{Pairwise, keep-yes, keep-no, each-map, each-at, any-no, first-yes, first-no}
-use Rattle.history.specs.Store.{same-sym, alive, Apart, Unique, files-alive}
-use Rattle.history.specs.Ledger.{as-file, contents, Matches, Absent, dead-not}
+use Rattle.history.specs.Lists.{Pairwise, keep-yes, keep-no, each-map, first-yes, first-no}
+use Rattle.history.specs.Store.{alive, Unique, files-alive}
+use Rattle.history.specs.Ledger.{as-file, dead-not}
 use Rattle.history.specs.Laid.{Inside}
 use Rattle.history.specs.LaidEdit.{inside-of}
-use Rattle.history.specs.OkLaws.{same-refl, same-is, Old, old-none, old-some, old-file}
+use Rattle.history.specs.OkLaws.{same-refl, Old, old-none, old-some, old-file}
 use Rattle.history.specs.Settling.{rested-settled}
-use Rattle.history.specs.Kinds.{Ok, Rested}
+use Rattle.history.specs.Kinds.{Rested}
 
 -- ---- permutations
 

@@ -61,7 +61,7 @@ length-moved a (erase i ∷ ss) = ap suc (length-moved a ss)
 
 -- ---- runs of bytes
 
-pub take-bytes : (j a : ℕ) (w : List ℕ) → take j (bytes-at a w) ≡ bytes-at a (take j w)
+take-bytes : (j a : ℕ) (w : List ℕ) → take j (bytes-at a w) ≡ bytes-at a (take j w)
 take-bytes zero a w = refl
 take-bytes (suc j) a [] = refl
 take-bytes (suc j) a (b ∷ w) = ap (λ (l : List Step). program a b ∷ l) (take-bytes j (a + 1) w)

@@ -1,7 +1,7 @@
 -- The files of a list of entries in which no name is alive twice, and the rules on such entries. Nothing here knows of bytes on the image.
-use Prim.Native.Nat.{ℕ, _≤_, _<_}
+use Prim.Native.Nat.{ℕ}
 use native.Mathlib.Omega.{arith}
-use mathlib.Core.Path.{_≡_, refl, sym, ap, _∙_}
+use mathlib.Core.Path.{_≡_, refl, sym, _∙_}
 use mathlib.Core.Bool.{Bool, true, false, _&&_, _||_, not}
 use mathlib.Core.List.{List, [], _∷_, _++_}
 use lib.Dec.{eqb}
@@ -59,7 +59,7 @@ fc-not-f8 e h =
     let k : e .it .status ≡ 248 = eqb-true (e .it .status) 248 (and-left (eqb (e .it .status) 248) (not (empty (name-of e))) h) in
     rw (ne-eqb (e .it .status) 252 (λ f. omega arith))
 
-pub doubled-none : (st : ℕ) → ((e : Entry) → named st e ≡ true → alive e ≡ true) → (es : List Entry) → Unique es → doubled st es ≡ false
+doubled-none : (st : ℕ) → ((e : Entry) → named st e ≡ true → alive e ≡ true) → (es : List Entry) → Unique es → doubled st es ≡ false
 unfolding doubled has-named
 doubled-none st a [] u = refl
 doubled-none st a (e ∷ es) u =
@@ -144,7 +144,7 @@ pub or-right : (a b : Bool) → (a || b) ≡ false → b ≡ false
 or-right true b h = cc
 or-right false b h = h
 
-pub second-plain : (es : List Entry) (x y : Entry) → Unmarked y → second-ok es x y ≡ true
+second-plain : (es : List Entry) (x y : Entry) → Unmarked y → second-ok es x y ≡ true
 unfolding second-ok
 second-plain es x y h = rw (second-ok, or-left (is-start (y .it .low)) (is-clean (y .it .low)) h, or-right (is-start (y .it .low)) (is-clean (y .it .low)) h)
 
@@ -174,13 +174,3 @@ calm-and x u es c a m =
       marks = marks-by x (es ++ (u ∷ [])) (each-end Unmarked es u (c .unmarked) m);
     }
 
--- a new live record behind
-pub calm-new : (x e : Entry) (es : List Entry) → Calm-store x es → Each (λ f. alive f ≡ true → same (name-of f) (name-of e) ≡ false) (x ∷ es) → name-ok (name-of e) ≡ true → Finished e → Unmarked e →
-    Calm-store x (es ++ (e ∷ []))
-calm-new x e es c a n f m =
-    record {
-      unique = pairwise-end Apart (x ∷ es) e (c .unique) (each-map (x ∷ es) (λ y h k j. h k) a);
-      well-named = each-end Well-named (x ∷ es) e (c .well-named) (λ k. n);
-      finished = each-end Finished (x ∷ es) e (c .finished) f;
-      unmarked = each-end Unmarked es e (c .unmarked) m;
-    }

@@ -1,30 +1,20 @@
 -- Steps (d) and (e) of a move as the definitions list them, cut anywhere: Y in a later sector, the image not turned.
-use Prim.Native.Nat.{ℕ, zero, suc, _+_, _*_, _/_, _≤_, _<_}
+use Prim.Native.Nat.{ℕ, zero, suc, _+_, _*_, _/_, _<_}
 use native.Mathlib.Omega.{arith}
 use mathlib.Core.Path.{_≡_, refl, ap, ap₂, _∙_, subst}
-use mathlib.Core.List.{List, [], _∷_, _++_, map}
-use lib.ListN.{length, take, drop, set}
+use mathlib.Core.List.{List, _∷_, _++_, map}
+use lib.ListN.{length, drop}
 use lib.Seq.{take-all}
 use borrow.Author.Tests.{ne-eqb}
-use Rattle.spec.specs.Step.{Image, Step, program, erase, apply, run}
+use Rattle.spec.specs.Step.{Image, Step, erase, run}
 use Rattle.spec.specs.Geometry.{floor, sectors}
 use Rattle.spec.specs.Record.{Rec, Entry}
-use Rattle.spec.specs.Move.{vacated-end, vacated, vacate-steps}
-use Rattle.history.specs.Lay.{blanks, rsize, low-start}
+use Rattle.spec.specs.Move.{vacated-end, vacated}
+use Rattle.history.specs.Lay.{blanks, rsize}
 use Rattle.history.specs.Seg.{seg-none}
-use Rattle.history.specs.Steps.{cut-append, cut-one}
 use Rattle.history.specs.Erase.{erases, sectors-are, half-erased, all-erased}
 use Rattle.history.specs.Straight.{Straight}
 use Rattle.history.specs.StraightErase.{Cleaned, rsize-words, old-head, to-m3}
-use Rattle.history.specs.StraightEdit.{relow, set-low}
-use Rattle.history.specs.StraightClean.{recontent}
-
--- where a move of X with Y behind it may stand, from M1 on: X is the head; Y is the head and CLEAN; Y is the head and START.
--- k + 1 sectors are erased, r words of X are left in Y's sector
-pub data Moving (a l : ℕ) (gap lost : List ℕ) (h : ℕ) (x y : Rec) (ys : List Rec) (free : List ℕ) (k r : ℕ) (im : Image) : Type 0 where
-  at-m1 : (c : List ℕ) → length c ≡ length (x .content) → Straight im a l gap lost h (recontent c x ∷ y ∷ ys) seg-none free → Moving a l gap lost h x y ys free k r im
-  at-m3 : {gap′ lost′ : List ℕ} → Straight im (a + suc k) r gap′ lost′ (h + rsize x) (y ∷ ys) seg-none free → Moving a l gap lost h x y ys free k r im
-  at-q : {lost′ : List ℕ} → Straight im (a + suc k) r (gap ++ blanks (4096 * suc k)) lost′ (h + rsize x) (relow 0 y ∷ ys) seg-none free → Moving a l gap lost h x y ys free k r im
 
 length-erases : (a k : ℕ) → length (erases a k) ≡ k
 length-erases a zero = refl
@@ -51,47 +41,9 @@ module _ {im : Image} {a l : ℕ} {gap lost : List ℕ} {h : ℕ} {x y : Rec} {y
   abbrev A : ℕ
   A = 4096 * a
 
-  abbrev M : Image → Type 0
-  M = Moving a l gap lost h x y ys free k r
-
-  erasing : (j : ℕ) → j ≤ suc k → M (run im (take j (erases A (suc k))))
-  erasing zero e = at-m1 (x .content) refl s
-  erasing (suc i) e = at-m3 (to-m3 s c k r all short i (omega arith))
-
   pub done : Straight (run im (erases A (suc k))) (a + suc k) r (gap ++ blanks (4096 * suc k)) (drop (4096 * suc k) (old-head lost x)) (h + rsize x) (y ∷ ys) seg-none free
   done =
       subst (λ (g : List ℕ). Straight (run im (erases A (suc k))) (a + suc k) r (gap ++ g) (drop (4096 * suc k) (old-head lost x)) (h + rsize x) (y ∷ ys) seg-none free) (all-erased (suc k) (old-head lost x))
       (subst (λ (ss : List Step). Straight (run im ss) (a + suc k) r (gap ++ half-erased (suc k) (suc k) (old-head lost x)) (drop (4096 * suc k) (old-head lost x)) (h + rsize x) (y ∷ ys) seg-none free)
       (take-all (suc k) (erases A (suc k)) (omega (arith, length-erases A (suc k)))) (to-m3 s c k r all short k (omega arith)))
 
-  pub last : Straight (apply (run im (erases A (suc k))) (program (h + rsize x) 0)) (a + suc k) r (gap ++ blanks (4096 * suc k)) (drop (4096 * suc k) (old-head lost x)) (h + rsize x) (relow 0 y ∷ ys) seg-none free
-  last =
-      let e : h + rsize x + 0 + 0 ≡ h + rsize x = omega arith in
-      subst (λ (n : ℕ). Straight (set (run im (erases A (suc k))) n 0) (a + suc k) r (gap ++ blanks (4096 * suc k)) (drop (4096 * suc k) (old-head lost x)) (h + rsize x) (relow 0 y ∷ ys) seg-none free) e
-      (set-low [] y ys done 0 low-start)
-
-  -- (d) and (e)
-  pub erase-and-start : (j : ℕ) → j ≤ suc (suc k) → M (run im (take j (erases A (suc k) ++ (program (h + rsize x) 0 ∷ []))))
-  erase-and-start j e =
-      cut-append M im (erases A (suc k)) (program (h + rsize x) 0 ∷ [])
-      (λ i f. erasing i (omega (arith, length-erases A (suc k))))
-      (cut-one M (run im (erases A (suc k))) (program (h + rsize x) 0) [] (at-m3 done) (λ i f. at-q (none i)))
-      j (omega (arith, length-erases A (suc k)))
-    where
-      none : (i : ℕ) → Straight (run (apply (run im (erases A (suc k))) (program (h + rsize x) 0)) (take i [])) (a + suc k) r (gap ++ blanks (4096 * suc k)) (drop (4096 * suc k) (old-head lost x)) (h + rsize x) (relow 0 y ∷ ys) seg-none free
-      none zero = last
-      none (suc i) = last
-
-  abbrev X : Entry
-  X = record { at = h; it = x }
-
-  abbrev Y : Entry
-  Y = record { at = h + rsize x; it = y }
-
-  -- the steps of the definitions after (c)
-  pub steps-are : (N : ℕ) → vacate-steps X Y (vacated N X Y) ≡ erases A (suc k) ++ (program (h + rsize x) 0 ∷ [])
-  steps-are N = go (vacated N X Y) (vacated-are N h x y a l k r (s .at) (s .lost-small) all short)
-    where
-      go : (zs : List ℕ) → map erase zs ≡ erases A (suc k) → vacate-steps X Y zs ≡ erases A (suc k) ++ (program (h + rsize x) 0 ∷ [])
-      go [] e = cc
-      go (z ∷ zs) e = ap (λ (ss : List Step). ss ++ (program (h + rsize x) 0 ∷ [])) e

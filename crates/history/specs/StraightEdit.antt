@@ -1,17 +1,15 @@
 -- Edits of an image that has not turned: a status or low byte, and a record written at T, cut anywhere.
-use Prim.Native.Nat.{ℕ, zero, suc, _+_, _-_, _*_, _≤_}
+use Prim.Native.Nat.{ℕ, _+_}
 use native.Mathlib.Omega.{arith}
 use native.Mathlib.Nat.{zero-add, add-assoc}
 use mathlib.Core.Path.{_≡_, refl, sym, ap, _∙_}
-use mathlib.Core.List.{List, [], _∷_, _++_, append-assoc, append-nil}
-use lib.ListN.{length, take, set, length-append}
-use Rattle.spec.specs.Step.{Step, program, run, moved}
-use Rattle.spec.specs.Record.{size-of, Rec}
-use Rattle.spec.specs.Write.{record-steps}
-use Rattle.history.specs.Lay.{blanks, onto, lay, rsize, sizes, lay-is, length-lay, Fit, Fine, All-fine, Stat, Low, low-record, st-fc}
-use Rattle.history.specs.Seg.{Seg, seg-none, seg-onto, seg-size, length-seg}
-use Rattle.history.specs.Steps.{Programs, take-moved, take-programs, run-past}
-use Rattle.history.specs.Put.{Opened, open-steps, open-cut, record-done, record-programs, file, take-open}
+use mathlib.Core.List.{List, [], _∷_, _++_, append-assoc}
+use lib.ListN.{length, length-append}
+use Rattle.spec.specs.Step.{Step, run, moved}
+use Rattle.spec.specs.Record.{Rec}
+use Rattle.history.specs.Lay.{onto, lay, rsize, sizes, lay-is, length-lay, All-fine}
+use Rattle.history.specs.Seg.{Seg, seg-onto, seg-size, length-seg}
+use Rattle.history.specs.Steps.{Programs, run-past}
 use Rattle.history.specs.Straight.{Straight}
 
 -- ---- lists of records
@@ -90,59 +88,7 @@ restatus b r = record { low = r .low; status = b; name = r .name; content = r .c
 abbrev pub relow : ℕ → Rec → Rec
 relow b r = record { low = b; status = r .status; name = r .name; content = r .content }
 
-module _ {im : List ℕ} {a l : ℕ} {gap lost : List ℕ} {h : ℕ} (xs : List Rec) (r : Rec) (ys : List Rec) {seg : Seg} {free : List ℕ} (s : Straight im a l gap lost h (xs ++ r ∷ ys) seg free) where
-  r-fine : Fine r
-  r-fine = fine-right xs (r ∷ ys) (s .fine) .0
-
-  pub set-status : (b : ℕ) → Stat b → Straight (set im (h + sizes xs + 2) b) a l gap lost h (xs ++ restatus b r ∷ ys) seg free
-  set-status b k =
-      other (set im (h + sizes xs + 2) b) s
-      (run-behind xs (r ∷ ys) refl s (program 2 b ∷ []) tt ∙ ap (λ (l : List ℕ). gap ++ (lost ++ l)) (sym (lay-append xs (restatus b r ∷ ys) (seg-onto seg free))))
-      (fine-append xs (restatus b r ∷ ys) (fine-left xs (r ∷ ys) (s .fine))
-      (record { low-ok = r-fine .low-ok; status-ok = k; fit = r-fine .fit }, fine-right xs (r ∷ ys) (s .fine) .1))
-
-  pub set-low : (b : ℕ) → Low b → Straight (set im (h + sizes xs + 0) b) a l gap lost h (xs ++ relow b r ∷ ys) seg free
-  set-low b k =
-      other (set im (h + sizes xs + 0) b) s
-      (run-behind xs (r ∷ ys) refl s (program 0 b ∷ []) tt ∙ ap (λ (l : List ℕ). gap ++ (lost ++ l)) (sym (lay-append xs (relow b r ∷ ys) (seg-onto seg free))))
-      (fine-append xs (relow b r ∷ ys) (fine-left xs (r ∷ ys) (s .fine))
-      (record { low-ok = k; status-ok = r-fine .status-ok; fit = r-fine .fit }, fine-right xs (r ∷ ys) (s .fine) .1))
-
 -- ---- a record written at T
-
-pub record Underway (M : ℕ) (im : List ℕ) (a l : ℕ) (gap lost : List ℕ) (h : ℕ) (high : List Rec) (f : ℕ) : Type 0 where
-  pub seg : Seg
-  pub left : ℕ
-  pub laid : Straight im a l gap lost h high seg (blanks left)
-  pub sum : seg-size seg + left ≡ f
-  pub bound : seg-size seg ≤ M
-
-module _ {im : List ℕ} {a l : ℕ} {gap lost : List ℕ} {h : ℕ} (high : List Rec) (f : ℕ) (n c : List ℕ) (s : Straight im a l gap lost h high seg-none (blanks f)) (g : Fit (length c) n) (room : size-of (length n) (length c) ≤ f) where
-  pub at-end : (ss : List Step) → Programs ss → run im (moved (h + sizes high) ss) ≡ gap ++ (lost ++ lay high (run (blanks f ++ []) ss))
-  at-end ss p =
-      run-behind high [] (sym (append-nil high)) s ss p ∙ ap (λ (l : List ℕ). gap ++ (lost ++ lay high (run l ss))) (sym (append-nil (blanks f)))
-
-  pub write-cut : (k : ℕ) → k ≤ 8 + length n + length c → Underway (size-of (length n) (length c)) (run im (take k (moved (h + sizes high) (record-steps n c)))) a l gap lost h high f
-  write-cut k l =
-      let o : Opened (size-of (length n) (length c)) f [] (run (blanks f ++ []) (take k (open-steps n c))) = open-cut n c [] f g room k l in
-      let cut : take k (record-steps n c) ≡ take k (open-steps n c) = take-open n c k l in
-      record {
-        seg = o .seg;
-        left = o .left;
-        laid = other (run im (take k (moved (h + sizes high) (record-steps n c)))) s
-            (ap (run im) (take-moved k (h + sizes high) (record-steps n c)) ∙ at-end (take k (record-steps n c)) (take-programs k (record-steps n c) (record-programs n c))
-            ∙ ap (λ (l : List ℕ). gap ++ (lost ++ lay high l)) (ap (run (blanks f ++ [])) cut ∙ o .is ∙ ap (seg-onto (o .seg)) (append-nil (blanks (o .left))))) (s .fine);
-        sum = o .sum;
-        bound = o .bound;
-      }
-
-  pub write-done : Straight (run im (moved (h + sizes high) (record-steps n c))) a l gap lost h (high ++ file n c ∷ []) seg-none (blanks (f - size-of (length n) (length c)))
-  write-done =
-      other (run im (moved (h + sizes high) (record-steps n c))) s
-      (at-end (record-steps n c) (record-programs n c)
-      ∙ ap (λ (l : List ℕ). gap ++ (lost ++ lay high l)) (record-done n c [] f room ∙ ap (onto (file n c)) (append-nil (blanks (f - size-of (length n) (length c)))))
-      ∙ ap (λ (l : List ℕ). gap ++ (lost ++ l)) (sym (lay-append high (file n c ∷ []) (blanks (f - size-of (length n) (length c))))))
-      (fine-append high (file n c ∷ []) (s .fine) (record { low-ok = low-record; status-ok = st-fc; fit = g }, tt))
 
 pub straight-length : {im : List ℕ} {a l : ℕ} {gap lost : List ℕ} {h : ℕ} {high : List Rec} {seg : Seg} {free : List ℕ} → Straight im a l gap lost h high seg free →
     length im ≡ h + sizes high + seg-size seg + length free

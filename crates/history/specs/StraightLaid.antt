@@ -15,7 +15,7 @@ use Rattle.history.specs.Entries.{entries-append, Among, among-fine, ent
 use Rattle.history.specs.Laid.{Laid, laid-straight, Hole, Inside}
 
 -- with one record at least
-pub laid-of : {im : List ℕ} {a l : ℕ} {gap lost : List ℕ} {h : ℕ} (xs : List Rec) (r : Rec) (ys : List Rec) {seg : Seg} {free : List ℕ} {S : ℕ} {es : List Entry} (f : ℕ) →
+laid-of : {im : List ℕ} {a l : ℕ} {gap lost : List ℕ} {h : ℕ} (xs : List Rec) (r : Rec) (ys : List Rec) {seg : Seg} {free : List ℕ} {S : ℕ} {es : List Entry} (f : ℕ) →
     Straight im a l gap lost h (xs ++ (r ∷ ys)) seg free → S ≡ h + sizes (xs ++ (r ∷ ys)) → es ≡ entries-of h (xs ++ (r ∷ ys)) → length free ≡ 8 * f → Quiet f free →
     Laid im h S false es seg gap free
 laid-of [] r ys f s p q m n = laid-straight f s refl p q m n

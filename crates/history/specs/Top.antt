@@ -12,7 +12,7 @@ use Rattle.spec.specs.Demand.{Steps-sound, Calls-sound, Mounted, Bytes-put, Dem
 use Rattle.history.specs.Safe.{Safe, safe-cut, sound-take}
 
 -- what a plan leaves: the image after the first of its steps, refused or not
-pub carried-image : (im : Image) (k : ℕ) (p : Answer Plan) → carry-out im k p .image ≡ run im (take k (steps-of p))
+carried-image : (im : Image) (k : ℕ) (p : Answer Plan) → carry-out im k p .image ≡ run im (take k (steps-of p))
 unfolding carry-out
 carried-image im k (refuse n) = ap (run im) (sym (take-nil k))
 carried-image im k (give p) = refl

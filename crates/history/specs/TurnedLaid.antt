@@ -36,7 +36,7 @@ walked-right at (r ∷ xs) ys p = subst (λ (n : ℕ). Walked n ys) (omega arith
 -- ---- the same place with other bytes
 
 -- other records from the head on
-pub with-high : {im : List ℕ} {a l : ℕ} {lost : List ℕ} {h : ℕ} {low : List Rec} {seg : Seg} {f : ℕ} {free : List ℕ} {high high′ : List Rec} {end : End} (im′ : List ℕ) →
+with-high : {im : List ℕ} {a l : ℕ} {lost : List ℕ} {h : ℕ} {low : List Rec} {seg : Seg} {f : ℕ} {free : List ℕ} {high high′ : List Rec} {end : End} (im′ : List ℕ) →
     Turned im a l lost h low seg f free high end → im′ ≡ lay low (seg-onto seg (free ++ (lost ++ lay high′ (end-bytes end)))) → All-fine high′ → Turned im′ a l lost h low seg f free high′ end
 with-high im′ s e f =
     record {
@@ -57,7 +57,7 @@ with-high im′ s e f =
     }
 
 -- other records from 0 on, something else behind them, another free run
-pub with-low : {im : List ℕ} {a l : ℕ} {lost : List ℕ} {h : ℕ} {low low′ : List Rec} {seg seg′ : Seg} {f : ℕ} {free new : List ℕ} {high : List Rec} {end : End} {x : Next} (im′ : List ℕ) (f′ : ℕ) →
+with-low : {im : List ℕ} {a l : ℕ} {lost : List ℕ} {h : ℕ} {low low′ : List Rec} {seg seg′ : Seg} {f : ℕ} {free new : List ℕ} {high : List Rec} {end : End} {x : Next} (im′ : List ℕ) (f′ : ℕ) →
     Turned im a l lost h low seg f free high end → im′ ≡ lay low′ (seg-onto seg′ (new ++ (lost ++ lay high (end-bytes end)))) →
     sizes low′ + seg-size seg′ + length new ≡ sizes low + seg-size seg + length free → length new ≡ 8 * f′ → Quiet f′ new → Opens new x → All-fine low′ → Walked 0 low′ →
     Turned im′ a l lost h low′ seg′ f′ new high end

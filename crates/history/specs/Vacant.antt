@@ -10,7 +10,7 @@ use lib.Seq.{take-append-add, take-append-le, drop-append-seam, take-at, length-
 use lib.Dec.{eqb, leb}
 use borrow.Author.Tests.{eqb-true}
 use Rattle.spec.specs.declared.Ending.{Ending}
-use Rattle.spec.specs.Step.{Image, program, run}
+use Rattle.spec.specs.Step.{Image, program}
 use Rattle.spec.specs.Basics.{Each, part, blank}
 use Rattle.spec.specs.Geometry.{good-length, floor}
 use Rattle.spec.specs.Record.{Rec, Entry}
@@ -79,7 +79,7 @@ pub good-mod : (n : ℕ) → good-length n ≡ true → n % 4096 ≡ 0
 unfolding good-length
 good-mod n e = eqb-true (n % 4096) 0 (and-left (eqb (n % 4096) 0) (leb 8192 n) (and-left (eqb (n % 4096) 0 && leb 8192 n) (leb n 16777216) e))
 
-pub limit-mod : (im : Image) (h S : ℕ) (t : Bool) → length im % 4096 ≡ 0 → limit (place im h S t) % 4096 ≡ 0
+limit-mod : (im : Image) (h S : ℕ) (t : Bool) → length im % 4096 ≡ 0 → limit (place im h S t) % 4096 ≡ 0
 limit-mod im h S true e = omega arith
 limit-mod im h S false e = e
 
@@ -110,10 +110,10 @@ module _ {h S : ℕ} {t : Bool} {es : List Entry} {im : Image} (v : Vacant h S t
   pub vacant-long : 8 ≤ v .m
   vacant-long = omega (arith, v .own, laid-eight (v .laid))
 
-  pub vacant-free : v .free ≡ blanks (v .m) ++ drop (v .m) (v .free)
+  vacant-free : v .free ≡ blanks (v .m) ++ drop (v .m) (v .free)
   vacant-free = sym (take-append-drop (v .m) (v .free)) ∙ ap (λ (l : List ℕ). l ++ drop (v .m) (v .free)) (v .ff)
 
-  pub vacant-opens : v .free ≡ blanks 8 ++ (blanks (v .m - 8) ++ drop (v .m) (v .free))
+  vacant-opens : v .free ≡ blanks 8 ++ (blanks (v .m - 8) ++ drop (v .m) (v .free))
   vacant-opens =
       vacant-free ∙ ap (λ (l : List ℕ). l ++ drop (v .m) (v .free)) (blank-split 8 (v .m - 8) (v .m) (omega (arith, vacant-long)))
       ∙ append-assoc (blanks 8) (blanks (v .m - 8)) (drop (v .m) (v .free))
@@ -217,7 +217,7 @@ module _ {l : Ledger} {h : ℕ} {im : Image} {x : Entry} {es : List Entry} (g : 
   pub vacant-inv : {S : ℕ} {t : Bool} → Vacant h S t (x ∷ es) im → Inv l im
   vacant-inv v = record { good = g; kind = vacated (v .laid) (vacant-tail v) (vacant-blank v) c u o }
 
-  pub bare-inv : Bare h (x ∷ es) im → Inv l im
+  bare-inv : Bare h (x ∷ es) im → Inv l im
   unfolding tail-blank
   bare-inv b =
       let L : limit (place im h (b .S) (b .t)) ≡ b .S + length (blanks (b .F)) = limit-is (b .laid) in

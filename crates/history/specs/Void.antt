@@ -3,20 +3,18 @@ use Prim.Native.Nat.{ℕ, zero, suc, _+_, _<_}
 use native.Mathlib.Omega.{arith}
 use native.Mathlib.Nat.{not-suc-le-zero}
 use mathlib.Core.Path.{_≡_, refl, sym, ap, _∙_}
-use mathlib.Core.List.{List, [], _∷_, _++_, append-assoc, append-nil}
+use mathlib.Core.List.{List, [], _∷_, _++_, append-assoc}
 use lib.ListN.{length, take, set, length-append, length-replicate}
 use lib.Seq.{set-at}
-use Rattle.spec.specs.Step.{Image, Step, program, run, moved}
+use Rattle.spec.specs.Step.{Image, Step, program, run}
 use Rattle.spec.specs.Geometry.{up8}
 use Rattle.spec.specs.Record.{size-of, Rec, Entry}
 use Rattle.spec.specs.Mount.{torn-steps, void-steps, last-steps}
-use Rattle.history.specs.Lay.{blanks, pad, lens, onto, lay, sizes, All-fine, low-record, st-00}
+use Rattle.history.specs.Lay.{blanks, pad, lens, onto, lay, All-fine, low-record, st-00}
 use Rattle.history.specs.Last.{begun-5a, begun-end, held, begun}
 use Rattle.history.specs.Quiet.{blank-split}
 use Rattle.history.specs.Seg.{Seg, seg-none, seg-torn, seg-cut, seg-held, seg-onto, seg-size}
 use Rattle.history.specs.Steps.{Programs}
-use Rattle.history.specs.Straight.{Straight}
-use Rattle.history.specs.StraightEdit.{run-behind, other, lay-append, fine-append}
 
 -- the steps of repair 3, from the start of the unfinished thing
 abbrev pub void-rel : Seg → List Step
@@ -69,14 +67,6 @@ void-fine seg-none = tt
 void-fine (seg-torn c x y z w t b m) = (record { low-ok = low-record; status-ok = st-00; fit = record { short = omega arith; plain = tt; small = omega arith } }, tt)
 void-fine (seg-cut d n f) = (record { low-ok = low-record; status-ok = st-00; fit = record { short = f .short; plain = f .plain; small = rw (length-replicate {A = ℕ} d 255) (f .small) } }, tt)
 void-fine (seg-held n c f) = (record { low-ok = low-record; status-ok = st-00; fit = f }, tt)
-
--- on the image
-pub void-straight : {im : List ℕ} {a l : ℕ} {gap lost : List ℕ} {h : ℕ} {high : List Rec} {g : Seg} {free : List ℕ} → Straight im a l gap lost h high g free → Straight (run im (moved (h + sizes high) (void-rel g))) a l gap lost h (high ++ voided g) seg-none free
-void-straight {im} {a} {l} {gap} {lost} {h} {high} {g} {free} s =
-    other (run im (moved (h + sizes high) (void-rel g))) s
-    (run-behind high [] (sym (append-nil high)) s (void-rel g) (void-programs g)
-    ∙ ap (λ (l : List ℕ). gap ++ (lost ++ l)) (ap (lay high) (void-run g free) ∙ sym (lay-append high (voided g) free)))
-    (fine-append high (voided g) (s .fine) (void-fine g))
 
 -- cut: still something unfinished, of the same size
 pub void-cut : (g : Seg) (s : List ℕ) (j : ℕ) → j < length (void-rel g) → (g′ : Seg) × (run (seg-onto g s) (take j (void-rel g)) ≡ seg-onto g′ s) × (seg-size g′ ≡ seg-size g)

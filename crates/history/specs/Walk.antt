@@ -190,7 +190,7 @@ pub mark-append : (p s : List ℕ) → 8 ≤ length p → mark-here (p ++ s) ≡
 mark-append p s h = rw (List·getD-append p s 0 0 (omega arith), List·getD-append p s 0 1 (omega arith))
 
 -- one law for every quiet region: the search goes through it
-pub search-through : (j k at : ℕ) (g s : List ℕ) → length g ≡ 8 * j → Quiet j g → search (j + k) at (g ++ s) ≡ search k (at + 8 * j) s
+search-through : (j k at : ℕ) (g s : List ℕ) → length g ≡ 8 * j → Quiet j g → search (j + k) at (g ++ s) ≡ search k (at + 8 * j) s
 search-through zero k at [] s e q = rw (zero-add k, add-zero at)
 search-through zero k at (x ∷ g) s e q = absurd (omega arith)
 search-through (suc j) k at g s e q =
