@@ -15,6 +15,7 @@ use Rattle.spec.specs.Move.{mark-here, mark-steps, clean-steps}
 use Rattle.history.specs.Walk.{Quiet, mark-append}
 use Rattle.history.specs.Quiet.{mark-second, calm-quiet}
 use Rattle.history.specs.Steps.{set-past}
+use Rattle.history.specs.Lists.{not-both}
 
 clean-nil : (k a : ℕ) → clean-steps k a [] ≡ []
 unfolding clean-steps is-high is-start
@@ -35,11 +36,7 @@ clean-miss : (k a : ℕ) (s : List ℕ) → mark-here s ≡ false → clean-step
 unfolding clean-steps
 clean-miss k a s e = ap (λ (ss : List Step). ss ++ clean-steps k (a + 8) (drop 8 s)) (mark-miss a s e)
 
--- a mark needs two bytes
-not-both : (b : Bool) → b ≡ false → b ≡ true → ⊥
-not-both b p q = let z : _≡_ {A = ℕ} 0 1 = cc in omega arith
-
-mark-long : (s : List ℕ) → mark-here s ≡ true → 2 ≤ length s
+pub mark-long : (s : List ℕ) → mark-here s ≡ true → 2 ≤ length s
 unfolding is-high
 mark-long [] e = absurd (not-both (mark-here []) (and-false (is-start 0 || is-clean 0 || is-record 0)) e)
 mark-long (x ∷ []) e = absurd (not-both (mark-here (x ∷ [])) (and-false (is-start x || is-clean x || is-record x)) e)

@@ -25,11 +25,10 @@ use Rattle.history.specs.LaidRead.{laid-reads}
 use Rattle.history.specs.Safe.{Safe, safe-append, safe-end, safe-map}
 use Rattle.history.specs.Store.{alive}
 use Rattle.history.specs.Ledger.{as-file, Matches}
-use Rattle.history.specs.Lists.{keep-no}
+use Rattle.history.specs.Lists.{keep-no, some-behind}
 use Rattle.history.specs.OkLaws.{old-some, ok-perm, ok-again}
 use Rattle.history.specs.Kinds.{Ok, Kind, quiet, half, shadow, clean, both, vacated, Inv, Rested}
 use Rattle.history.specs.Puts.{Commits, put-commits}
-use Rattle.history.specs.Idle.{some-behind}
 use Rattle.history.specs.Vacant.{first-is}
 
 -- ---- the ledger in another order

@@ -8,6 +8,7 @@ use Rattle.spec.specs.Basics.{Each}
 use Rattle.spec.specs.Record.{Rec, Entry}
 use Rattle.history.specs.Lay.{rsize, sizes, entries-of, Fine, All-fine}
 use Rattle.history.specs.StraightEdit.{sizes-append, fine-append, fine-left, fine-right}
+use Rattle.history.specs.Lists.{some-behind, cons-first, cons-rest}
 
 -- ---- an element of two lists, one behind the other
 
@@ -16,24 +17,14 @@ module _ {A : Type 0} where
     in-first : (zs : List A) → ps ≡ xs ++ (e ∷ zs) → ys ≡ zs ++ qs → Found ps qs xs e ys
     in-second : (zs : List A) → xs ≡ ps ++ zs → qs ≡ zs ++ (e ∷ ys) → Found ps qs xs e ys
 
-  first-is : {x y : A} {xs ys : List A} → x ∷ xs ≡ y ∷ ys → x ≡ y
-  first-is h = cc
-
-  rest-is : {x y : A} {xs ys : List A} → x ∷ xs ≡ y ∷ ys → xs ≡ ys
-  rest-is h = cc
-
-  none-is : {B : Type 0} (xs ys : List A) (e : A) → [] ≡ xs ++ (e ∷ ys) → B
-  none-is [] ys e h = absurd (let z : _≡_ {A = ℕ} 0 1 = cc in omega arith)
-  none-is (x ∷ xs) ys e h = absurd (let z : _≡_ {A = ℕ} 0 1 = cc in omega arith)
-
   found-on : {a x e : A} {ps qs xs ys : List A} → a ≡ x → Found ps qs xs e ys → Found (a ∷ ps) qs (x ∷ xs) e ys
   found-on p (in-first zs q r) = in-first zs (ap₂ (λ (b : A) (l : List A). b ∷ l) p q) r
   found-on p (in-second zs q r) = in-second zs (ap₂ (λ (b : A) (l : List A). b ∷ l) (sym p) q) r
 
   pub find : (ps qs xs ys : List A) (e : A) → ps ++ qs ≡ xs ++ (e ∷ ys) → Found ps qs xs e ys
   find [] qs xs ys e h = in-second xs refl h
-  find (a ∷ ps) qs [] ys e h = in-first ps (ap (λ (b : A). b ∷ ps) (first-is h)) (sym (rest-is h))
-  find (a ∷ ps) qs (x ∷ xs) ys e h = found-on (first-is h) (find ps qs xs ys e (rest-is h))
+  find (a ∷ ps) qs [] ys e h = in-first ps (ap (λ (b : A). b ∷ ps) (cons-first h)) (sym (cons-rest h))
+  find (a ∷ ps) qs (x ∷ xs) ys e h = found-on (cons-first h) (find ps qs xs ys e (cons-rest h))
 
 -- ---- entries
 
@@ -68,18 +59,18 @@ among-on {at} {r} p m =
     }
 
 pub among : (at : ℕ) (rs : List Rec) (xs ys : List Entry) (e : Entry) → entries-of at rs ≡ xs ++ (e ∷ ys) → Among at rs xs e ys
-among at [] xs ys e h = none-is xs ys e h
+among at [] xs ys e h = absurd (some-behind xs ys e (sym h))
 among at (r ∷ rs) [] ys e h =
-    let p : record { at = at; it = r } ≡ e = first-is h in
+    let p : record { at = at; it = r } ≡ e = cons-first h in
     record {
       before = [];
       after = rs;
       is = ap (λ (x : Entry). x .it ∷ rs) p;
       there = ap (λ (x : Entry). x .at) (sym p) ∙ sym (add-zero at);
       left = refl;
-      right = sym (rest-is h) ∙ ap (λ (x : Entry). entries-of (x .at + rsize (x .it)) rs) p;
+      right = sym (cons-rest h) ∙ ap (λ (x : Entry). entries-of (x .at + rsize (x .it)) rs) p;
     }
-among at (r ∷ rs) (x ∷ xs) ys e h = among-on (first-is h) (among (at + rsize r) rs xs ys e (rest-is h))
+among at (r ∷ rs) (x ∷ xs) ys e h = among-on (cons-first h) (among (at + rsize r) rs xs ys e (cons-rest h))
 
 module _ {at : ℕ} {rs : List Rec} {xs ys : List Entry} {e : Entry} (m : Among at rs xs e ys) where
   fine-all : All-fine rs → All-fine (m .before ++ (e .it ∷ m .after))

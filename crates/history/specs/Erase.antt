@@ -60,7 +60,7 @@ sectors-more (suc n) (suc k) a b e l = rw (sectors-by, le-leb (a + 4096) b (omeg
 pub sectors-are : (k a b : ℕ) → a + 4096 * k ≡ b → map erase (sectors a b) ≡ erases a k
 sectors-are k a b e = sectors-more b k a b e (omega arith)
 
-take-erases : (i k a : ℕ) → i ≤ k → take i (erases a k) ≡ erases a i
+pub take-erases : (i k a : ℕ) → i ≤ k → take i (erases a k) ≡ erases a i
 take-erases zero k a h = refl
 take-erases (suc i) zero a h = absurd (not-suc-le-zero h)
 take-erases (suc i) (suc k) a h = ap (λ (m : List Step). erase a ∷ m) (take-erases i k (a + 4096) (omega arith))

@@ -1,7 +1,7 @@
 -- One erase in the free run of a vacant image leaves it vacant; so the erases of repair 1, cut anywhere.
 use Prim.Native.Nat.{ℕ, zero, suc, _+_, _-_, _*_, _/_, _%_, _≤_, _<_}
 use native.Mathlib.Omega.{arith}
-use native.Mathlib.Nat.{zero-add, not-suc-le-zero}
+use native.Mathlib.Nat.{zero-add}
 use mathlib.Core.Path.{_≡_, refl, sym, ap, _∙_, subst}
 use mathlib.Core.Bool.{Bool, true, false}
 use mathlib.Core.List.{List, [], _∷_, _++_, append-assoc, map}
@@ -21,13 +21,14 @@ use Rattle.history.specs.Walk.{Quiet}
 use Rattle.history.specs.Quiet.{quiet-blanks, quiet-append, quiet-drop, quiet-take}
 use Rattle.history.specs.Seg.{Seg, seg-none, seg-onto}
 use Rattle.history.specs.Erase.{erase-mid, length-sector, sector-is}
-use Rattle.history.specs.Lists.{keep-yes, keep-no, each-map}
+use Rattle.history.specs.Lists.{keep-yes, keep-no, each-map, each-append}
 use Rattle.history.specs.Safe.{Safe}
 use Rattle.history.specs.Laid.{Laid, laid-straight, laid-turned, Hole}
 use Rattle.history.specs.Kinds.{place}
 use Rattle.history.specs.LaidEdit.{laid-below, laid-head, laid-length, hole-of}
 use Rattle.history.specs.Vacant.{laid-eight, take-blanks, good-mod, Vacant, vacant-long}
 use Rattle.history.specs.LaidErase.{erase-length, open-ff}
+use Rattle.history.specs.StraightErase.{second-ff}
 
 -- ---- one sector of a part without marks
 
@@ -105,11 +106,6 @@ pub record Mid (N h S lim : ℕ) (t : Bool) (es : List Entry) (im : Image) : Typ
 pub free-quiet : {im : Image} {h S : ℕ} {t : Bool} {es : List Entry} {seg : Seg} {below free : List ℕ} → Laid im h S t es seg below free → (f : ℕ) × (length free ≡ 8 * f) × Quiet f free
 free-quiet (laid-straight f s t₁ S₁ e₁ lf qf) = (f, lf, qf)
 free-quiet (laid-turned {f = f} s t₁ S₁ e₁ b) = (f, s .free-length, s .free-quiet)
-
-second-ff : (n : ℕ) (p q : List ℕ) → 2 ≤ n → getD ((blanks n ++ p) ++ q) 1 0 ≡ 90 → ⊥
-second-ff zero p q h e = not-suc-le-zero h
-second-ff (suc zero) p q h e = omega arith
-second-ff (suc (suc n)) p q h e = omega arith
 
 front-blanked : (u q w lost : List ℕ) (j : ℕ) → length u ≡ j → j % 4096 ≡ 0 → (getD ((u ++ (q ++ w)) ++ lost) 1 0 ≡ 90 → ⊥) → getD ((u ++ (sector ++ w)) ++ lost) 1 0 ≡ 90 → ⊥
 front-blanked [] q w lost j e z f = subst (λ (s : List ℕ). getD ((s ++ w) ++ lost) 1 0 ≡ 90 → ⊥) (sym sector-is) (second-ff 4096 w lost (omega arith))
@@ -199,10 +195,6 @@ sectors-between (suc n) a b = go (leb (a + 4096) b) refl (sectors-between n (a +
     go true e i = rw (sectors-by, e) ((omega arith, leb-true (a + 4096) b e, refl), each-map (sectors-by n (a + 4096) b) (λ z p. (omega (arith, p .0), p .1, p .2 ∙ omega arith)) i)
     go false e i = rw (sectors-by, e) tt
 
-each-join : {A : Type 0} (P : A → Type 0) (xs ys : List A) → Each P xs → Each P ys → Each P (xs ++ ys)
-each-join P [] ys p q = q
-each-join P (x ∷ xs) ys p q = (p .0, each-join P xs ys (p .1) q)
-
 each-keep : {A : Type 0} (P : A → Type 0) (f : A → Bool) (xs : List A) → Each P xs → Each P (keep f xs)
 each-keep P f [] p = tt
 each-keep P f (x ∷ xs) p = go (f x) refl (each-keep P f xs (p .1))
@@ -216,7 +208,7 @@ unfolding free-sectors Between
 free-erasable im h S true n =
     each-map (sectors (ceiling S) (floor h)) (λ z p. high-sector (p .2 ∙ omega arith) (p .0) (p .1)) (sectors-between (floor h) (ceiling S) (floor h))
 free-erasable im h S false n =
-    each-join (Erasable h S (length im) false) (sectors 0 (floor h)) (sectors (ceiling S) (length im))
+    each-append (Erasable h S (length im) false) (sectors 0 (floor h)) (sectors (ceiling S) (length im))
     (each-map (sectors 0 (floor h)) (λ z p. low-sector refl (p .2 ∙ omega arith) (p .1)) (sectors-between (floor h) 0 (floor h)))
     (each-map (sectors (ceiling S) (length im)) (λ z p. high-sector (p .2 ∙ omega arith) (p .0) (p .1)) (sectors-between (length im) (ceiling S) (length im)))
 

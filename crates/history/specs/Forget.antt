@@ -17,7 +17,7 @@ use Rattle.history.specs.StraightErase.{Cleaned, rsize-words}
 abbrev pub forgotten : Rec → List ℕ
 forgotten x = x .low ∷ 0 ∷ x .status ∷ 255 ∷ lens (length (x .content)) (body (x .name) (x .content) [])
 
-forgotten-quiet : (x : Rec) → Cleaned x → Quiet (rsize x / 8) (forgotten x)
+pub forgotten-quiet : (x : Rec) → Cleaned x → Quiet (rsize x / 8) (forgotten x)
 forgotten-quiet x c =
     let n : suc (rsize x / 8 - 1) ≡ rsize x / 8 = omega arith in
     subst (λ (m : ℕ). Quiet m (forgotten x)) n (mark-second (x .low) (drop 2 (forgotten x)), c)

@@ -32,9 +32,10 @@ use Rattle.history.specs.Settled.{one-none, last-none}
 use Rattle.history.specs.Kinds.{Ok, Starts, half, Inv, Rested}
 use Rattle.history.specs.Closes.{Rests}
 use Rattle.history.specs.Rules.{calm-of, fine-finished}
-use Rattle.history.specs.Idle.{some-behind, Mends, mends-3, starts-clean, two-plain}
+use Rattle.history.specs.Idle.{Mends, mends-3, starts-clean, two-plain}
 use Rattle.history.specs.Vacant.{rested-of, rested-inv}
 use Rattle.history.specs.Entries.{entries-fine}
+use Rattle.history.specs.Lists.{some-behind}
 
 -- from its second byte on
 abbrev finish : List Step

@@ -16,6 +16,7 @@ use Rattle.spec.specs.Move.{mark-here}
 use Rattle.history.specs.Lay.{blanks, onto, lay, sizes, Fit, All-fine, drop-onto, length-lay, drop-lay, lots}
 use Rattle.history.specs.Last.{Begun, begun-ff, begun-5a, Name-begun, begun-none, begun-end, torn, held, begun, drop-begun}
 use Rattle.history.specs.Walk.{Quiet, Walks, walks-record, walks-clean, Walked, walk-lay, walk-begun, walk-held, Lands, Lands₁, lands-more, lands-quiet, lands-torn-like, lands-head, Head-low, is-START, is-CLEAN, no-start, no-clean, mark-append, search-found, search-none}
+use Rattle.history.specs.Quiet.{mark-nil}
 
 -- ---- the choice
 
@@ -221,7 +222,7 @@ clean-no-start : (t : List ℕ) → start-here (160 ∷ 90 ∷ t) ≡ false
 unfolding is-start is-high
 clean-no-start t = refl
 
-clean-is : (t : List ℕ) → clean-here (160 ∷ 90 ∷ t) ≡ true
+pub clean-is : (t : List ℕ) → clean-here (160 ∷ 90 ∷ t) ≡ true
 unfolding is-clean is-high
 clean-is t = refl
 
@@ -242,17 +243,12 @@ pub head-zero : (t : List ℕ) → head (0 ∷ 90 ∷ t) ≡ give 0
 unfolding head
 head-zero t = rw (head, start-is t)
 
--- CLEAN at 0 and no mark from the records' end on
-nil-no-mark : mark-here [] ≡ false
-unfolding is-high is-start
-nil-no-mark = refl
-
 nil-no-torn : torn-here [] ≡ false
 unfolding is-erased
 nil-no-torn = refl
 
 pub reaches-end : (at j : ℕ) (g : List ℕ) → length g ≡ 8 * j → Quiet j g → Reaches₁ at g [] (8 * j)
-reaches-end at zero [] e q = record { by = 0; g = []; j = 0; land = lands-quiet at [] nil-no-mark nil-no-torn; whole = refl; quiet = tt; far = refl }
+reaches-end at zero [] e q = record { by = 0; g = []; j = 0; land = lands-quiet at [] mark-nil nil-no-torn; whole = refl; quiet = tt; far = refl }
 reaches-end at zero (x ∷ g) e q = absurd (omega arith)
 reaches-end at (suc j) g e q = subst (λ (l : List ℕ). Reaches₁ at l [] (8 * suc j)) (append-nil g) (reaches-quiet at j g [] e q)
 
@@ -272,4 +268,4 @@ none-there low s m r =
 pub head-none : (low : List Rec) (s : List ℕ) (m : ℕ) → All-fine low → Walked 0 low → Front low s → clean-here (lay low s) ≡ true → 1 ≤ length (lay low s) → Reaches (sizes low) s [] m → head (lay low s) ≡ give 0
 head-none low s m f w p c l r =
     head-by (lay low s) (sizes low + m) (give 0) (front-start p w) (front-wrap p w) (nothing low s m f w l r)
-    (chosen-none (lay low s) (sizes low + m) (ap start-here (none-there low s m r) ∙ no-start [] nil-no-mark) (ap clean-here (none-there low s m r) ∙ no-clean [] nil-no-mark) c)
+    (chosen-none (lay low s) (sizes low + m) (ap start-here (none-there low s m r) ∙ no-start [] mark-nil) (ap clean-here (none-there low s m r) ∙ no-clean [] mark-nil) c)

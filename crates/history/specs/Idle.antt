@@ -1,9 +1,8 @@
 -- On a rested image no repair has a step to do; so mount is the one repair that has some, if it leaves a rested image.
 use Prim.Native.Nat.{ℕ}
-use native.Mathlib.Omega.{arith}
 use mathlib.Core.Path.{_≡_, refl, sym, ap, _∙_, subst}
 use mathlib.Core.Bool.{false}
-use mathlib.Core.List.{List, [], _∷_, _++_}
+use mathlib.Core.List.{List, [], _∷_}
 use Rattle.spec.specs.Step.{Image, Step, run}
 use Rattle.spec.specs.Basics.{give, Each}
 use Rattle.spec.specs.Record.{Entry}
@@ -20,15 +19,6 @@ use Rattle.history.specs.Kinds.{Starts, Inv, Rested}
 use Rattle.history.specs.LaidEdit.{laid-fine}
 use Rattle.history.specs.Closes.{Rests}
 use Rattle.history.specs.Rules.{fine-finished}
-
--- steps that are there
-pub some-behind : {A : Type 0} (xs ys : List A) (y : A) → xs ++ (y ∷ ys) ≡ [] → ⊥
-some-behind [] ys y e = let z : _≡_ {A = ℕ} 0 1 = cc in omega arith
-some-behind (x ∷ xs) ys y e = let z : _≡_ {A = ℕ} 0 1 = cc in omega arith
-
-pub some-append : {A : Type 0} (xs ys : List A) → (ys ≡ [] → ⊥) → xs ++ ys ≡ [] → ⊥
-some-append [] ys n e = n e
-some-append (x ∷ xs) ys n e = let z : _≡_ {A = ℕ} 0 1 = cc in omega arith
 
 pub starts-clean : (es : List Entry) → Starts es → head-clean es ≡ false
 starts-clean [] s = absurd s

@@ -20,7 +20,7 @@ use Rattle.history.specs.Walk.{Quiet}
 use Rattle.history.specs.Quiet.{quiet-body}
 use Rattle.history.specs.Seg.{Seg, seg-none}
 use Rattle.history.specs.Steps.{set-past}
-use Rattle.history.specs.Clean.{Clean-now, clean-done}
+use Rattle.history.specs.Clean.{Clean-now, clean-done, mark-long}
 use Rattle.history.specs.StraightErase.{Cleaned}
 use Rattle.history.specs.StraightClean.{recontent}
 use Rattle.history.specs.Safe.{Safe, safe-map, safe-end}
@@ -37,22 +37,12 @@ Zero a d (program b zero) = (a ≤ b) × (b < a + d)
 Zero a d (program b (suc v)) = ⊥
 Zero a d (erase b) = ⊥
 
-not-both : (b : Bool) → b ≡ false → b ≡ true → ⊥
-not-both b p q = let z : _≡_ {A = ℕ} 0 1 = cc in omega arith
-
--- a mark needs two bytes
-mark-two : (s : List ℕ) → mark-here s ≡ true → 2 ≤ length s
-unfolding is-high
-mark-two [] e = absurd (not-both (mark-here []) (and-false (is-start 0 || is-clean 0 || is-record 0)) e)
-mark-two (x ∷ []) e = absurd (not-both (mark-here (x ∷ [])) (and-false (is-start x || is-clean x || is-record x)) e)
-mark-two (x ∷ y ∷ s) e = omega arith
-
 mark-zeros : (a b d : ℕ) (s : List ℕ) (rest : List Step) → b ≤ a → (1 ≤ length s → a + length s ≤ b + d) → Each (Zero b d) rest → Each (Zero b d) (mark-steps a s ++ rest)
 mark-zeros a b d s rest l h r = go (mark-here s) refl
   where
     go : (m : Bool) → mark-here s ≡ m → Each (Zero b d) (mark-steps a s ++ rest)
     go true e =
-        let two : 2 ≤ length s = mark-two s e in
+        let two : 2 ≤ length s = mark-long s e in
         let i : a + length s ≤ b + d = h (omega arith) in
         rw (e, mark-steps) ((omega arith, omega arith), r)
     go false e = rw (e, mark-steps) r

@@ -24,11 +24,9 @@ use Rattle.history.specs.Laid.{Laid, laid-straight, laid-turned, Hole, I
 use Rattle.history.specs.StraightLaid.{straight-hole, straight-inside}
 use Rattle.history.specs.TurnedLaid.{turned-hole, high-inside, low-inside, turned-length}
 use Rattle.history.specs.Kinds.{place}
+use Rattle.history.specs.Lists.{not-both}
 
 -- ---- measures
-
-not-both : {t : Bool} {A : Type 0} → t ≡ true → t ≡ false → A
-not-both p q = absurd (let z : _≡_ {A = ℕ} 0 1 = cc in omega arith)
 
 -- where the stretch of S ends: each case of the turn on its own
 limit-is : (im : Image) (h S n : ℕ) (t : Bool) → (t ≡ true → floor h ≡ n) → (t ≡ false → length im ≡ n) → limit (place im h S t) ≡ n
@@ -58,16 +56,16 @@ module _ {im : Image} {h S : ℕ} {t : Bool} {es : List Entry} {seg : Seg} {belo
     where
       go : Laid im h S t es seg below free → limit (place im h (S + seg-size seg) t) ≡ S + seg-size seg + length free
       go (laid-straight f s p q r m n) =
-          limit-is im h (S + seg-size seg) (S + seg-size seg + length free) t (λ u. not-both u p) (λ u. straight-length s ∙ omega arith)
+          limit-is im h (S + seg-size seg) (S + seg-size seg + length free) t (λ u. absurd (not-both t p u)) (λ u. straight-length s ∙ omega arith)
       go (laid-turned s p q r b) =
-          limit-is im h (S + seg-size seg) (S + seg-size seg + length free) t (λ u. omega (arith, s .at, s .lost-small, s .below, s .free-length)) (λ u. not-both p u)
+          limit-is im h (S + seg-size seg) (S + seg-size seg + length free) t (λ u. omega (arith, s .at, s .lost-small, s .below, s .free-length)) (λ u. absurd (not-both t u p))
 
   pub laid-below : t ≡ false → length below ≡ floor h
   laid-below e = go d
     where
       go : Laid im h S t es seg below free → length below ≡ floor h
       go (laid-straight f s p q r m n) = s .gap-length ∙ sym (bottom s)
-      go (laid-turned s p q r b) = not-both p e
+      go (laid-turned s p q r b) = absurd (not-both t e p)
 
   pub laid-length : S + seg-size seg + length free ≤ length im
   laid-length = go d
@@ -152,7 +150,7 @@ turn-laid {im} {h} {S} {B} {F} {es} (laid-straight {a = a} {lost = lost} {x = x}
     subst (λ (i : ℕ). Laid (run im (moved i marker-steps)) h 0 true es seg-none [] (blanks B)) (sym q)
     (subst (λ (i : ℕ). Laid (run im (moved (h + sizes (x ∷ ys)) marker-steps)) h 0 true es seg-none [] (blanks i)) (sym k)
     (laid-turned {low = []} (turned-by s f (ap blanks k) (omega arith)) refl refl (r ∙ sym (append-nil (entries-of h (x ∷ ys)))) refl))
-turn-laid (laid-turned s p q r e) f b = not-both p refl
+turn-laid (laid-turned s p q r e) f b = absurd (not-both false refl p)
 
 -- at N exactly
 pub turn-exact : {im : Image} {h S B : ℕ} {es : List Entry} → Laid im h S false es seg-none (blanks B) [] → 1 ≤ B → Laid im h 0 true es seg-none [] (blanks B)
@@ -160,4 +158,4 @@ turn-exact {im} {h} {S} {B} {es} (laid-straight {a = a} {lost = lost} {x = x} {y
     let k : B ≡ 4096 * a = sym (length-replicate {A = ℕ} B 255) ∙ s .gap-length in
     subst (λ (i : ℕ). Laid im h 0 true es seg-none [] (blanks i)) (sym k)
     (laid-turned {low = []} (turned-exact s (ap blanks k) (omega arith)) refl refl (r ∙ sym (append-nil (entries-of h (x ∷ ys)))) refl)
-turn-exact (laid-turned s p q r e) b = not-both p refl
+turn-exact (laid-turned s p q r e) b = absurd (not-both false refl p)

@@ -6,7 +6,7 @@ use mathlib.Core.Path.{_≡_, refl, sym, ap, _∙_, subst}
 use mathlib.Core.Bool.{Bool, true, false}
 use mathlib.Core.List.{List, [], _∷_, _++_, append-assoc, append-nil, map}
 use lib.ListN.{length, take, drop, length-append, length-replicate, length-drop, replicate-append-replicate}
-use lib.Seq.{take-all, length-take-le}
+use lib.Seq.{length-take-le}
 use lib.Dec.{ltb}
 use borrow.Author.Tests.{ne-eqb, eq-eqb, ltb-true, ltb-false}
 use Rattle.spec.specs.declared.Next.{Next}
@@ -20,7 +20,7 @@ use Rattle.history.specs.Lay.{blanks, body, onto, rsize, sizes, entries-
 use Rattle.history.specs.Walk.{Quiet}
 use Rattle.history.specs.Quiet.{blank-split, quiet-append, quiet-blanks}
 use Rattle.history.specs.Seg.{seg-none}
-use Rattle.history.specs.Erase.{erases, length-sector, sectors-are, half-erased, half-erased-length, all-erased}
+use Rattle.history.specs.Erase.{erases, length-sector, sectors-are, half-erased, half-erased-length, all-erased, take-erases}
 use Rattle.history.specs.Straight.{Straight}
 use Rattle.history.specs.StraightEdit.{straight-length}
 use Rattle.history.specs.StraightErase.{Cleaned, rsize-words, old-head, to-m3}
@@ -43,9 +43,6 @@ pub data Leaves (im : Image) (x y : Entry) (es : List Entry) : Type 0 where
 pub length-erases : (a k : ℕ) → length (erases a k) ≡ k
 length-erases a zero = refl
 length-erases a (suc k) = ap suc (length-erases (a + 4096) k)
-
-take-erases : (a k : ℕ) → take k (erases a k) ≡ erases a k
-take-erases a k = take-all k (erases a k) (omega (arith, length-erases a k))
 
 -- an erase inside the image
 pub erase-length : (im : Image) (a : ℕ) → a + 4096 ≤ length im → length (apply im (erase a)) ≡ length im
@@ -208,7 +205,7 @@ module _ {im : Image} {a l : ℕ} {lost : List ℕ} {h : ℕ} {low : List Rec} {
       subst (λ (m : List ℕ). Turned (run im (erases A (suc k))) (a + suc k) r (drop (4096 * suc k) q) (h + rsize x) low seg-none (f + 512 * suc k) m (y ∷ ys) end)
       (ap (λ (m : List ℕ). blanks F ++ m) (all-erased (suc k) q) ∙ replicate-append-replicate F (4096 * suc k) 255)
       (subst (λ (ss : List Step). Turned (run im ss) (a + suc k) r (drop (4096 * suc k) q) (h + rsize x) low seg-none (f + 512 * suc k) (blanks F ++ half-erased (suc k) (suc k) q) (y ∷ ys) end)
-      (take-erases A (suc k)) (turned-m3 s c k r all short k (omega arith))) in
+      (take-erases (suc k) (suc k) A (omega arith)) (turned-m3 s c k r all short k (omega arith))) in
       far A k (sizes low) true (vacated-are (length im) h x y a l k r (s .at) (s .lost-small) all short) (omega arith) (omega (arith, s .at, rsize-words x, turned-length s))
       (λ i e. vacant-at (laid-turned (turned-m3 s c k r all short i e) refl refl refl refl) (F + 4096 * suc i) (rest i) (join-ff F (4096 * suc i) (rest i)) (omega (arith, s .below, F-is)))
       (record { S = sizes low; B = 0; F = F + 4096 * suc k; t = true; laid = laid-turned last refl refl refl refl; tail = clear-ff (F + 4096 * suc k) (omega arith) })
@@ -284,7 +281,7 @@ module _ {im : Image} {a l : ℕ} {lost : List ℕ} {h : ℕ} {y : Rec} {low : L
         F = F + 4096 * suc k;
         t = false;
         laid = subst (λ (m : List ℕ). Laid (run im (erases A (suc k))) 0 S false (Y₂ ∷ E₂) seg-none [] m) (ap (λ (m : List ℕ). blanks F ++ m) (all-erased (suc k) q) ∙ replicate-append-replicate F (4096 * suc k) 255)
-            (subst (λ (ss : List Step). Laid (run im ss) 0 S false (Y₂ ∷ E₂) seg-none [] (blanks F ++ half-erased (suc k) (suc k) q)) (take-erases A (suc k)) (laid k (omega arith)));
+            (subst (λ (ss : List Step). Laid (run im ss) 0 S false (Y₂ ∷ E₂) seg-none [] (blanks F ++ half-erased (suc k) (suc k) q)) (take-erases (suc k) (suc k) A (omega arith)) (laid k (omega arith)));
         tail = clear-ff (F + 4096 * suc k) (omega arith);
       })
 

@@ -1,28 +1,22 @@
 -- Step (f) of a move on a laid image: X is forgotten in its own sector, and the head is Y.
-use Prim.Native.Nat.{ℕ, suc, _+_, _-_, _*_, _/_, _<_}
+use Prim.Native.Nat.{ℕ, _+_, _*_, _/_, _<_}
 use native.Mathlib.Omega.{arith}
 use mathlib.Core.Path.{_≡_, refl, sym, ap, _∙_, subst}
 use mathlib.Core.Bool.{Bool}
 use mathlib.Core.List.{List, [], _∷_, _++_, append-assoc}
-use lib.ListN.{length, drop, set, length-append}
+use lib.ListN.{length, set, length-append}
 use Rattle.spec.specs.Step.{Image}
 use Rattle.spec.specs.Geometry.{floor}
 use Rattle.spec.specs.Record.{Rec, Entry}
 use Rattle.history.specs.Lay.{onto, lay, rsize, sizes, entries-of, lay-is, length-lay, length-body}
-use Rattle.history.specs.Walk.{Quiet}
-use Rattle.history.specs.Quiet.{quiet-append, mark-second}
+use Rattle.history.specs.Quiet.{quiet-append}
 use Rattle.history.specs.Steps.{set-past}
 use Rattle.history.specs.Seg.{Seg, seg-onto, seg-append, length-seg}
 use Rattle.history.specs.Straight.{Straight}
 use Rattle.history.specs.StraightErase.{Cleaned, rsize-words}
 use Rattle.history.specs.Turned.{Turned, End, end-bytes}
-use Rattle.history.specs.Forget.{forgotten, forget}
+use Rattle.history.specs.Forget.{forgotten, forget, forgotten-quiet}
 use Rattle.history.specs.Laid.{Laid, laid-straight, laid-turned}
-
-left-quiet : (x : Rec) → Cleaned x → Quiet (rsize x / 8) (forgotten x)
-left-quiet x c =
-    let n : suc (rsize x / 8 - 1) ≡ rsize x / 8 = omega arith in
-    subst (λ (m : ℕ). Quiet m (forgotten x)) n (mark-second (x .low) (drop 2 (forgotten x)), c)
 
 -- all that stands before the head, and something behind it
 before-head : (low : List Rec) (seg : Seg) (free lost t : List ℕ) → lay low (seg-onto seg (free ++ lost)) ++ t ≡ lay low (seg-onto seg (free ++ (lost ++ t)))
@@ -63,7 +57,7 @@ module _ {im : List ℕ} {a l : ℕ} {lost : List ℕ} {h : ℕ} {low : List Rec
         opens = s .opens;
         lost-length = length-append lost (forgotten x) ∙ omega (arith, s .lost-length, lf);
         lost-small = near;
-        lost-quiet = quiet-append l (rsize x / 8) lost (forgotten x) (s .lost-length) (s .lost-quiet) (left-quiet x c);
+        lost-quiet = quiet-append l (rsize x / 8) lost (forgotten x) (s .lost-length) (s .lost-quiet) (forgotten-quiet x c);
         fine-low = s .fine-low;
         walked = s .walked;
         fine-high = s .fine-high .1;

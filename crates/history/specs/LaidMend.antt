@@ -18,7 +18,7 @@ use Rattle.history.specs.Walk.{Quiet}
 use Rattle.history.specs.Seg.{seg-none, seg-onto}
 use Rattle.history.specs.Erase.{sectors-are}
 use Rattle.history.specs.Steps.{run-append}
-use Rattle.history.specs.Lists.{keep-append}
+use Rattle.history.specs.Lists.{keep-append, none-at}
 use Rattle.history.specs.Repair.{mend-steps, mend-done}
 use Rattle.history.specs.Safe.{Safe, safe-map}
 use Rattle.history.specs.Laid.{Laid, laid-straight, laid-turned, Hole, Tail, tail-clear, tail-floor, tail-N, tail-turn}
@@ -86,10 +86,6 @@ high-done {im} {h} {S} {t} {es} {below} {free} d im₀ pre₀ i₀ l₀ c k lim 
 turned-below : {im : Image} {h S : ℕ} {es : List Entry} {below free : List ℕ} → Laid im h S true es seg-none below free → below ≡ []
 turned-below (laid-straight f s t₁ S₁ e₁ lf qf) = let n : _≡_ {A = ℕ} 0 1 = cc in absurd (omega arith)
 turned-below (laid-turned s t₁ S₁ e₁ b) = b
-
-none-at : (s : List ℕ) → length s ≡ 0 → s ≡ []
-none-at [] e = refl
-none-at (x ∷ s) e = absurd (omega arith)
 
 post-none : {im : Image} {h S : ℕ} {es : List Entry} {below free : List ℕ} (d : Laid im h S false es seg-none below free) → hole-of d .post ≡ []
 post-none {im} {h} {S} {es} {below} {free} d =

@@ -27,7 +27,7 @@ use Rattle.history.specs.Turned.{Opens, opens-ff, opens-none, turned-sta
 use Rattle.history.specs.Legal.{Ruled, reading-by}
 use Rattle.history.specs.Whole.{started, gap-part, free-part, free₁, below, here, is-clean-0, is-clean-A0}
 use Rattle.history.specs.Laid.{Laid, laid-straight, laid-turned, Tail, tail-clear, tail-floor, tail-N, tail-turn}
-use Rattle.history.specs.Lists.{each-right}
+use Rattle.history.specs.Lists.{each-right, not-both, cons-rest, cons-first}
 use Rattle.history.specs.Store.{Unmarked}
 use Rattle.history.specs.Kinds.{place}
 
@@ -35,9 +35,6 @@ use Rattle.history.specs.Kinds.{place}
 
 read-same : {N h T T₁ : ℕ} {u u₁ : Bool} {es es₁ : List Entry} → T ≡ T₁ → u ≡ u₁ → es ≡ es₁ → read N h T u es Ending.Tail ≡ read N h T₁ u₁ es₁ Ending.Tail
 read-same p q r = cc
-
-never : (b : Bool) → b ≡ true → b ≡ false → ⊥
-never b p q = let z : _≡_ {A = ℕ} 0 1 = cc in omega arith
 
 -- something is open at S, unless nothing is
 open-or : (g : Seg) → (g ≡ seg-none → ⊥) → seg-open g ≡ true
@@ -59,16 +56,13 @@ walked-plain (r ∷ rs) at f m = (subst (Walks at) (sym (low-plain (f .0 .low-ok
 
 -- the first entry's low byte is its record's
 first-low : {h b : ℕ} {x : Entry} {es fs : List Entry} {r : Rec} → x ∷ es ≡ record { at = h; it = r } ∷ fs → x .it .low ≡ b → r .low ≡ b
-first-low {h} {x = x} {r = r} e l = let p : x ≡ record { at = h; it = r } = cc in sym (ap (λ (y : Entry). y .it .low) p) ∙ l
-
-rest-same : {x y : Entry} {es fs : List Entry} → x ∷ es ≡ y ∷ fs → es ≡ fs
-rest-same e = cc
+first-low e l = sym (ap (λ (y : Entry). y .it .low) (cons-first e)) ∙ l
 
 tail-turned : {h S : ℕ} {t : Bool} {seg : Seg} {under free : List ℕ} {T : ℕ} {u : Bool} → t ≡ true → Tail h S t seg under free T u → (T ≡ S + seg-size seg) × (u ≡ true)
 tail-turned e (tail-clear w ef eT eu) = (eT, eu ∙ e)
 tail-turned e (tail-floor ef e₁ eT eu) = (eT, eu)
-tail-turned {t = t} e (tail-N ef e₁ z eT eu) = absurd (never t e e₁)
-tail-turned {t = t} e (tail-turn w ef e₁ n eb eT eu) = absurd (never t e e₁)
+tail-turned {t = t} e (tail-N ef e₁ z eT eu) = absurd (not-both t e₁ e)
+tail-turned {t = t} e (tail-turn w ef e₁ n eb eT eu) = absurd (not-both t e₁ e)
 
 -- ---- the chain from the head
 
@@ -81,7 +75,7 @@ module _ {im : Image} {h S : ℕ} {t : Bool} {es : List Entry} {seg : Seg} {unde
       (seg-ends Next.Clear (h + sizes (x ∷ ys)) seg free
       (λ o k. ap (chain (suc k) o (h + sizes (x ∷ ys) + seg-size seg)) ef ∙ stops-clear (h + sizes (x ∷ ys) + seg-size seg) w o k))
       ∙ read-same (sym (eT ∙ ap (λ (n : ℕ). n + seg-size seg) eS)) (sym (eu ∙ et)) (sym (ap₂ (λ (m : List Entry) (n : ℕ). m ++ seg-entries n seg) ee eS))
-  straight-reads s et eS ee (tail-floor ef e₁ eT eu) = absurd (never t e₁ et)
+  straight-reads s et eS ee (tail-floor ef e₁ eT eu) = absurd (not-both t et e₁)
   straight-reads {a} {l} {lost} {x} {ys} {T} {u} s et eS ee (tail-N ef e₁ z eT eu) =
       rw (s .is)
       (shape-full [] (x ∷ ys) under lost (seg-onto seg free) h (below s) (here s) tt (s .fine) (omega arith) (seg-entries (h + sizes (x ∷ ys)) seg) (seg-open seg)
@@ -135,14 +129,14 @@ clean-found {im = im} {h = h} (laid-straight {x = y} {ys = ys} f s et eS ee lf q
     go true k =
         let z : h ≡ 0 = eqb-true h 0 k in
         straight-none s f z low
-        (subst (Walks 0) (sym low) walks-clean, walked-plain ys (0 + rsize y) (s .fine .1) (subst (λ (n : ℕ). Each Unmarked (entries-of (n + rsize y) ys)) z (subst (Each Unmarked) (rest-same ee) m)))
+        (subst (Walks 0) (sym low) walks-clean, walked-plain ys (0 + rsize y) (s .fine .1) (subst (λ (n : ℕ). Each Unmarked (entries-of (n + rsize y) ys)) z (subst (Each Unmarked) (cons-rest ee) m)))
         refl lf qf
     go false k = straight-clean s (eqb-false h 0 k) low
 clean-found {h = h} (laid-turned {f = f} {low = low} {x = y} {ys = ys} {end = end} s et eS ee eb) l m =
     turned-clean s (first-low ee l)
     (ap clean-here (s .is)
     ∙ clean-first low _ _ (s .opened) (s .opens) (omega (arith, s .below, s .some-below, s .free-length)) (s .fine-low)
-    (each-right Unmarked (entries-of (h + rsize y) ys) (entries-of 0 low) (subst (Each Unmarked) (rest-same ee) m)))
+    (each-right Unmarked (entries-of (h + rsize y) ys) (entries-of 0 low) (subst (Each Unmarked) (cons-rest ee) m)))
 
 -- ---- the whole reading
 
@@ -179,7 +173,7 @@ free-is {im} {h} {S} {T} B F {t} {u} {es} {seg} (laid-straight {x = x} {ys = ys}
 
     go : Tail h S t seg (blanks B) (blanks F) T u → free-blank im (place im h T u) ≡ true
     go (tail-clear w ef eT eu) = placed im h (moved eT) (eu ∙ et) (ahead-blank im h at gap rest)
-    go (tail-floor ef e₁ eT eu) = absurd (never t e₁ et)
+    go (tail-floor ef e₁ eT eu) = absurd (not-both t et e₁)
     go (tail-N ef e₁ z eT eu) = placed im h (moved eT) eu (ahead-blank im h at gap rest)
     go (tail-turn w ef e₁ n eb eT eu) = placed im h eT eu (round-blank im h 0 gap)
 free-is {im} {h} {S} {T} B F {t} {u} {es} {seg} (laid-turned {low = low} s et eS ee eb) e =

@@ -1,6 +1,5 @@
 -- The live files of the entries are the files of the ledger, in some order (Matches), and what keeps it so.
 use Prim.Native.Nat.{ℕ}
-use native.Mathlib.Omega.{arith}
 use mathlib.Core.Path.{_≡_, refl, sym, ap, _∙_, subst}
 use mathlib.Core.Bool.{Bool, true, false, not}
 use mathlib.Core.List.{List, [], _∷_, _++_, map, List·Permᴰ, List·Permᴰ·nil, List·Permᴰ·cons, List·Permᴰ·swap, List·Permᴰ·trans, Permᴰ·refl}
@@ -72,7 +71,3 @@ contents-one e h = rw (keep-yes alive e [] h)
 pub matches-dead : (xs ys : List Entry) (e : Entry) (l : Ledger) → alive e ≡ false → Matches (xs ++ ys) l → Matches (xs ++ (e ∷ ys)) l
 matches-dead xs ys e l a m =
     subst (λ (fs : List File). List·Permᴰ fs l) (contents-append xs ys ∙ ap (λ (fs : List Entry). contents xs ++ map as-file fs) (sym (keep-no alive e ys a)) ∙ sym (contents-append xs (e ∷ ys))) m
-
-pub dead-not : (b : Bool) → b ≡ false → b ≡ true → ⊥
-dead-not b p q = let z : _≡_ {A = ℕ} 0 1 = cc in omega arith
-

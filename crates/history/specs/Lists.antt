@@ -4,8 +4,15 @@ use mathlib.Core.Bool.{Bool, true, false, _&&_}
 use mathlib.Core.Option.{some}
 use mathlib.Core.List.{List, [], _∷_, _++_}
 use Rattle.spec.specs.Basics.{any, all, keep, first-such, Each}
+use Prim.Native.Nat.{ℕ}
+use native.Mathlib.Omega.{arith}
+use lib.ListN.{length}
 
 -- ---- tests
+
+-- a test does not come out both ways
+pub not-both : (b : Bool) → b ≡ false → b ≡ true → ⊥
+not-both b p q = let z : _≡_ {A = ℕ} 0 1 = cc in omega arith
 
 pub and-left : (a b : Bool) → (a && b) ≡ true → a ≡ true
 and-left true b h = refl
@@ -18,6 +25,12 @@ and-no false b h = refl
 -- ---- lists
 
 module _ {A : Type 0} where
+  pub cons-first : {x y : A} {xs ys : List A} → x ∷ xs ≡ y ∷ ys → x ≡ y
+  cons-first h = cc
+
+  pub cons-rest : {x y : A} {xs ys : List A} → x ∷ xs ≡ y ∷ ys → xs ≡ ys
+  cons-rest h = cc
+
   any-no : (p : A → Bool) (x : A) (xs : List A) → p x ≡ false → any p (x ∷ xs) ≡ any p xs
   any-no p x xs e = rw (e, any)
 
@@ -158,3 +171,16 @@ module _ {A : Type 0} where
       go : (b : Bool) → p x ≡ b → any p (xs ++ (e ∷ [])) ≡ true → any p (x ∷ (xs ++ (e ∷ []))) ≡ true
       go true k i = rw (k, any)
       go false k i = any-no p x (xs ++ (e ∷ [])) k ∙ i
+
+-- steps that are there
+pub some-behind : {A : Type 0} (xs ys : List A) (y : A) → xs ++ (y ∷ ys) ≡ [] → ⊥
+some-behind [] ys y e = let z : _≡_ {A = ℕ} 0 1 = cc in omega arith
+some-behind (x ∷ xs) ys y e = let z : _≡_ {A = ℕ} 0 1 = cc in omega arith
+
+pub some-append : {A : Type 0} (xs ys : List A) → (ys ≡ [] → ⊥) → xs ++ ys ≡ [] → ⊥
+some-append [] ys n e = n e
+some-append (x ∷ xs) ys n e = let z : _≡_ {A = ℕ} 0 1 = cc in omega arith
+
+pub none-at : (s : List ℕ) → length s ≡ 0 → s ≡ []
+none-at [] e = refl
+none-at (x ∷ s) e = absurd (omega arith)

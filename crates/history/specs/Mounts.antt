@@ -1,8 +1,6 @@
 -- Mount on every kind of image, cut anywhere; run to its end it leaves a rested image. And whether an image is settled.
-use mathlib.Core.Path.{_≡_, refl, sym, ap, _∙_}
+use mathlib.Core.Path.{_≡_, refl, ap}
 use mathlib.Core.Bool.{true, false}
-use Prim.Native.Nat.{ℕ}
-use native.Mathlib.Omega.{arith}
 use mathlib.Core.List.{List, [], _∷_}
 use Rattle.spec.specs.Step.{Image, Step}
 use Rattle.spec.specs.Basics.{refuse, give, empty}
@@ -19,9 +17,10 @@ use Rattle.history.specs.Resting.{mends-quiet, mends-clean, mends-both, 
 use Rattle.history.specs.Unshadow.{mends-shadow}
 use Rattle.history.specs.VoidMount.{mends-void}
 use Rattle.history.specs.HalfMount.{mends-half}
+use Rattle.history.specs.Lists.{not-both}
 
 open-some : (g : Seg) → seg-open g ≡ true → g ≡ seg-none → ⊥
-open-some g o e = let z : true ≡ false = sym o ∙ ap seg-open e in let n : _≡_ {A = ℕ} 0 1 = cc in omega arith
+open-some g o e = not-both (seg-open g) (ap seg-open e) o
 
 pub mends : (l : Ledger) (im : Image) → Inv l im → Mends l im
 mends l im i = go (i .kind)

@@ -10,10 +10,10 @@ use Rattle.spec.specs.Basics.{same, keep, first-such}
 use Rattle.spec.specs.Record.{name-ok, Entry, name-of, content-of}
 use Rattle.spec.specs.Files.{named, named-as, has-named, has-name, file-named}
 use Rattle.spec.specs.History.{File, Ledger, not-named, without, with-file}
-use Rattle.history.specs.Lists.{keep-no, keep-yes, each-map, each-end, each-swap, each-insert, each-without, each-at, each-append, each-all, pairwise-end, pairwise-without, pairwise-before, pairwise-behind, pairwise-insert, any-last, first-yes, first-no}
+use Rattle.history.specs.Lists.{keep-no, keep-yes, each-map, each-end, each-swap, each-insert, each-without, each-at, each-append, each-all, pairwise-end, pairwise-without, pairwise-before, pairwise-behind, pairwise-insert, any-last, first-yes, first-no, not-both}
 use Rattle.history.specs.Store.{same-sym, alive, Apart, Unique, Well-named, fc-alive, f8-alive, dead-apart, dead-named, files-alive}
 use Rattle.history.specs.Shadow.{Shadowed}
-use Rattle.history.specs.Ledger.{as-file, contents, Matches, Absent, perm-keep, keep-contents, contents-append, contents-one, matches-dead, dead-not}
+use Rattle.history.specs.Ledger.{as-file, contents, Matches, Absent, perm-keep, keep-contents, contents-append, contents-one, matches-dead}
 use Rattle.history.specs.Kinds.{Ok, Bytes, Live-bytes}
 
 -- ---- names
@@ -69,10 +69,10 @@ matches-put es e l a p =
     (List·Permᴰ·trans (Permᴰ·middle (as-file e) (contents es) []) (List·Permᴰ·cons refl (List·Permᴰ·trans (Permᴰ·append-nil (contents es)) p)))
 
 apart-dead : (f : Entry) → alive f ≡ false → (z : Entry) → Apart f z
-apart-dead f a z p q = absurd (dead-not (alive f) a p)
+apart-dead f a z p q = absurd (not-both (alive f) a p)
 
 dead-bytes : (f : Entry) → alive f ≡ false → Live-bytes f
-dead-bytes f a k = absurd (dead-not (alive f) a k)
+dead-bytes f a k = absurd (not-both (alive f) a k)
 
 module _ (xs ys : List Entry) (e f : Entry) (l : Ledger) (ok : Ok (xs ++ (e ∷ ys)) l) where
   -- a byte changed that no file is told by
@@ -222,7 +222,7 @@ old-first n (e ∷ es) = go (alive e) (same (name-of e) n) refl refl (old-first 
         subst (Old n (e ∷ es)) (sym (ap (first-such (has-name n)) (keep-yes alive e es x) ∙ first-yes (has-name n) e (keep alive es) y)) (old-some [] es e refl x (same-is (name-of e) n y))
     go true false x y ih =
         subst (Old n (e ∷ es)) (sym (ap (first-such (has-name n)) (keep-yes alive e es x) ∙ first-no (has-name n) e (keep alive es) y)) (old-cons n e es (λ k. y) ih)
-    go false b x y ih = subst (Old n (e ∷ es)) (sym (ap (first-such (has-name n)) (keep-no alive e es x))) (old-cons n e es (λ k. absurd (dead-not (alive e) x k)) ih)
+    go false b x y ih = subst (Old n (e ∷ es)) (sym (ap (first-such (has-name n)) (keep-no alive e es x))) (old-cons n e es (λ k. absurd (not-both (alive e) x k)) ih)
 
 pub old-file : (n : List ℕ) (es : List Entry) (l : Ledger) → Ok es l → Old n es (file-named n es)
 unfolding file-named

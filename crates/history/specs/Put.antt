@@ -83,7 +83,7 @@ name-cut d f n s h p l i j k =
     write-blank (header d []) n s 8 j (f - 8 - j) (f - 8) refl k (omega arith) in
     rw e (cut-state (size-of (length n) d) d j f (f - 8 - j) (take j n) s (length-take-le j n k) (omega arith) (take-plain j n p) l (omega arith) (omega arith) (omega arith))
 
-bytes-append : (a : ℕ) (v w : List ℕ) → bytes-at a (v ++ w) ≡ bytes-at a v ++ bytes-at (a + length v) w
+pub bytes-append : (a : ℕ) (v w : List ℕ) → bytes-at a (v ++ w) ≡ bytes-at a v ++ bytes-at (a + length v) w
 bytes-append a [] w = rw (add-zero a)
 bytes-append a (x ∷ v) w =
     let e : a + 1 + length v ≡ a + suc (length v) = omega arith in
@@ -199,4 +199,3 @@ programs-bytes a (x ∷ w) ss p = programs-bytes (a + 1) w ss p
 
 pub record-programs : (n c : List ℕ) → Programs (record-steps n c)
 record-programs n c = rw (append-assoc (bytes-at 8 n)) (programs-bytes 8 n _ (programs-bytes (8 + up8 (length n + 1)) c _ tt))
-

@@ -1,15 +1,13 @@
 -- The steps of a new record, on FF: each only clears bits; and what a file name gives.
-use Prim.Native.Nat.{ℕ, suc, _+_, _-_, _/_, _%_, _≤_, _<_}
+use Prim.Native.Nat.{ℕ, _+_, _-_, _/_, _%_, _≤_, _<_}
 use native.Mathlib.Omega.{arith}
-use native.Mathlib.Nat.{add-zero}
 use mathlib.Core.Path.{_≡_, refl, sym, ap, _∙_, subst}
 use mathlib.Core.Bool.{Bool, true, false, _&&_, not}
 use mathlib.Core.List.{List, [], _∷_, _++_, append-assoc}
 use lib.ListN.{length, length-append, length-replicate}
 use lib.Dec.{leb}
-use lib.Bits.{bitAnd, and-mask}
 use borrow.Author.Tests.{leb-true}
-use Rattle.spec.specs.Step.{Step, program, run, bytes-at}
+use Rattle.spec.specs.Step.{Step, run, bytes-at}
 use Rattle.spec.specs.Basics.{all, empty, Each}
 use Rattle.spec.specs.Geometry.{up8}
 use Rattle.spec.specs.Bytes.{is-printable}
@@ -19,9 +17,9 @@ use Rattle.spec.specs.Demand.{Steps-sound}
 use Rattle.history.specs.Lay.{blanks, pad, lens, Plain, Fit}
 use Rattle.history.specs.Lists.{and-left}
 use Rattle.history.specs.Quiet.{blank-split}
-use Rattle.history.specs.Put.{open-steps}
+use Rattle.history.specs.Put.{open-steps, bytes-append}
 use Rattle.history.specs.Steps.{write-over}
-use Rattle.history.specs.Safe.{sound-append, sound-bytes}
+use Rattle.history.specs.Safe.{sound-append, sound-bytes, on-blank}
 use Rattle.history.specs.Kinds.{Bytes}
 
 -- ---- a file name
@@ -61,12 +59,6 @@ name-some (x ∷ n) h = refl
 
 -- ---- the steps
 
-bytes-two : (a : ℕ) (v w : List ℕ) → bytes-at a (v ++ w) ≡ bytes-at a v ++ bytes-at (a + length v) w
-bytes-two a [] w = rw (add-zero a)
-bytes-two a (x ∷ v) w =
-    let e : a + 1 + length v ≡ a + suc (length v) = omega arith in
-    ap (λ (l : List Step). program a x ∷ l) (bytes-two (a + 1) v w ∙ ap (λ (i : ℕ). bytes-at (a + 1) v ++ bytes-at i w) e)
-
 plain-bytes : (n : List ℕ) → Plain n → Each (λ b. b < 256) (n ++ (0 ∷ []))
 plain-bytes [] p = (omega arith, tt)
 plain-bytes (x ∷ n) p = (omega (arith, p .0 .1), plain-bytes n (p .1))
@@ -74,19 +66,16 @@ plain-bytes (x ∷ n) p = (omega (arith, p .0 .1), plain-bytes n (p .1))
 abbrev header : ℕ → List ℕ
 header d = 165 ∷ 90 ∷ 254 ∷ 255 ∷ lens d []
 
-on-ff : (b : ℕ) → b < 256 → bitAnd b 255 ≡ b
-on-ff b h = and-mask b 8 ∙ omega arith
-
 header-sound : (d : ℕ) (s : List ℕ) → Steps-sound (blanks 8 ++ s) (header-steps d)
 header-sound d s = (
   (omega arith, refl),
   (
     (omega arith, refl),
     (
-      (omega arith, on-ff (d % 256) (omega arith)),
+      (omega arith, on-blank (d % 256) (omega arith)),
       (
-        (omega arith, on-ff (d / 256 % 256) (omega arith)),
-        ((omega arith, on-ff (d / 65536 % 256) (omega arith)), ((omega arith, on-ff (d / 16777216 % 256) (omega arith)), ((omega arith, refl), tt))),
+        (omega arith, on-blank (d / 256 % 256) (omega arith)),
+        ((omega arith, on-blank (d / 65536 % 256) (omega arith)), ((omega arith, on-blank (d / 16777216 % 256) (omega arith)), ((omega arith, refl), tt))),
       ),
     ),
   ),
@@ -102,7 +91,7 @@ body-sound n c s f g b h =
     let lw : length w ≡ k = length-append n (0 ∷ []) in
     let split : blanks (f - 8) ++ s ≡ blanks k ++ (blanks p ++ (blanks m ++ s)) =
     ap (λ (z : List ℕ). z ++ s) (blank-split k (p + m) (f - 8) (omega arith) ∙ ap (λ (z : List ℕ). blanks k ++ z) (blank-split p m (p + m) refl)) ∙ simp append-assoc in
-    let names : name-steps n ≡ bytes-at 8 w = sym (bytes-two 8 n (0 ∷ [])) in
+    let names : name-steps n ≡ bytes-at 8 w = sym (bytes-append 8 n (0 ∷ [])) in
     let after : run (header d ++ (blanks (f - 8) ++ s)) (name-steps n) ≡ (header d ++ (w ++ blanks p)) ++ (blanks m ++ s) =
     ap (λ (z : List Step). run (header d ++ (blanks (f - 8) ++ s)) z) names ∙ ap (λ (z : List ℕ). run (header d ++ z) (bytes-at 8 w)) split
     ∙ write-over (header d) (blanks k) w (blanks p ++ (blanks m ++ s)) 8 refl (length-replicate k 255 ∙ sym lw) ∙ simp append-assoc in

@@ -58,7 +58,7 @@ calm-drop zero s c = c
 calm-drop (suc i) [] c = tt
 calm-drop (suc i) (x ∷ s) c = calm-drop i s (c .1)
 
-mark-nil : mark-here [] ≡ false
+pub mark-nil : mark-here [] ≡ false
 unfolding is-high is-start
 mark-nil = refl
 

@@ -31,7 +31,8 @@ use Rattle.history.specs.Kinds.{Ok, Starts, place, Rested}
 use Rattle.history.specs.Legal.{Ruled}
 use Rattle.history.specs.Closes.{close-rests, both-rests, vacated-rests}
 use Rattle.history.specs.Rules.{second-ruled, plain-ruled}
-use Rattle.history.specs.Idle.{some-behind, some-append, Mends, mends-none, mends-1, mends-2}
+use Rattle.history.specs.Idle.{Mends, mends-none, mends-1, mends-2}
+use Rattle.history.specs.Lists.{some-behind, some-append}
 
 -- ---- quiet, nothing at S
 

@@ -59,7 +59,7 @@ sound-take zero im ss s = tt
 sound-take (suc k) im [] s = tt
 sound-take (suc k) im (x ∷ ss) s = (s .0, sound-take k (apply im x) ss (s .1))
 
-on-blank : (b : ℕ) → b < 256 → bitAnd b 255 ≡ b
+pub on-blank : (b : ℕ) → b < 256 → bitAnd b 255 ≡ b
 on-blank b h = and-mask b 8 ∙ omega arith
 
 -- bytes on FF

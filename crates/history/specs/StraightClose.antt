@@ -1,10 +1,9 @@
 -- Steps (d) and (e) of a move as the definitions list them, cut anywhere: Y in a later sector, the image not turned.
-use Prim.Native.Nat.{ℕ, zero, suc, _+_, _*_, _/_, _<_}
+use Prim.Native.Nat.{ℕ, suc, _+_, _*_, _/_, _<_}
 use native.Mathlib.Omega.{arith}
 use mathlib.Core.Path.{_≡_, refl, ap, ap₂, _∙_, subst}
 use mathlib.Core.List.{List, _∷_, _++_, map}
-use lib.ListN.{length, drop}
-use lib.Seq.{take-all}
+use lib.ListN.{drop}
 use borrow.Author.Tests.{ne-eqb}
 use Rattle.spec.specs.Step.{Image, Step, erase, run}
 use Rattle.spec.specs.Geometry.{floor, sectors}
@@ -12,13 +11,9 @@ use Rattle.spec.specs.Record.{Rec, Entry}
 use Rattle.spec.specs.Move.{vacated-end, vacated}
 use Rattle.history.specs.Lay.{blanks, rsize}
 use Rattle.history.specs.Seg.{seg-none}
-use Rattle.history.specs.Erase.{erases, sectors-are, half-erased, all-erased}
+use Rattle.history.specs.Erase.{erases, sectors-are, half-erased, all-erased, take-erases}
 use Rattle.history.specs.Straight.{Straight}
 use Rattle.history.specs.StraightErase.{Cleaned, rsize-words, old-head, to-m3}
-
-length-erases : (a k : ℕ) → length (erases a k) ≡ k
-length-erases a zero = refl
-length-erases a (suc k) = ap suc (length-erases (a + 4096) k)
 
 -- ---- the sectors to erase
 
@@ -45,5 +40,4 @@ module _ {im : Image} {a l : ℕ} {gap lost : List ℕ} {h : ℕ} {x y : Rec} {y
   done =
       subst (λ (g : List ℕ). Straight (run im (erases A (suc k))) (a + suc k) r (gap ++ g) (drop (4096 * suc k) (old-head lost x)) (h + rsize x) (y ∷ ys) seg-none free) (all-erased (suc k) (old-head lost x))
       (subst (λ (ss : List Step). Straight (run im ss) (a + suc k) r (gap ++ half-erased (suc k) (suc k) (old-head lost x)) (drop (4096 * suc k) (old-head lost x)) (h + rsize x) (y ∷ ys) seg-none free)
-      (take-all (suc k) (erases A (suc k)) (omega (arith, length-erases A (suc k)))) (to-m3 s c k r all short k (omega arith)))
-
+      (take-erases (suc k) (suc k) A (omega arith)) (to-m3 s c k r all short k (omega arith)))

@@ -14,7 +14,7 @@ use Rattle.history.specs.Erase.{erases, half-erased, half-erased-length,
 use Rattle.history.specs.Seg.{seg-none}
 use Rattle.history.specs.Straight.{Straight}
 
-second-ff : (n : ℕ) (p q : List ℕ) → 2 ≤ n → getD ((blanks n ++ p) ++ q) 1 0 ≡ 90 → ⊥
+pub second-ff : (n : ℕ) (p q : List ℕ) → 2 ≤ n → getD ((blanks n ++ p) ++ q) 1 0 ≡ 90 → ⊥
 second-ff zero p q h e = not-suc-le-zero h
 second-ff (suc zero) p q h e = omega arith
 second-ff (suc (suc n)) p q h e = omega arith

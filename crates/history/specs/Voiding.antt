@@ -18,7 +18,7 @@ use Rattle.history.specs.Last.{Begun, begun-ff, begun-5a, torn-rec, cut-
 use Rattle.history.specs.Seg.{Seg, seg-none, seg-torn, seg-cut, seg-held, seg-onto, seg-size, seg-entries}
 use Rattle.history.specs.Store.{alive}
 use Rattle.history.specs.Void.{void-rel, dead, voided, void-fine}
-use Rattle.history.specs.Idle.{some-behind}
+use Rattle.history.specs.Lists.{some-behind}
 
 -- ---- the steps by the definitions
 
