@@ -65,6 +65,10 @@ take-erases zero k a h = refl
 take-erases (suc i) zero a h = absurd (not-suc-le-zero h)
 take-erases (suc i) (suc k) a h = ap (λ (m : List Step). erase a ∷ m) (take-erases i k (a + 4096) (omega arith))
 
+pub length-erases : (a k : ℕ) → length (erases a k) ≡ k
+length-erases a zero = refl
+length-erases a (suc k) = ap suc (length-erases (a + 4096) k)
+
 -- k sectors of q, of which i are erased
 abbrev pub half-erased : ℕ → ℕ → List ℕ → List ℕ
 half-erased i k q = blanks (4096 * i) ++ take (4096 * (k - i)) (drop (4096 * i) q)

@@ -22,11 +22,11 @@ use Rattle.history.specs.Steps.{run-append}
 use Rattle.history.specs.Erase.{erase-run, sectors-are}
 use Rattle.history.specs.Straight.{Straight}
 use Rattle.history.specs.Laid.{laid-straight, tail-clear}
-use Rattle.history.specs.Carry.{carried-done, carried-cut}
 use Rattle.history.specs.Lists.{and-left}
 use Rattle.history.specs.PutSound.{and-right}
 use Rattle.history.specs.Store.{alive}
 use Rattle.history.specs.Kinds.{Ok, quiet, Inv}
+use Rattle.history.specs.Top.{carried-done, carried-cut}
 
 -- ---- the bytes
 

@@ -57,24 +57,21 @@ module _ (low : List Rec) (by : ℕ) (s g : List ℕ) (f : All-fine low) (w : Wa
 
 -- ---- from the records' end to the head
 
--- the walk from at and the search after it come to t, m bytes on
-pub record Reaches₁ (at : ℕ) (s t : List ℕ) (m : ℕ) : Type 0 where
+-- the walk from at and the search after it come to t, m bytes on; L says how the walk ends
+pub record Reaching (L : ℕ → ℕ → List ℕ → List ℕ → Type 0) (at : ℕ) (s t : List ℕ) (m : ℕ) : Type 0 where
   pub by : ℕ
   pub g : List ℕ
   pub j : ℕ
-  pub land : Lands₁ at by s (g ++ t)
+  pub land : L at by s (g ++ t)
   pub whole : length g ≡ 8 * j
   pub quiet : Quiet j g
   pub far : by + 8 * j ≡ m
 
-pub record Reaches (at : ℕ) (s t : List ℕ) (m : ℕ) : Type 0 where
-  pub by : ℕ
-  pub g : List ℕ
-  pub j : ℕ
-  pub land : Lands at by s (g ++ t)
-  pub whole : length g ≡ 8 * j
-  pub quiet : Quiet j g
-  pub far : by + 8 * j ≡ m
+abbrev pub Reaches₁ : ℕ → List ℕ → List ℕ → ℕ → Type 0
+Reaches₁ at s t m = Reaching Lands₁ at s t m
+
+abbrev pub Reaches : ℕ → List ℕ → List ℕ → ℕ → Type 0
+Reaches at s t m = Reaching Lands at s t m
 
 pub reaches-more : {at m : ℕ} {s t : List ℕ} → Reaches₁ at s t m → Reaches at s t m
 reaches-more r = record { by = r .by; g = r .g; j = r .j; land = lands-more (r .land); whole = r .whole; quiet = r .quiet; far = r .far }

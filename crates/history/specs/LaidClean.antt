@@ -22,13 +22,13 @@ use Rattle.history.specs.Seg.{Seg, seg-none}
 use Rattle.history.specs.Steps.{set-past}
 use Rattle.history.specs.Clean.{Clean-now, clean-done, mark-long}
 use Rattle.history.specs.StraightErase.{Cleaned}
-use Rattle.history.specs.StraightClean.{recontent}
 use Rattle.history.specs.Safe.{Safe, safe-map, safe-end}
 use Rattle.history.specs.Store.{alive, Unmarked}
 use Rattle.history.specs.Laid.{Laid, Inside, Tail, low-same}
 use Rattle.history.specs.Kinds.{Ok, clean, Inv}
 use Rattle.history.specs.LaidEdit.{inside-of}
 use Rattle.history.specs.OkLaws.{ok-dead}
+use Rattle.history.specs.StraightEdit.{recontent}
 
 -- ---- the steps: each programs 00 in the data, d bytes from a on
 

@@ -23,8 +23,7 @@ use Rattle.history.specs.Seg.{seg-none}
 use Rattle.history.specs.Erase.{erases, length-sector, sectors-are, half-erased, half-erased-length, all-erased, take-erases}
 use Rattle.history.specs.Straight.{Straight}
 use Rattle.history.specs.StraightEdit.{straight-length}
-use Rattle.history.specs.StraightErase.{Cleaned, rsize-words, old-head, to-m3}
-use Rattle.history.specs.StraightClose.{vacated-are, done}
+use Rattle.history.specs.StraightErase.{Cleaned, rsize-words, old-head, to-m3, vacated-are, done}
 use Rattle.history.specs.Turned.{Turned, End, exact, marker, end-bytes, Opens, opens-ff}
 use Rattle.history.specs.TurnedErase.{turned-m3, last-head, zero-m3, zero-quiet}
 use Rattle.history.specs.Laid.{Laid, laid-straight, laid-turned, Tail, tail-clear, tail-floor, tail-N, tail-turn}
@@ -39,10 +38,6 @@ pub data Leaves (im : Image) (x y : Entry) (es : List Entry) : Type 0 where
       ((i : ℕ) → i ≤ k → Vacant (y .at) S t (y ∷ es) (run im (take (suc i) (erases A (suc k))))) → Bare (y .at) (y ∷ es) (run im (erases A (suc k))) → Leaves im x y es
 
 -- ---- the sectors
-
-pub length-erases : (a k : ℕ) → length (erases a k) ≡ k
-length-erases a zero = refl
-length-erases a (suc k) = ap suc (length-erases (a + 4096) k)
 
 -- an erase inside the image
 pub erase-length : (im : Image) (a : ℕ) → a + 4096 ≤ length im → length (apply im (erase a)) ≡ length im
@@ -66,6 +61,14 @@ erases-sound a (suc k) im z h =
 pub no-map : (zs : List ℕ) → map erase zs ≡ [] → zs ≡ []
 no-map [] e = refl
 no-map (z ∷ zs) e = let n : _≡_ {A = ℕ} 0 1 = cc in absurd (omega arith)
+
+-- w words: less than a sector, or some sectors and r words more
+by-sectors : {A : Type 0} (w : ℕ) → (w < 512 → A) → ((k r : ℕ) → 512 * suc k + r ≡ w → r < 512 → A) → A
+by-sectors {A} w f g = go (ltb w 512) refl
+  where
+    go : (b : Bool) → ltb w 512 ≡ b → A
+    go true e = f (ltb-true w 512 e)
+    go false e = let n : 512 ≤ w = ltb-false w 512 e in g (w / 512 - 1) (w % 512) (omega arith) (omega arith)
 
 vacated-none : (N : ℕ) (x y : Entry) → (y .at ≡ 0 → ⊥) → floor (y .at) ≡ floor (x .at) → vacated N x y ≡ []
 unfolding vacated-end
@@ -170,16 +173,12 @@ module _ {im : Image} {a l : ℕ} {lost : List ℕ} {h : ℕ} {x y : Rec} {ys : 
     straight-far S e (tail-turn s₈ p i j m n o) = absurd (j refl)
 
   straight-leaves : (f : ℕ) → length (blanks F) ≡ 8 * f → Quiet f (blanks F) → (S : ℕ) → S ≡ h + sizes (x ∷ y ∷ ys) → Tail h S false seg-none (blanks B) (blanks F) S false → Leaves im X Y E
-  straight-leaves f lf qf S e t = go (ltb (l + rsize x / 8) 512) refl
-    where
-      go : (b : Bool) → ltb (l + rsize x / 8) 512 ≡ b → Leaves im X Y E
-      go true w =
-          let n : l + rsize x / 8 < 512 = ltb-true (l + rsize x / 8) 512 w in
-          let p : floor (h + rsize x) ≡ floor h = omega (arith, s .at, s .lost-small, rsize-words x) in
-          near (vacated-none (length im) X Y (λ z. omega arith) p) p (omega arith)
-      go false w =
-          let n : 512 ≤ l + rsize x / 8 = ltb-false (l + rsize x / 8) 512 w in
-          straight-far ((l + rsize x / 8) / 512 - 1) ((l + rsize x / 8) % 512) (omega arith) (omega arith) f lf qf S e t
+  straight-leaves f lf qf S e t =
+      by-sectors (l + rsize x / 8)
+      (λ n.
+        let p : floor (h + rsize x) ≡ floor h = omega (arith, s .at, s .lost-small, rsize-words x) in
+        near (vacated-none (length im) X Y (λ z. omega arith) p) p (omega arith))
+      (λ k r u v. straight-far k r u v f lf qf S e t)
 
 -- ---- turned, Y behind X
 
@@ -211,16 +210,12 @@ module _ {im : Image} {a l : ℕ} {lost : List ℕ} {h : ℕ} {low : List Rec} {
       (record { S = sizes low; B = 0; F = F + 4096 * suc k; t = true; laid = laid-turned last refl refl refl refl; tail = clear-ff (F + 4096 * suc k) (omega arith) })
 
   turned-leaves : Leaves im X₁ Y₁ E₁
-  turned-leaves = go (ltb (l + rsize x / 8) 512) refl
-    where
-      go : (b : Bool) → ltb (l + rsize x / 8) 512 ≡ b → Leaves im X₁ Y₁ E₁
-      go true e =
-          let n : l + rsize x / 8 < 512 = ltb-true (l + rsize x / 8) 512 e in
-          let p : floor (h + rsize x) ≡ floor h = omega (arith, s .at, s .lost-small, rsize-words x) in
-          near (vacated-none (length im) X₁ Y₁ (λ z. omega arith) p) p (omega arith)
-      go false e =
-          let n : 512 ≤ l + rsize x / 8 = ltb-false (l + rsize x / 8) 512 e in
-          turned-far ((l + rsize x / 8) / 512 - 1) ((l + rsize x / 8) % 512) (omega arith) (omega arith)
+  turned-leaves =
+      by-sectors (l + rsize x / 8)
+      (λ n.
+        let p : floor (h + rsize x) ≡ floor h = omega (arith, s .at, s .lost-small, rsize-words x) in
+        near (vacated-none (length im) X₁ Y₁ (λ z. omega arith) p) p (omega arith))
+      turned-far
 
 -- ---- turned, Y at 0
 

@@ -24,11 +24,7 @@ pub mod Settled
 pub mod Safe
 pub mod Void
 pub mod Repair
-pub mod Forget
 pub mod Clean
-pub mod StraightClean
-pub mod Carry
-pub mod StraightClose
 pub mod Top
 pub mod Laid
 pub mod Kinds

@@ -95,3 +95,6 @@ pub straight-length : {im : List ℕ} {a l : ℕ} {gap lost : List ℕ} {h : ℕ
 straight-length {gap = gap} {lost = lost} {high = high} {seg = seg} {free = free} s =
     ap length (s .is) ∙ length-append gap (lost ++ lay high (seg-onto seg free)) ∙ ap (λ (n : ℕ). length gap + n) (length-append lost (lay high (seg-onto seg free)))
     ∙ omega (arith, s .gap-length, s .lost-length, s .at, length-lay high (seg-onto seg free), length-seg seg free)
+
+abbrev pub recontent : List ℕ → Rec → Rec
+recontent c r = record { low = r .low; status = r .status; name = r .name; content = c }

@@ -24,8 +24,7 @@ use Rattle.spec.specs.History.{Request, plan, steps-of, Ledger, with-file, with
 use Rattle.spec.specs.Demand.{Steps-sound, Mounted, Shows, Bytes-put, Demand-3}
 use Rattle.history.specs.Steps.{run-append}
 use Rattle.history.specs.Safe.{Safe, safe-cut, safe-end, safe-sound, sound-append}
-use Rattle.history.specs.Carry.{carried-done, carried-cut}
-use Rattle.history.specs.Top.{still-keeps, demand-by}
+use Rattle.history.specs.Top.{still-keeps, demand-by, carried-done, carried-cut}
 use Rattle.history.specs.Kinds.{Inv, Bytes, Rested}
 use Rattle.history.specs.Settling.{rested-reads}
 use Rattle.history.specs.OkLaws.{old-file, Old}
