@@ -18,7 +18,7 @@ use Rattle.spec.specs.Reading.{limit}
 use Rattle.spec.specs.Mount.{free-sectors, dirty, erase-steps}
 use Rattle.history.specs.Lay.{blanks, lay}
 use Rattle.history.specs.Walk.{Quiet}
-use Rattle.history.specs.Quiet.{quiet-blanks, quiet-append, quiet-drop, quiet-take}
+use Rattle.history.specs.Quiet.{quiet-append, quiet-drop, quiet-take, quiet-ff}
 use Rattle.history.specs.Seg.{Seg, seg-none, seg-onto}
 use Rattle.history.specs.Erase.{erase-mid, length-sector, sector-is}
 use Rattle.history.specs.Lists.{keep-yes, keep-no, each-map, each-append}
@@ -31,9 +31,6 @@ use Rattle.history.specs.LaidErase.{erase-length, open-ff}
 use Rattle.history.specs.StraightErase.{second-ff}
 
 -- ---- one sector of a part without marks
-
-pub quiet-ff : (n : ℕ) (s : List ℕ) → s ≡ blanks (8 * n) → Quiet n s
-quiet-ff n s e = subst (λ (l : List ℕ). Quiet n l) (sym e) (quiet-blanks n)
 
 quiet-swap : (j n r : ℕ) (u q w s : List ℕ) → length u ≡ 8 * j → length q ≡ 8 * n → length s ≡ 8 * n → Quiet n s → Quiet (j + (n + r)) (u ++ (q ++ w)) → Quiet (j + (n + r)) (u ++ (s ++ w))
 quiet-swap j n r u q w s lu lq ls qs h =

@@ -4,8 +4,7 @@ use native.Mathlib.Omega.{arith}
 use mathlib.Core.Path.{_≡_, refl, sym, ap, ap₂, _∙_, subst}
 use mathlib.Core.Bool.{true}
 use mathlib.Core.List.{List, [], _∷_, _++_, append-nil}
-use lib.ListN.{length, set, length-set, length-replicate}
-use Rattle.spec.specs.declared.Next.{Next}
+use lib.ListN.{length, set, length-set}
 use Rattle.spec.specs.declared.Ending.{Ending}
 use Rattle.spec.specs.Step.{Image, Step, program, run, moved}
 use Rattle.spec.specs.Basics.{Each}
@@ -23,7 +22,6 @@ use Rattle.history.specs.Seg.{seg-none}
 use Rattle.history.specs.Straight.{Straight}
 use Rattle.history.specs.StraightEdit.{other, front-part, front-length, split-at, run-behind}
 use Rattle.history.specs.Turned.{Turned, marker}
-use Rattle.history.specs.Marker.{opens-blanks}
 use Rattle.history.specs.Whole.{torn-wrap-whole}
 use Rattle.history.specs.Laid.{laid-turned, tail-clear}
 use Rattle.history.specs.Safe.{sound-past}
@@ -36,6 +34,7 @@ use Rattle.history.specs.Idle.{Mends, mends-3, starts-clean, two-plain}
 use Rattle.history.specs.Vacant.{rested-of, rested-inv}
 use Rattle.history.specs.Entries.{entries-fine}
 use Rattle.history.specs.Lists.{some-behind}
+use Rattle.history.specs.Marker.{turned-gap}
 
 -- from its second byte on
 abbrev finish : List Step
@@ -70,23 +69,7 @@ module _ {l : Ledger} {im : Image} (a m c k : ℕ) {h : ℕ} {lost : List ℕ} {
 
   -- F0 written
   turned : Turned (run im (moved at finish)) a m lost h [] seg-none (512 * a) (blanks (4096 * a)) (x ∷ ys) (marker k)
-  turned =
-      record {
-        is = run-behind (x ∷ ys) [] (sym (append-nil (x ∷ ys))) s finish tt;
-        at = s .at;
-        some-below = z;
-        below = omega arith;
-        free-length = length-replicate {A = ℕ} (4096 * a) 255 ∙ omega arith;
-        free-quiet = s .gap-quiet;
-        opened = Next.Clear;
-        opens = opens-blanks (4096 * a) (omega arith);
-        lost-length = s .lost-length;
-        lost-small = s .lost-small;
-        lost-quiet = s .lost-quiet;
-        fine-low = tt;
-        walked = tt;
-        fine-high = s .fine;
-      }
+  turned = turned-gap s (run im (moved at finish)) (marker k) (run-behind (x ∷ ys) [] (sym (append-nil (x ∷ ys))) s finish tt) refl z
 
   rested : Rested l (run im (moved at finish)) (reading-from (run im (moved at finish)) h)
   rested =

@@ -65,3 +65,12 @@ pub data Tail (h S : ℕ) (t : Bool) (seg : Seg) (below free : List ℕ) (T : �
   tail-floor : free ≡ [] → t ≡ true → T ≡ S + seg-size seg → u ≡ true → Tail h S t seg below free T u
   tail-N : free ≡ [] → t ≡ false → floor h ≡ 0 → T ≡ S + seg-size seg → u ≡ false → Tail h S t seg below free T u
   tail-turn : (s : List ℕ) → free ≡ [] → t ≡ false → (seg ≡ seg-none → ⊥) → below ≡ blanks 8 ++ s → T ≡ 0 → u ≡ true → Tail h S t seg below free T u
+
+-- An image with nothing unfinished and all its free bytes FF, with the tail as it is read.
+pub record Bare (h : ℕ) (es : List Entry) (im : Image) : Type 0 where
+  pub S : ℕ
+  pub B : ℕ
+  pub F : ℕ
+  pub t : Bool
+  pub laid : Laid im h S t es seg-none (blanks B) (blanks F)
+  pub tail : Tail h S t seg-none (blanks B) (blanks F) S t

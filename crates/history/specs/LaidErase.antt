@@ -26,8 +26,8 @@ use Rattle.history.specs.StraightEdit.{straight-length}
 use Rattle.history.specs.StraightErase.{Cleaned, rsize-words, old-head, to-m3, vacated-are, done}
 use Rattle.history.specs.Turned.{Turned, End, exact, marker, end-bytes, Opens, opens-ff}
 use Rattle.history.specs.TurnedErase.{turned-m3, last-head, zero-m3, zero-quiet}
-use Rattle.history.specs.Laid.{Laid, laid-straight, laid-turned, Tail, tail-clear, tail-floor, tail-N, tail-turn}
-use Rattle.history.specs.Vacant.{Vacant, vacant-at, Bare, good-mod}
+use Rattle.history.specs.Laid.{Laid, laid-straight, laid-turned, Tail, tail-clear, tail-floor, tail-N, tail-turn, Bare}
+use Rattle.history.specs.Vacant.{Vacant, vacant-at, good-mod}
 use Rattle.history.specs.LaidForget.{turned-length}
 
 -- X is left behind: with no erase, or with k + 1 of them

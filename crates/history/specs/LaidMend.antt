@@ -21,12 +21,13 @@ use Rattle.history.specs.Steps.{run-append}
 use Rattle.history.specs.Lists.{keep-append, none-at}
 use Rattle.history.specs.Repair.{mend-steps, mend-done}
 use Rattle.history.specs.Safe.{Safe, safe-map}
-use Rattle.history.specs.Laid.{Laid, laid-straight, laid-turned, Hole, Tail, tail-clear, tail-floor, tail-N, tail-turn}
+use Rattle.history.specs.Laid.{Laid, laid-straight, laid-turned, Hole, Tail, tail-clear, tail-floor, tail-N, tail-turn, Bare}
 use Rattle.history.specs.Kinds.{place}
 use Rattle.history.specs.LaidEdit.{laid-below, hole-of}
-use Rattle.history.specs.Vacant.{take-blanks, good-mod, limit-is, Vacant, vacant-long, vacant-of, vacant-tail, vacant-blank, Bare}
+use Rattle.history.specs.Vacant.{take-blanks, good-mod, limit-is, Vacant, vacant-long, vacant-of, vacant-tail, vacant-blank}
 use Rattle.history.specs.LaidErase.{no-map, join-ff, open-ff, clear-ff}
-use Rattle.history.specs.EraseFree.{quiet-ff, Mid, free-quiet, erase-safe}
+use Rattle.history.specs.EraseFree.{Mid, free-quiet, erase-safe}
+use Rattle.history.specs.Quiet.{quiet-ff}
 
 -- ---- all the erases: FF
 

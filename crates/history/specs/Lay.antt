@@ -27,6 +27,10 @@ pad n = up8 n - n
 abbrev pub lens : ℕ → List ℕ → List ℕ
 lens d s = d % 256 ∷ d / 256 % 256 ∷ d / 65536 % 256 ∷ d / 16777216 % 256 ∷ s
 
+-- the header of a record that is not committed, for d bytes of data, in front of t
+abbrev pub header : ℕ → List ℕ → List ℕ
+header d t = 165 ∷ 90 ∷ 254 ∷ 255 ∷ lens d t
+
 abbrev pub padded : List ℕ → List ℕ → List ℕ
 padded w s = w ++ (blanks (pad (length w)) ++ s)
 

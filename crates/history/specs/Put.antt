@@ -10,7 +10,7 @@ use Rattle.spec.specs.Step.{Step, program, apply, run, bytes-at}
 use Rattle.spec.specs.Geometry.{up8}
 use Rattle.spec.specs.Record.{size-of, Rec}
 use Rattle.spec.specs.Write.{header-steps, name-steps, data-steps, record-steps}
-use Rattle.history.specs.Lay.{blanks, pad, lens, onto, Plain, Fit}
+use Rattle.history.specs.Lay.{blanks, pad, onto, Plain, Fit, header}
 use Rattle.history.specs.Last.{Begun, begun-ff, begun-5a, begun-none, held}
 use Rattle.history.specs.Quiet.{blank-split}
 use Rattle.history.specs.Steps.{cut-one, cut-append, run-append, Programs, length-bytes, write-over, write-blank}
@@ -25,9 +25,6 @@ pub record Opened (M f : ℕ) (s l : List ℕ) : Type 0 where
   pub is : l ≡ seg-onto seg (blanks left ++ s)
   pub sum : seg-size seg + left ≡ f
   pub bound : seg-size seg ≤ M
-
-abbrev header : ℕ → List ℕ → List ℕ
-header d t = 165 ∷ 90 ∷ 254 ∷ 255 ∷ lens d t
 
 -- FF after FF
 joined-blanks : (a b c m : ℕ) (s : List ℕ) → m ≡ suc (a + (b + c)) → blanks m ++ s ≡ 255 ∷ (blanks a ++ (blanks b ++ (blanks c ++ s)))

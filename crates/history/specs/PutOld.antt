@@ -24,11 +24,10 @@ use Rattle.history.specs.Store.{alive, Unmarked, f8-alive}
 use Rattle.history.specs.Put.{file}
 use Rattle.history.specs.Safe.{Safe}
 use Rattle.history.specs.StraightEdit.{restatus}
-use Rattle.history.specs.Laid.{Laid, Tail}
+use Rattle.history.specs.Laid.{Laid, Tail, Bare}
 use Rattle.history.specs.Kinds.{Bytes, Starts, Ok, quiet, shadow, Inv, Rested, Live-bytes}
 use Rattle.history.specs.LaidEdit.{restatus-laid, status-at, entry-inside}
 use Rattle.history.specs.OkLaws.{ok-same, ok-over, ok-unshadow}
-use Rattle.history.specs.PutWrite.{Rest}
 
 -- ---- the first record is START, the others are plain
 
@@ -77,19 +76,19 @@ status-sound xs ys e d b k = (omega (arith, entry-inside xs ys e d), subst (λ (
 
 -- ---- a quiet image
 
-pub quiet-inv : {im : Image} {h : ℕ} {es : List Entry} {l : Ledger} → good-length (length im) ≡ true → Rest im h es → Starts es → Ok es l → Inv l im
-quiet-inv g r st ok = record { good = g; kind = quiet (r .B) (r .F) (r .laid) (r .tail) st ok }
+pub bare-inv : {im : Image} {h : ℕ} {es : List Entry} {l : Ledger} → good-length (length im) ≡ true → Bare h es im → Starts es → Ok es l → Inv l im
+bare-inv g r st ok = record { good = g; kind = quiet (r .B) (r .F) (r .laid) (r .tail) st ok }
 
-pub rest-read : {im : Image} {h : ℕ} {es : List Entry} → Rest im h es → Reading
-rest-read {im} {h} {es} r = read (length im) h (r .S) (r .t) es Ending.Tail
+pub bare-read : {im : Image} {h : ℕ} {es : List Entry} → Bare h es im → Reading
+bare-read {im} {h} {es} r = read (length im) h (r .S) (r .t) es Ending.Tail
 
-pub rest-head : {im : Image} {h : ℕ} {es : List Entry} (r : Rest im h es) → rest-read r .place .head ≡ h
-unfolding rest-read
-rest-head r = refl
+pub bare-head : {im : Image} {h : ℕ} {es : List Entry} (r : Bare h es im) → bare-read r .place .head ≡ h
+unfolding bare-read
+bare-head r = refl
 
-pub rest-rested : {im : Image} {h : ℕ} {es : List Entry} {l : Ledger} → good-length (length im) ≡ true → (r : Rest im h es) → Starts es → Ok es l → Rested l im (rest-read r)
-unfolding rest-read
-rest-rested {im} {h} {es} g r st ok = record { good = g; h = h; S = r .S; B = r .B; F = r .F; t = r .t; es = es; laid = r .laid; tail = r .tail; starts = st; ok = ok; is = refl }
+pub bare-quiet : {im : Image} {h : ℕ} {es : List Entry} {l : Ledger} → good-length (length im) ≡ true → (r : Bare h es im) → Starts es → Ok es l → Rested l im (bare-read r)
+unfolding bare-read
+bare-quiet {im} {h} {es} g r st ok = record { good = g; h = h; S = r .S; B = r .B; F = r .F; t = r .t; es = es; laid = r .laid; tail = r .tail; starts = st; ok = ok; is = refl }
 
 -- ---- FC to F8
 
@@ -134,7 +133,7 @@ module _ {im : Image} {h S : ℕ} {t : Bool} (B F : ℕ) (xs ys : List Entry) (e
 
 -- ---- the old file's 00, behind the commit of e
 
-module _ {im : Image} {h : ℕ} (xs ys : List Entry) (o e : Entry) (l : Ledger) (good : good-length (length im) ≡ true) (r : Rest im h ((xs ++ (o ∷ ys)) ++ (e ∷ []))) (st : Starts (xs ++ (o ∷ ys))) (ok : Ok (xs ++ (o ∷ ys)) l)
+module _ {im : Image} {h : ℕ} (xs ys : List Entry) (o e : Entry) (l : Ledger) (good : good-length (length im) ≡ true) (r : Bare h ((xs ++ (o ∷ ys)) ++ (e ∷ [])) im) (st : Starts (xs ++ (o ∷ ys))) (ok : Ok (xs ++ (o ∷ ys)) l)
     (f8 : named 0xF8 o ≡ true) (fc : named 0xFC e ≡ true) (same : name-of e ≡ name-of o) (plain : Unmarked e) (b : Bytes (content-of e)) where
   abbrev new : Ledger
   new = with-file (name-of e) (content-of e) l
@@ -151,7 +150,7 @@ module _ {im : Image} {h : ℕ} (xs ys : List Entry) (o e : Entry) (l : Ledger) 
   o-bytes : Bytes (content-of o)
   o-bytes = each-at Live-bytes xs ys o (ok .bytes) (f8-alive o f8)
 
-  pub deleted : Rest (set im (o .at + 2) 0) h (xs ++ (gone o ∷ (ys ++ (e ∷ []))))
+  pub deleted : Bare h (xs ++ (gone o ∷ (ys ++ (e ∷ [])))) (set im (o .at + 2) 0)
   deleted = record { S = r .S; B = r .B; F = r .F; t = r .t; laid = restatus-laid xs (ys ++ (e ∷ [])) o laid 0 st-00; tail = r .tail }
 
   still-good : good-length (length (set im (o .at + 2) 0)) ≡ true
@@ -167,8 +166,8 @@ module _ {im : Image} {h : ℕ} (xs ys : List Entry) (o e : Entry) (l : Ledger) 
   delete-safe = (
     record { good = good; kind = shadow (r .B) (r .F) xs (ys ++ (e ∷ [])) o laid (r .tail) starts (ok-over xs ys o e l ok f8 fc same b .1) o-bytes (ok-over xs ys o e l ok f8 fc same b .0) },
     status-sound xs (ys ++ (e ∷ [])) o laid 0 refl,
-    quiet-inv still-good deleted gone-starts gone-ok,
+    bare-inv still-good deleted gone-starts gone-ok,
   )
 
-  pub delete-rested : Rested new (set im (o .at + 2) 0) (rest-read deleted)
-  delete-rested = rest-rested still-good deleted gone-starts gone-ok
+  pub delete-rested : Rested new (set im (o .at + 2) 0) (bare-read deleted)
+  delete-rested = bare-quiet still-good deleted gone-starts gone-ok

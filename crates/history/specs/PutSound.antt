@@ -14,7 +14,7 @@ use Rattle.spec.specs.Bytes.{is-printable}
 use Rattle.spec.specs.Record.{size-of, name-ok, ends-in-slash}
 use Rattle.spec.specs.Write.{header-steps, name-steps, data-steps, commit-steps, record-steps}
 use Rattle.spec.specs.Demand.{Steps-sound}
-use Rattle.history.specs.Lay.{blanks, pad, lens, Plain, Fit}
+use Rattle.history.specs.Lay.{blanks, pad, Plain, Fit, header}
 use Rattle.history.specs.Lists.{and-left}
 use Rattle.history.specs.Quiet.{blank-split}
 use Rattle.history.specs.Put.{open-steps, bytes-append}
@@ -63,9 +63,6 @@ plain-bytes : (n : List ℕ) → Plain n → Each (λ b. b < 256) (n ++ (0 ∷ [
 plain-bytes [] p = (omega arith, tt)
 plain-bytes (x ∷ n) p = (omega (arith, p .0 .1), plain-bytes n (p .1))
 
-abbrev header : ℕ → List ℕ
-header d = 165 ∷ 90 ∷ 254 ∷ 255 ∷ lens d []
-
 header-sound : (d : ℕ) (s : List ℕ) → Steps-sound (blanks 8 ++ s) (header-steps d)
 header-sound d s = (
   (omega arith, refl),
@@ -81,7 +78,7 @@ header-sound d s = (
   ),
 )
 
-body-sound : (n c s : List ℕ) (f : ℕ) → Fit (length c) n → Bytes c → size-of (length n) (length c) ≤ f → Steps-sound (header (length c) ++ (blanks (f - 8) ++ s)) (name-steps n ++ data-steps (length n) c)
+body-sound : (n c s : List ℕ) (f : ℕ) → Fit (length c) n → Bytes c → size-of (length n) (length c) ≤ f → Steps-sound (header (length c) [] ++ (blanks (f - 8) ++ s)) (name-steps n ++ data-steps (length n) c)
 body-sound n c s f g b h =
     let d : ℕ = length c in
     let k : ℕ = length n + 1 in
@@ -92,13 +89,13 @@ body-sound n c s f g b h =
     let split : blanks (f - 8) ++ s ≡ blanks k ++ (blanks p ++ (blanks m ++ s)) =
     ap (λ (z : List ℕ). z ++ s) (blank-split k (p + m) (f - 8) (omega arith) ∙ ap (λ (z : List ℕ). blanks k ++ z) (blank-split p m (p + m) refl)) ∙ simp append-assoc in
     let names : name-steps n ≡ bytes-at 8 w = sym (bytes-append 8 n (0 ∷ [])) in
-    let after : run (header d ++ (blanks (f - 8) ++ s)) (name-steps n) ≡ (header d ++ (w ++ blanks p)) ++ (blanks m ++ s) =
-    ap (λ (z : List Step). run (header d ++ (blanks (f - 8) ++ s)) z) names ∙ ap (λ (z : List ℕ). run (header d ++ z) (bytes-at 8 w)) split
-    ∙ write-over (header d) (blanks k) w (blanks p ++ (blanks m ++ s)) 8 refl (length-replicate k 255 ∙ sym lw) ∙ simp append-assoc in
-    let a : length (header d ++ (w ++ blanks p)) ≡ 8 + up8 (length n + 1) = simp (length-append, length-replicate) (omega arith) in
-    sound-append (header d ++ (blanks (f - 8) ++ s)) (name-steps n) (data-steps (length n) c)
-    (subst (λ (z : List Step). Steps-sound (header d ++ (blanks (f - 8) ++ s)) z) (sym names) (sound-bytes (header d) w s 8 (f - 8) (f - 8 - k) refl (omega arith) (plain-bytes n (g .plain))))
-    (subst (λ (z : List ℕ). Steps-sound z (data-steps (length n) c)) (sym after) (sound-bytes (header d ++ (w ++ blanks p)) c s (8 + up8 (length n + 1)) m (m - d) a (omega arith) b))
+    let after : run (header d [] ++ (blanks (f - 8) ++ s)) (name-steps n) ≡ (header d [] ++ (w ++ blanks p)) ++ (blanks m ++ s) =
+    ap (λ (z : List Step). run (header d [] ++ (blanks (f - 8) ++ s)) z) names ∙ ap (λ (z : List ℕ). run (header d [] ++ z) (bytes-at 8 w)) split
+    ∙ write-over (header d []) (blanks k) w (blanks p ++ (blanks m ++ s)) 8 refl (length-replicate k 255 ∙ sym lw) ∙ simp append-assoc in
+    let a : length (header d [] ++ (w ++ blanks p)) ≡ 8 + up8 (length n + 1) = simp (length-append, length-replicate) (omega arith) in
+    sound-append (header d [] ++ (blanks (f - 8) ++ s)) (name-steps n) (data-steps (length n) c)
+    (subst (λ (z : List Step). Steps-sound (header d [] ++ (blanks (f - 8) ++ s)) z) (sym names) (sound-bytes (header d []) w s 8 (f - 8) (f - 8 - k) refl (omega arith) (plain-bytes n (g .plain))))
+    (subst (λ (z : List ℕ). Steps-sound z (data-steps (length n) c)) (sym after) (sound-bytes (header d [] ++ (w ++ blanks p)) c s (8 + up8 (length n + 1)) m (m - d) a (omega arith) b))
 
 pub open-sound : (n c s : List ℕ) (f : ℕ) → Fit (length c) n → Bytes c → size-of (length n) (length c) ≤ f → Steps-sound (blanks f ++ s) (open-steps n c)
 open-sound n c s f g b h =

@@ -6,7 +6,6 @@ use mathlib.Core.Path.{_≡_, refl, sym, ap, _∙_, subst}
 use mathlib.Core.Bool.{Bool, true, false}
 use mathlib.Core.List.{List, [], _∷_, _++_}
 use lib.ListN.{length, take, set, length-append, length-replicate, length-set}
-use Rattle.spec.specs.declared.Next.{Next}
 use Rattle.spec.specs.Step.{Image, Step, program, erase, apply, run, moved}
 use Rattle.spec.specs.Geometry.{floor, good-length}
 use Rattle.spec.specs.Record.{size-of, Entry}
@@ -15,14 +14,13 @@ use Rattle.spec.specs.Demand.{Sound, Steps-sound}
 use Rattle.spec.specs.History.{Ledger}
 use Rattle.history.specs.Lay.{blanks, onto, Fit, low-record, st-fc}
 use Rattle.history.specs.Last.{held}
-use Rattle.history.specs.Quiet.{blank-split, quiet-blanks}
-use Rattle.history.specs.Walk.{Quiet}
-use Rattle.history.specs.Turned.{Opens, opens-ff, opens-none}
+use Rattle.history.specs.Quiet.{blank-split, quiet-ff}
+use Rattle.history.specs.Turned.{opens-words}
 use Rattle.history.specs.Seg.{Seg, seg-none, seg-torn, seg-cut, seg-held, seg-size}
 use Rattle.history.specs.Steps.{Programs, take-moved, take-programs, run-past, length-moved}
 use Rattle.history.specs.Put.{Opened, open-steps, open-cut, open-done, file, length-record, record-programs}
 use Rattle.history.specs.Safe.{Safe, safe-from, sound-past}
-use Rattle.history.specs.Laid.{Laid, laid-straight, laid-turned, Hole, Tail, tail-clear, tail-floor, tail-N, tail-turn}
+use Rattle.history.specs.Laid.{Laid, laid-straight, laid-turned, Hole, Tail, tail-clear, tail-floor, tail-N, tail-turn, Bare}
 use Rattle.history.specs.Kinds.{Bytes, Starts, Ok, Kind, quiet, Inv}
 use Rattle.history.specs.LaidEdit.{laid-below, hole-of, turn-exact}
 use Rattle.history.specs.PutSound.{open-sound, commit-last}
@@ -55,14 +53,6 @@ free-words (laid-turned {f = f} s a b c e) = (f, s .free-length)
 
 blank-words : {im : Image} {h S : ℕ} {t : Bool} {es : List Entry} {seg : Seg} {below : List ℕ} (F : ℕ) → Laid im h S t es seg below (blanks F) → (f : ℕ) × (F ≡ 8 * f)
 blank-words F d = let w = free-words d in (w .0, sym (length-replicate {A = ℕ} F 255) ∙ w .1)
-
--- FF in words: quiet, and how it begins
-quiet-words : (m k : ℕ) → k ≡ 8 * m → Quiet m (blanks k)
-quiet-words m k e = subst (λ (i : ℕ). Quiet m (blanks i)) (sym e) (quiet-blanks m)
-
-opens-words : (m k : ℕ) → k ≡ 8 * m → (x : Next) × Opens (blanks k) x
-opens-words zero k e = (Next.Over, subst (λ (i : ℕ). Opens (blanks i) Next.Over) (sym e) opens-none)
-opens-words (suc m) k e = (Next.Clear, subst (λ (l : List ℕ). Opens l Next.Clear) (sym (blank-split 8 (8 * m) k (omega arith))) opens-ff)
 
 -- ---- the tail
 
@@ -102,20 +92,11 @@ quiet-of : {im : Image} {l : Ledger} {h S : ℕ} {t : Bool} {es : List Entry} {s
     (T : ℕ) × (u : Bool) × Tail h S t seg (blanks B) (blanks F) T u → Starts es → Ok es l → Kind im l
 quiet-of B F d tl st ok = quiet B F d (tl .2) st ok
 
--- an image with nothing unfinished, as it is read
-pub record Rest (im : Image) (h : ℕ) (es : List Entry) : Type 0 where
-  pub S : ℕ
-  pub B : ℕ
-  pub F : ℕ
-  pub t : Bool
-  pub laid : Laid im h S t es seg-none (blanks B) (blanks F)
-  pub tail : Tail h S t seg-none (blanks B) (blanks F) S t
-
 -- a chain that ends at N with sectors below has turned
-pub rest-of : {im : Image} {h S : ℕ} {t : Bool} {es : List Entry} (B F : ℕ) → Laid im h S t es seg-none (blanks B) (blanks F) → Rest im h es
-rest-of {im} {h} {S} {t} {es} B F d = go (left-of B F d)
+pub bare-of : {im : Image} {h S : ℕ} {t : Bool} {es : List Entry} (B F : ℕ) → Laid im h S t es seg-none (blanks B) (blanks F) → Bare h es im
+bare-of {im} {h} {S} {t} {es} B F d = go (left-of B F d)
   where
-    go : Left h t B F → Rest im h es
+    go : Left h t B F → Bare h es im
     go (left-some f) = record { S = S; B = B; F = F; t = t; laid = d; tail = tail-clear (blanks (F - 8)) (blank-eight F f) (sym (add-zero S)) refl }
     go (left-floor z e) = record { S = S; B = B; F = F; t = t; laid = d; tail = tail-floor (ap blanks z) e (sym (add-zero S)) e }
     go (left-N z e f) = record { S = S; B = B; F = F; t = t; laid = d; tail = tail-N (ap blanks z) e f (sym (add-zero S)) e }
@@ -151,7 +132,7 @@ module _ {im : Image} {h S : ℕ} {t : Bool} {es : List Entry} (B F : ℕ) (d : 
       let x = opens-words m (o .left) w in
       let laid : Laid im′ h S t es (o .seg) (blanks B) (blanks (o .left)) =
       subst (λ (z : Image). Laid z h S t es (o .seg) (blanks B) (blanks (o .left))) (ap (λ (z : List ℕ). H .pre ++ z) (sym (o .is)) ∙ sym e)
-      (H .plug (o .seg) m (blanks (o .left)) (x .0) (length-replicate {A = ℕ} (o .left) 255 ∙ w) (quiet-words m (o .left) w) (x .1)
+      (H .plug (o .seg) m (blanks (o .left)) (x .0) (length-replicate {A = ℕ} (o .left) 255 ∙ w) (quiet-ff m (blanks (o .left)) (ap blanks w)) (x .1)
       (omega (arith, o .sum, length-replicate {A = ℕ} (o .left) 255, length-replicate {A = ℕ} F 255))) in
       quiet-of B (o .left) laid (tail-of S (o .seg) (left-of B (o .left) laid) (λ i. omega (arith, ap seg-size i, o .sum))) st ok
 
@@ -190,5 +171,5 @@ module _ {im : Image} {h S : ℕ} {t : Bool} {es : List Entry} (B F : ℕ) (d : 
       let e : apply (run im (moved S (open-steps n c))) (program (S + 2) 252) ≡ hole-of d .pre ++ onto (file n c) (blanks left ++ hole-of d .post) =
       ap (λ (y : Image). set y (S + 2) 252) open-is ∙ run-past (hole-of d .pre) (onto (held n c) (blanks left ++ hole-of d .post)) (program 2 252 ∷ []) S (hole-of d .at) tt in
       subst (λ (y : Image). Laid y h (S + z) t (es ++ (record { at = S; it = file n c } ∷ [])) seg-none (blanks B) (blanks left)) (sym e)
-      (hole-of d .grow (file n c) m (blanks left) (x .0) (record { low-ok = low-record; status-ok = st-fc; fit = g }) refl (length-replicate {A = ℕ} left 255 ∙ w) (quiet-words m left w) (x .1)
+      (hole-of d .grow (file n c) m (blanks left) (x .0) (record { low-ok = low-record; status-ok = st-fc; fit = g }) refl (length-replicate {A = ℕ} left 255 ∙ w) (quiet-ff m (blanks left) (ap blanks w)) (x .1)
       (omega (arith, length-replicate {A = ℕ} left 255, length-replicate {A = ℕ} F 255)))

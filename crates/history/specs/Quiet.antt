@@ -25,6 +25,9 @@ pub quiet-blanks : (k : ℕ) → Quiet k (blanks (8 * k))
 quiet-blanks zero = tt
 quiet-blanks (suc k) = rw (blank-split 8 (8 * k) (8 * suc k) (omega arith)) (mark-ff (blanks 6 ++ blanks (8 * k)), quiet-blanks k)
 
+pub quiet-ff : (n : ℕ) (s : List ℕ) → s ≡ blanks (8 * n) → Quiet n s
+quiet-ff n s e = subst (λ (l : List ℕ). Quiet n l) (sym e) (quiet-blanks n)
+
 pub quiet-append : (j k : ℕ) (p s : List ℕ) → length p ≡ 8 * j → Quiet j p → Quiet k s → Quiet (j + k) (p ++ s)
 quiet-append zero k [] s e q r = rw zero-add r
 quiet-append zero k (x ∷ p) s e q r = absurd (omega arith)

@@ -1,5 +1,5 @@
 -- Images whose chain has turned: where the bytes are, that the head is found, and what is read from it.
-use Prim.Native.Nat.{ℕ, suc, _+_, _*_, _≤_, _<_}
+use Prim.Native.Nat.{ℕ, suc, _+_, _*_, _≤_, _<_, _-_, zero}
 use native.Mathlib.Omega.{arith}
 use mathlib.Core.Path.{_≡_, sym, ap, _∙_, subst}
 use mathlib.Core.Bool.{true, false}
@@ -17,7 +17,7 @@ use Rattle.history.specs.Last.{Ends, Stops, stops-clear, stops-over, wra
 use Rattle.history.specs.Walk.{Quiet, Walked, Head-low, is-START, is-CLEAN}
 use Rattle.history.specs.Head.{Front, front-gap, front-begun, front-low, Reaches, head-start, head-clean}
 use Rattle.history.specs.Shape.{chain-of, image, shape-turned, turns-wrap, turns-over, Low-end, low-clear, low-over}
-use Rattle.history.specs.Quiet.{quiet-append}
+use Rattle.history.specs.Quiet.{quiet-append, blank-split}
 use Rattle.history.specs.Seg.{Seg, seg-none, seg-torn, seg-cut, seg-held, seg-onto, seg-size, seg-entries, seg-open, seg-append, length-seg, seg-ends, seg-reaches}
 
 -- what stands behind the records from the head on
@@ -74,6 +74,15 @@ opens-stops at opens-none = stops-over at
 opens-end : {free : List ℕ} {x : Next} → Opens free x → Low-end x
 opens-end opens-ff = low-clear
 opens-end opens-none = low-over
+
+-- so many FF
+pub opens-blanks : (k : ℕ) → 8 ≤ k → Opens (blanks k) Next.Clear
+opens-blanks k h = subst (λ (l : List ℕ). Opens l Next.Clear) (sym (blank-split 8 (k - 8) k (omega arith))) opens-ff
+
+-- m words of FF
+pub opens-words : (m k : ℕ) → k ≡ 8 * m → (x : Next) × Opens (blanks k) x
+opens-words zero k e = (Next.Over, subst (λ (i : ℕ). Opens (blanks i) Next.Over) (sym e) opens-none)
+opens-words (suc m) k e = (Next.Clear, opens-blanks k (omega arith))
 
 module _ {im : List ℕ} {a l : ℕ} {lost : List ℕ} {h : ℕ} {low : List Rec} {seg : Seg} {f : ℕ} {free : List ℕ} {x : Rec} {ys : List Rec} {end : End} (s : Turned im a l lost h low seg f free (x ∷ ys) end) where
   abbrev rest : List ℕ

@@ -27,7 +27,7 @@ use Rattle.history.specs.Safe.{Safe}
 use Rattle.history.specs.Store.{alive, Unmarked}
 use Rattle.history.specs.Lists.{and-left}
 use Rattle.history.specs.Repair.{blank-is}
-use Rattle.history.specs.Laid.{Laid, laid-straight, laid-turned, Hole, Tail, tail-clear, tail-floor, tail-N, tail-turn, low-high}
+use Rattle.history.specs.Laid.{Laid, laid-straight, laid-turned, Hole, Tail, tail-clear, tail-floor, tail-N, tail-turn, low-high, Bare}
 use Rattle.history.specs.Kinds.{Ok, Starts, place, quiet, vacated, Inv, Rested}
 use Rattle.history.specs.LaidEdit.{laid-first, laid-limit, laid-head, hole-of, relow-laid}
 use Rattle.history.specs.OkLaws.{ok-same}
@@ -173,14 +173,6 @@ vacant-of {im} {h} {S} {t} {es} {below} {free} d g s e b =
     }
 
 -- ---- bare
-
-pub record Bare (h : ℕ) (es : List Entry) (im : Image) : Type 0 where
-  pub S : ℕ
-  pub B : ℕ
-  pub F : ℕ
-  pub t : Bool
-  pub laid : Laid im h S t es seg-none (blanks B) (blanks F)
-  pub tail : Tail h S t seg-none (blanks B) (blanks F) S t
 
 pub rested-of : {l : Ledger} {im : Image} {h S : ℕ} (B F : ℕ) {t : Bool} {es : List Entry} → good-length (length im) ≡ true → Laid im h S t es seg-none (blanks B) (blanks F) →
     Tail h S t seg-none (blanks B) (blanks F) S t → Starts es → Ok es l → Rested l im (reading-from im h)

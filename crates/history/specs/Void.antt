@@ -10,7 +10,7 @@ use Rattle.spec.specs.Step.{Image, Step, program, run}
 use Rattle.spec.specs.Geometry.{up8}
 use Rattle.spec.specs.Record.{size-of, Rec, Entry}
 use Rattle.spec.specs.Mount.{torn-steps, void-steps, last-steps}
-use Rattle.history.specs.Lay.{blanks, pad, lens, onto, lay, All-fine, low-record, st-00}
+use Rattle.history.specs.Lay.{blanks, pad, onto, lay, All-fine, low-record, st-00, header}
 use Rattle.history.specs.Last.{begun-5a, begun-end, held, begun}
 use Rattle.history.specs.Quiet.{blank-split}
 use Rattle.history.specs.Seg.{Seg, seg-none, seg-torn, seg-cut, seg-held, seg-onto, seg-size}
@@ -33,22 +33,17 @@ voided (seg-torn c x y z w t b m) = dead [] [] ∷ []
 voided (seg-cut d n f) = dead n (blanks d) ∷ []
 voided (seg-held n c f) = dead n c ∷ []
 
--- the missing 00: behind the header and the name
-header : ℕ → List ℕ
-header d = 165 ∷ 90 ∷ 254 ∷ 255 ∷ lens d []
-
 set-end : (H n X : List ℕ) → length H ≡ 8 → set (H ++ (n ++ (255 ∷ X))) (8 + length n) 0 ≡ H ++ (n ++ (0 ∷ X))
 set-end H n X e =
     ap (λ (x : List ℕ). set x (8 + length n) 0) (sym (append-assoc H n (255 ∷ X))) ∙ set-at (H ++ n) 255 X 0 (8 + length n) (length-append H n ∙ ap (λ (k : ℕ). k + length n) e)
     ∙ append-assoc H n (0 ∷ X)
 
 end-name : (d : ℕ) (n s : List ℕ) → set (begun d n s) (8 + length n) 0 ≡ onto (held n (blanks d)) s
-unfolding header
 end-name d n s =
     let l : length (blanks d) ≡ d = length-replicate {A = ℕ} d 255 in
     let v : blanks (up8 d) ++ s ≡ blanks d ++ (blanks (pad d) ++ s) =
     ap (λ (x : List ℕ). x ++ s) (blank-split d (pad d) (up8 d) (omega arith)) ∙ append-assoc (blanks d) (blanks (pad d)) s in
-    set-end (header d) n (blanks (pad (length n + 1)) ++ (blanks (up8 d) ++ s)) refl ∙ rw (l, v)
+    set-end (header d []) n (blanks (pad (length n + 1)) ++ (blanks (up8 d) ++ s)) refl ∙ rw (l, v)
 
 pub void-run : (g : Seg) (s : List ℕ) → run (seg-onto g s) (void-rel g) ≡ lay (voided g) s
 void-run seg-none s = refl

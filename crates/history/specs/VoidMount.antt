@@ -33,7 +33,7 @@ use Rattle.history.specs.Settled.{one-none, two-none}
 use Rattle.history.specs.Whole.{is-clean-0}
 use Rattle.history.specs.Legal.{Ruled}
 use Rattle.history.specs.Void.{void-rel, void-run, void-programs, void-cut, last-end}
-use Rattle.history.specs.Laid.{Laid, Tail, tail-clear, tail-floor, tail-N, tail-turn, Hole}
+use Rattle.history.specs.Laid.{Laid, Tail, tail-clear, tail-floor, tail-N, tail-turn, Hole, Bare}
 use Rattle.history.specs.LaidEdit.{laid-fine, hole-of}
 use Rattle.history.specs.LaidRead.{start-reads}
 use Rattle.history.specs.OkLaws.{ok-add}
@@ -43,7 +43,7 @@ use Rattle.history.specs.Rules.{calm-of, seg-dead, seg-plain}
 use Rattle.history.specs.Idle.{Mends, mends-3}
 use Rattle.history.specs.Vacant.{rested-of, rested-inv}
 use Rattle.history.specs.EraseFree.{free-quiet}
-use Rattle.history.specs.PutWrite.{Rest, rest-of}
+use Rattle.history.specs.PutWrite.{bare-of}
 use Rattle.history.specs.PutOld.{starts-end}
 use Rattle.history.specs.Voiding.{Voids, voids}
 
@@ -143,7 +143,7 @@ module _ {l : Ledger} {im : Image} {h S T : ℕ} (B F : ℕ) {t u : Bool} {es : 
 
   -- with sectors below and nothing free behind it the chain has turned
   left-rested : Rested l (H .pre ++ onto (v .rec) rest) (reading-from (H .pre ++ onto (v .rec) rest) h)
-  left-rested = let r : Rest (H .pre ++ onto (v .rec) rest) h (es ++ (gone ∷ [])) = rest-of B F left-laid in rested-of (r .B) (r .F) left-good (r .laid) (r .tail) left-starts left-ok
+  left-rested = let r : Bare h (es ++ (gone ∷ [])) (H .pre ++ onto (v .rec) rest) = bare-of B F left-laid in rested-of (r .B) (r .F) left-good (r .laid) (r .tail) left-starts left-ok
 
   void-rests : Rests l im (moved S (void-rel g)) h
   void-rests =
