@@ -36,7 +36,7 @@ use Rattle.history.specs.Vacant.{first-is}
 kind-perm : {k l : Ledger} → List·Permᴰ k l → (im : Image) → Kind im k → Kind im l
 kind-perm {k} {l} p im (quiet B F {es = es} d e s o) = quiet B F d e s (ok-perm es k l p o)
 kind-perm {k} {l} p im (half a m c j {h} {lost} {x} {ys} s b z st o) = half a m c j s b z st (ok-perm _ k l p o)
-kind-perm {k} {l} p im (shadow B F xs ys o d e s h b ok) = shadow B F xs ys o d e s h b (ok-perm (xs ++ ys) k l p ok)
+kind-perm {k} {l} p im (shadow B F xs ys o d e s h ok) = shadow B F xs ys o d e s h (ok-perm (xs ++ ys) k l p ok)
 kind-perm {k} {l} p im (clean B F {x = x} {y} {es} d e a b c m o) = clean B F d e a b c m (ok-perm (x ∷ y ∷ es) k l p o)
 kind-perm {k} {l} p im (both B F {x = x} {y} {es} d e a b c y0 f m o) = both B F d e a b c y0 f m (ok-perm (x ∷ y ∷ es) k l p o)
 kind-perm {k} {l} p im (vacated {x = x} {es} d e b a m o) = vacated d e b a m (ok-perm (x ∷ es) k l p o)

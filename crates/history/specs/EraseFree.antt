@@ -27,8 +27,9 @@ use Rattle.history.specs.Laid.{Laid, laid-straight, laid-turned, Hole}
 use Rattle.history.specs.Kinds.{place}
 use Rattle.history.specs.LaidEdit.{laid-below, laid-head, laid-length, hole-of}
 use Rattle.history.specs.Vacant.{laid-eight, take-blanks, good-mod, Vacant, vacant-long}
-use Rattle.history.specs.LaidErase.{erase-length, open-ff}
+use Rattle.history.specs.LaidErase.{erase-length}
 use Rattle.history.specs.StraightErase.{second-ff}
+use Rattle.history.specs.Turned.{open-ff}
 
 -- ---- one sector of a part without marks
 

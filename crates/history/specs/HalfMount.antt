@@ -1,5 +1,5 @@
 -- Mount on a wrap marker that was begun: it is finished, and the chain has turned.
-use Prim.Native.Nat.{ℕ, _+_, _-_, _*_, _≤_}
+use Prim.Native.Nat.{ℕ, _+_, _*_, _≤_}
 use native.Mathlib.Omega.{arith}
 use mathlib.Core.Path.{_≡_, refl, sym, ap, ap₂, _∙_, subst}
 use mathlib.Core.Bool.{true}
@@ -17,13 +17,12 @@ use Rattle.spec.specs.Demand.{Steps-sound}
 use Rattle.spec.specs.History.{Ledger}
 use Rattle.history.specs.Lay.{blanks, sizes, entries-of, Fine, rsize}
 use Rattle.history.specs.Last.{Begun, begun-ff, begun-5a, torn-wrap}
-use Rattle.history.specs.Quiet.{blank-split}
 use Rattle.history.specs.Seg.{seg-none}
 use Rattle.history.specs.Straight.{Straight}
 use Rattle.history.specs.StraightEdit.{other, front-part, front-length, split-at, run-behind}
 use Rattle.history.specs.Turned.{Turned, marker}
 use Rattle.history.specs.Whole.{torn-wrap-whole}
-use Rattle.history.specs.Laid.{laid-turned, tail-clear}
+use Rattle.history.specs.Laid.{laid-turned, clear-ff}
 use Rattle.history.specs.Safe.{sound-past}
 use Rattle.history.specs.Store.{calm-ruled, Finished}
 use Rattle.history.specs.Settled.{one-none, last-none}
@@ -74,7 +73,7 @@ module _ {l : Ledger} {im : Image} (a m c k : ℕ) {h : ℕ} {lost : List ℕ} {
   rested : Rested l (run im (moved at finish)) (reading-from (run im (moved at finish)) h)
   rested =
       rested-of 0 (4096 * a) (ap good-length (length-set (set im (at + 1) 90) (at + 2) 240 ∙ length-set im (at + 1) 90) ∙ good)
-      (laid-turned turned refl refl (sym (append-nil es)) refl) (tail-clear (blanks (4096 * a - 8)) (blank-split 8 (4096 * a - 8) (4096 * a) (omega arith)) refl refl) st ok
+      (laid-turned turned refl refl (sym (append-nil es)) refl) (clear-ff (4096 * a) (omega arith)) st ok
 
 third : (w : Work) (a : ℕ) → Each Finished (w .reading .entries) → w .reading .ending ≡ Ending.TornWrap a → repair-3 w ≡ after w (moved a finish) (w .reading .place .head)
 unfolding repair-3

@@ -66,7 +66,7 @@ pub data Kind (im : Image) (l : Ledger) : Type 0 where
       Starts (entries-of h (x ∷ ys)) → Ok (entries-of h (x ∷ ys)) l → Kind im l
   shadow :
       {h S T : ℕ} (B F : ℕ) {t u : Bool} (xs ys : List Entry) (o : Entry) → Laid im h S t (xs ++ (o ∷ ys)) seg-none (blanks B) (blanks F) →
-      Tail h S t seg-none (blanks B) (blanks F) T u → Starts (xs ++ (o ∷ ys)) → Shadowed xs ys o → Bytes (content-of o) → Ok (xs ++ ys) l → Kind im l
+      Tail h S t seg-none (blanks B) (blanks F) T u → Starts (xs ++ (o ∷ ys)) → Shadowed xs ys o → Ok (xs ++ ys) l → Kind im l
   clean :
       {h S T : ℕ} (B F : ℕ) {t u : Bool} {x y : Entry} {es : List Entry} → Laid im h S t (x ∷ y ∷ es) seg-none (blanks B) (blanks F) →
       Tail h S t seg-none (blanks B) (blanks F) T u → x .it .low ≡ 0 → alive x ≡ false → y .it .low ≡ 160 → Each Unmarked es → Ok (x ∷ y ∷ es) l → Kind im l

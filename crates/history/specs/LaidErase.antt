@@ -1,7 +1,6 @@
 -- Step (d) of a move on a laid image, cut anywhere: after the first erase the head is Y and the image is vacant; at the end it is bare.
 use Prim.Native.Nat.{ℕ, zero, suc, _+_, _-_, _*_, _/_, _%_, _≤_, _<_}
 use native.Mathlib.Omega.{arith}
-use native.Mathlib.Nat.{add-zero}
 use mathlib.Core.Path.{_≡_, refl, sym, ap, _∙_, subst}
 use mathlib.Core.Bool.{Bool, true, false}
 use mathlib.Core.List.{List, [], _∷_, _++_, append-assoc, append-nil, map}
@@ -18,17 +17,17 @@ use Rattle.spec.specs.Move.{vacated-end, vacated}
 use Rattle.spec.specs.Bytes.{is-start, is-clean, is-record, is-high}
 use Rattle.history.specs.Lay.{blanks, body, onto, rsize, sizes, entries-of, length-lay, length-body}
 use Rattle.history.specs.Walk.{Quiet}
-use Rattle.history.specs.Quiet.{blank-split, quiet-append, quiet-blanks}
+use Rattle.history.specs.Quiet.{quiet-append, quiet-blanks}
 use Rattle.history.specs.Seg.{seg-none}
 use Rattle.history.specs.Erase.{erases, length-sector, sectors-are, half-erased, half-erased-length, all-erased, take-erases}
 use Rattle.history.specs.Straight.{Straight}
 use Rattle.history.specs.StraightEdit.{straight-length}
 use Rattle.history.specs.StraightErase.{Cleaned, rsize-words, old-head, to-m3, vacated-are, done}
-use Rattle.history.specs.Turned.{Turned, End, exact, marker, end-bytes, Opens, opens-ff}
+use Rattle.history.specs.Turned.{Turned, End, exact, marker, end-bytes, Opens, open-ff, opens-blanks}
 use Rattle.history.specs.TurnedErase.{turned-m3, last-head, zero-m3, zero-quiet}
-use Rattle.history.specs.Laid.{Laid, laid-straight, laid-turned, Tail, tail-clear, tail-floor, tail-N, tail-turn, Bare}
+use Rattle.history.specs.Laid.{Laid, laid-straight, laid-turned, Tail, tail-clear, tail-floor, tail-N, tail-turn, Bare, clear-ff}
 use Rattle.history.specs.Vacant.{Vacant, vacant-at, good-mod}
-use Rattle.history.specs.LaidForget.{turned-length}
+use Rattle.history.specs.TurnedLaid.{turned-length}
 
 -- X is left behind: with no erase, or with k + 1 of them
 pub data Leaves (im : Image) (x y : Entry) (es : List Entry) : Type 0 where
@@ -83,14 +82,6 @@ vacated-all N x y a k z e n = rw (vacated-end, eq-eqb (y .at) 0 z) (ap (λ (b : 
 -- FF, and FF with remains behind
 pub join-ff : (B n : ℕ) (s : List ℕ) → blanks B ++ (blanks n ++ s) ≡ blanks (B + n) ++ s
 join-ff B n s = sym (append-assoc (blanks B) (blanks n) s) ∙ ap (λ (l : List ℕ). l ++ s) (replicate-append-replicate B n 255)
-
-pub open-ff : (n : ℕ) (s free : List ℕ) → free ≡ blanks n ++ s → 8 ≤ n → Opens free Next.Clear
-open-ff n s free e h =
-    subst (λ (l : List ℕ). Opens l Next.Clear)
-    (sym (e ∙ ap (λ (l : List ℕ). l ++ s) (blank-split 8 (n - 8) n (omega arith)) ∙ append-assoc (blanks 8) (blanks (n - 8)) s)) opens-ff
-
-pub clear-ff : {h S : ℕ} {t : Bool} {below : List ℕ} (n : ℕ) → 8 ≤ n → Tail h S t seg-none below (blanks n) S t
-clear-ff {S = S} n h = tail-clear (blanks (n - 8)) (blank-split 8 (n - 8) n (omega arith)) (sym (add-zero S)) refl
 
 -- a chain that ends at N has turned once there are sectors below the head
 turn-open : {im : List ℕ} {a l : ℕ} {gap lost : List ℕ} {h : ℕ} {high : List Rec} → Straight im a l gap lost h high seg-none [] → Opens gap Next.Clear → 1 ≤ a →
@@ -157,7 +148,7 @@ module _ {im : Image} {a l : ℕ} {lost : List ℕ} {h : ℕ} {x y : Rec} {ys : 
     straight-full z =
         let u : Turned (run im (erases A (suc k))) (a + suc k) r (drop (4096 * suc k) q) (h + rsize x) [] seg-none (512 * (a + suc k)) (blanks (B + 4096 * suc k)) (y ∷ ys) exact =
         turn-open (subst (λ (m : List ℕ). Straight (run im (erases A (suc k))) (a + suc k) r (blanks (B + 4096 * suc k)) (drop (4096 * suc k) q) (h + rsize x) (y ∷ ys) seg-none m) z all-ff)
-        (open-ff (B + 4096 * suc k) [] (blanks (B + 4096 * suc k)) (sym (append-nil (blanks (B + 4096 * suc k)))) (omega arith)) (omega arith) in
+        (opens-blanks (B + 4096 * suc k) (omega arith)) (omega arith) in
         let v : (i : ℕ) → i ≤ k →
         Turned (run im (take (suc i) (erases A (suc k)))) (a + suc k) r (drop (4096 * suc k) q) (h + rsize x) [] seg-none (512 * (a + suc k)) (blanks B ++ half-erased (suc i) (suc k) q) (y ∷ ys) exact =
         λ i p. turn-open (subst (λ (m : List ℕ). Straight (run im (take (suc i) (erases A (suc k)))) (a + suc k) r (blanks B ++ half-erased (suc i) (suc k) q) (drop (4096 * suc k) q) (h + rsize x) (y ∷ ys) seg-none m) z (to-m3 s c k r all short i p))

@@ -8,15 +8,17 @@ use lib.ListN.{length, set, length-append, drop, getD}
 use Rattle.spec.specs.Step.{Image}
 use Rattle.spec.specs.Geometry.{floor}
 use Rattle.spec.specs.Record.{Rec, Entry}
-use Rattle.history.specs.Lay.{onto, lay, rsize, sizes, entries-of, lay-is, length-lay, length-body, body, lens}
+use native.Mathlib.Nat.{add-zero}
+use Rattle.history.specs.Lay.{onto, lay, rsize, sizes, entries-of, lay-is, length-body, body, lens}
 use Rattle.history.specs.Quiet.{quiet-append, mark-second}
 use Rattle.history.specs.Steps.{set-past}
-use Rattle.history.specs.Seg.{Seg, seg-onto, seg-append, length-seg}
+use Rattle.history.specs.Seg.{Seg, seg-onto}
 use Rattle.history.specs.Straight.{Straight}
 use Rattle.history.specs.StraightErase.{Cleaned, rsize-words}
 use Rattle.history.specs.Turned.{Turned, End, end-bytes}
 use Rattle.history.specs.Laid.{Laid, laid-straight, laid-turned}
 use Rattle.history.specs.Walk.{Quiet}
+use Rattle.history.specs.TurnedLaid.{high-front, high-front-is, high-front-length}
 
 -- X with its second byte 00
 abbrev forgotten : Rec → List ℕ
@@ -57,35 +59,19 @@ module _ {im : List ℕ} {a l : ℕ} {gap lost : List ℕ} {h : ℕ} {x y : Rec}
       fronted (u ∷ []) lost a l p q f = absurd (omega arith)
       fronted (u ∷ v ∷ w) lost a l p q f = f
 
--- all that stands before the head, and something behind it
-before-head : (low : List Rec) (seg : Seg) (free lost t : List ℕ) → lay low (seg-onto seg (free ++ lost)) ++ t ≡ lay low (seg-onto seg (free ++ (lost ++ t)))
-before-head low seg free lost t =
-    ap (λ (m : List ℕ). m ++ t) (lay-is low (seg-onto seg (free ++ lost))) ∙ append-assoc (lay low []) (seg-onto seg (free ++ lost)) t ∙ sym (lay-is low (seg-onto seg (free ++ lost) ++ t))
-    ∙ ap (lay low) (sym (seg-append seg (free ++ lost) t) ∙ ap (seg-onto seg) (append-assoc free lost t))
-
-before-length : {im : List ℕ} {a l : ℕ} {lost : List ℕ} {h : ℕ} {low : List Rec} {seg : Seg} {f : ℕ} {free : List ℕ} {high : List Rec} {end : End} → Turned im a l lost h low seg f free high end →
-    length (lay low (seg-onto seg (free ++ lost))) ≡ h
-before-length {lost = lost} {low = low} {seg} {free = free} s =
-    length-lay low (seg-onto seg (free ++ lost)) ∙ omega (arith, length-seg seg (free ++ lost), length-append free lost, s .free-length, s .lost-length, s .below, s .at)
-
-pub turned-length : {im : List ℕ} {a l : ℕ} {lost : List ℕ} {h : ℕ} {low : List Rec} {seg : Seg} {f : ℕ} {free : List ℕ} {high : List Rec} {end : End} → Turned im a l lost h low seg f free high end →
-    length im ≡ h + (sizes high + length (end-bytes end))
-turned-length {lost = lost} {low = low} {seg} {free = free} {high} {end} s =
-    ap length (s .is ∙ sym (before-head low seg free lost (lay high (end-bytes end)))) ∙ length-append (lay low (seg-onto seg (free ++ lost))) (lay high (end-bytes end))
-    ∙ omega (arith, before-length s, length-lay high (end-bytes end))
-
 module _ {im : List ℕ} {a l : ℕ} {lost : List ℕ} {h : ℕ} {low : List Rec} {seg : Seg} {f : ℕ} {free : List ℕ} {x y : Rec} {ys : List Rec} {end : End} (s : Turned im a l lost h low seg f free (x ∷ y ∷ ys) end)
     (c : Cleaned x) (near : l + rsize x / 8 < 512) where
   forget-turned : Turned (set im (h + 1) 0) a (l + rsize x / 8) (lost ++ forgotten x) (h + rsize x) low seg f free (y ∷ ys) end
   forget-turned =
       let R : List ℕ = lay (y ∷ ys) (end-bytes end) in
-      let G : List ℕ = lay low (seg-onto seg (free ++ lost)) in
-      let e₁ : im ≡ G ++ onto x R = s .is ∙ sym (before-head low seg free lost (onto x R)) in
-      let e₂ : set (G ++ onto x R) (h + 1) 0 ≡ G ++ set (onto x R) 1 0 = ap (λ (n : ℕ). set (G ++ onto x R) (n + 1) 0) (sym (before-length s)) ∙ set-past G (onto x R) 1 0 in
+      let G : List ℕ = high-front s [] in
+      let lg : length G ≡ h = high-front-length s [] ∙ add-zero h in
+      let e₁ : im ≡ G ++ onto x R = s .is ∙ sym (high-front-is s [] (onto x R)) in
+      let e₂ : set (G ++ onto x R) (h + 1) 0 ≡ G ++ set (onto x R) 1 0 = ap (λ (n : ℕ). set (G ++ onto x R) (n + 1) 0) (sym lg) ∙ set-past G (onto x R) 1 0 in
       let e₃ : set (onto x R) 1 0 ≡ forgotten x ++ R = ap (λ (l : List ℕ). set l 1 0) (lay-is (x ∷ []) R) in
       let lf : length (forgotten x) ≡ 8 * (rsize x / 8) = omega (arith, length-body (x .name) (x .content) [], rsize-words x) in
       record {
-        is = ap (λ (l : List ℕ). set l (h + 1) 0) e₁ ∙ e₂ ∙ ap (λ (l : List ℕ). G ++ l) e₃ ∙ before-head low seg free lost (forgotten x ++ R)
+        is = ap (λ (l : List ℕ). set l (h + 1) 0) e₁ ∙ e₂ ∙ ap (λ (l : List ℕ). G ++ l) e₃ ∙ high-front-is s [] (forgotten x ++ R)
             ∙ ap (λ (l : List ℕ). lay low (seg-onto seg (free ++ l))) (sym (append-assoc lost (forgotten x) R));
         at = omega (arith, s .at, rsize-words x);
         some-below = s .some-below;

@@ -3,7 +3,7 @@ use Prim.Native.Nat.{ℕ, zero, suc, _+_, _-_, _*_, _/_, _%_, _≤_}
 use native.Mathlib.Omega.{arith}
 use mathlib.Core.Path.{_≡_, refl, sym, ap, ap₂, _∙_, subst, subst₂}
 use mathlib.Core.Bool.{Bool, true, false}
-use mathlib.Core.List.{List, [], _∷_, _++_, append-assoc, append-nil, map, map-append}
+use mathlib.Core.List.{List, [], _∷_, _++_, append-assoc, map, map-append}
 use lib.ListN.{length, take, drop, getD, length-append, length-drop, length-replicate, take-append-drop}
 use lib.Seq.{take-take}
 use Rattle.spec.specs.declared.Next.{Next}
@@ -21,13 +21,14 @@ use Rattle.history.specs.Steps.{run-append}
 use Rattle.history.specs.Lists.{keep-append, none-at}
 use Rattle.history.specs.Repair.{mend-steps, mend-done}
 use Rattle.history.specs.Safe.{Safe, safe-map}
-use Rattle.history.specs.Laid.{Laid, laid-straight, laid-turned, Hole, Tail, tail-clear, tail-floor, tail-N, tail-turn, Bare}
+use Rattle.history.specs.Laid.{Laid, laid-straight, laid-turned, Hole, Tail, tail-clear, tail-floor, tail-N, tail-turn, Bare, clear-ff}
 use Rattle.history.specs.Kinds.{place}
 use Rattle.history.specs.LaidEdit.{laid-below, hole-of}
 use Rattle.history.specs.Vacant.{take-blanks, good-mod, limit-is, Vacant, vacant-long, vacant-of, vacant-tail, vacant-blank}
-use Rattle.history.specs.LaidErase.{no-map, join-ff, open-ff, clear-ff}
+use Rattle.history.specs.LaidErase.{no-map, join-ff}
 use Rattle.history.specs.EraseFree.{Mid, free-quiet, erase-safe}
 use Rattle.history.specs.Quiet.{quiet-ff}
+use Rattle.history.specs.Turned.{opens-blanks}
 
 -- ---- all the erases: FF
 
@@ -82,7 +83,7 @@ high-done {im} {h} {S} {t} {es} {below} {free} d im₀ pre₀ i₀ l₀ c k lim 
     ∙ append-assoc (K .pre) (blanks c) (blanks (4096 * k) ++ K .post) ∙ ap (λ (l : List ℕ). K .pre ++ l) (join-ff c (4096 * k) (K .post) ∙ ap (λ (m : ℕ). blanks m ++ K .post) n) in
     let lF : length (blanks F) ≡ F = length-replicate {A = ℕ} F 255 in
     subst (λ (i : Image). Laid i h S t es seg-none below (blanks F)) (sym e)
-    (K .plug seg-none (f .0) (blanks F) Next.Clear (lF ∙ f .1) (quiet-ff (f .0) (blanks F) (ap blanks (f .1))) (open-ff F [] (blanks F) (sym (append-nil (blanks F))) e₈) (ap (λ (m : ℕ). 0 + m) lF))
+    (K .plug seg-none (f .0) (blanks F) Next.Clear (lF ∙ f .1) (quiet-ff (f .0) (blanks F) (ap blanks (f .1))) (opens-blanks F e₈) (ap (λ (m : ℕ). 0 + m) lF))
 
 turned-below : {im : Image} {h S : ℕ} {es : List Entry} {below free : List ℕ} → Laid im h S true es seg-none below free → below ≡ []
 turned-below (laid-straight f s t₁ S₁ e₁ lf qf) = let n : _≡_ {A = ℕ} 0 1 = cc in absurd (omega arith)

@@ -31,7 +31,7 @@ mends l im i = go (i .kind)
     go (quiet B F {es = es} {seg = seg-cut c n f} d e s o) = mends-void B F es (seg-cut c n f) (i .good) d e s o (open-some _ refl)
     go (quiet B F {es = es} {seg = seg-held n c f} d e s o) = mends-void B F es (seg-held n c f) (i .good) d e s o (open-some _ refl)
     go (half a m c k s b z st o) = mends-half a m c k i s b z st o
-    go (shadow B F xs ys o d e s k b ok) = mends-shadow B F xs ys o i d e s k ok
+    go (shadow B F xs ys o d e s k ok) = mends-shadow B F xs ys o i d e s k ok
     go (clean B F d e a b c m o) = mends-clean B F (i .good) d e a b c m o
     go (both B F d e a b c k f m o) = mends-both B F (i .good) d e a b c k f m o
     go (vacated d e b a m o) = mends-vacated (i .good) d e b a m o

@@ -18,13 +18,11 @@ use Rattle.history.specs.Seg.{Seg, seg-none, seg-torn, seg-cut, seg-held
 
 -- ---- the states of a record under way, each with f bytes from its start to what follows, s
 
--- (M bounds the part that counts as taken)
-pub record Opened (M f : ℕ) (s l : List ℕ) : Type 0 where
+pub record Opened (f : ℕ) (s l : List ℕ) : Type 0 where
   pub seg : Seg
   pub left : ℕ
   pub is : l ≡ seg-onto seg (blanks left ++ s)
   pub sum : seg-size seg + left ≡ f
-  pub bound : seg-size seg ≤ M
 
 -- FF after FF
 joined-blanks : (a b c m : ℕ) (s : List ℕ) → m ≡ suc (a + (b + c)) → blanks m ++ s ≡ 255 ∷ (blanks a ++ (blanks b ++ (blanks c ++ s)))
@@ -39,46 +37,44 @@ take-plain (suc j) [] p = tt
 take-plain (suc j) (x ∷ n) p = (p .0, take-plain j n (p .1))
 
 -- a name with j bytes written
-cut-state : (M d j f m : ℕ) (n s : List ℕ) → length n ≡ j → j < 64 → Plain n → d < 4294967296 → size-of j d ≤ f → m + j + 8 ≡ f → size-of j d ≤ M → Opened M f s (header d (n ++ (blanks m ++ s)))
-cut-state M d j f m n s e h p l i k o =
+cut-state : (d j f m : ℕ) (n s : List ℕ) → length n ≡ j → j < 64 → Plain n → d < 4294967296 → size-of j d ≤ f → m + j + 8 ≡ f → Opened f s (header d (n ++ (blanks m ++ s)))
+cut-state d j f m n s e h p l i k =
     let left : ℕ = f - size-of j d in
     record {
       seg = seg-cut d n (record { short = omega arith; plain = p; small = l });
       left = left;
       is = ap (λ (z : List ℕ). header d (n ++ z)) (joined-blanks (pad (length n + 1)) (up8 d) left m s (omega arith));
       sum = rw e (omega arith);
-      bound = rw e o;
     }
 
-torn-state : (M c x y z w f : ℕ) (s : List ℕ) → Begun c → 16 ≤ f → 16 ≤ M → Opened M f s (165 ∷ c ∷ 255 ∷ 255 ∷ x ∷ y ∷ z ∷ w ∷ (blanks (f - 8) ++ s))
-torn-state M c x y z w f s b h o =
+torn-state : (c x y z w f : ℕ) (s : List ℕ) → Begun c → 16 ≤ f → Opened f s (165 ∷ c ∷ 255 ∷ 255 ∷ x ∷ y ∷ z ∷ w ∷ (blanks (f - 8) ++ s))
+torn-state c x y z w f s b h =
     record {
       seg = seg-torn c x y z w 255 b begun-none;
       left = f - 16;
       is = ap (λ (l : List ℕ). 165 ∷ c ∷ 255 ∷ 255 ∷ x ∷ y ∷ z ∷ w ∷ l) (ap (λ (l : List ℕ). l ++ s) (blank-split 8 (f - 16) (f - 8) (omega arith)));
       sum = omega arith;
-      bound = o;
     }
 
 -- the header
-header-cut : (M d f : ℕ) (s : List ℕ) → d < 4294967296 → size-of 0 d ≤ f → size-of 0 d ≤ M → (k : ℕ) → k ≤ 7 → Opened M f s (run (blanks 8 ++ (blanks (f - 8) ++ s)) (take k (header-steps d)))
-header-cut M d f s l h o zero i =
-    record { seg = seg-none; left = f; is = sym (append-assoc (blanks 8) (blanks (f - 8)) s) ∙ ap (λ (z : List ℕ). z ++ s) (sym (blank-split 8 (f - 8) f (omega arith))); sum = zero-add f; bound = omega arith }
-header-cut M d f s l h o (suc zero) i = torn-state M 255 255 255 255 255 f s begun-ff (omega arith) (omega arith)
-header-cut M d f s l h o (suc (suc zero)) i = torn-state M 90 255 255 255 255 f s begun-5a (omega arith) (omega arith)
-header-cut M d f s l h o (suc (suc (suc zero))) i = torn-state M 90 _ 255 255 255 f s begun-5a (omega arith) (omega arith)
-header-cut M d f s l h o (suc (suc (suc (suc zero)))) i = torn-state M 90 _ _ 255 255 f s begun-5a (omega arith) (omega arith)
-header-cut M d f s l h o (suc (suc (suc (suc (suc zero))))) i = torn-state M 90 _ _ _ 255 f s begun-5a (omega arith) (omega arith)
-header-cut M d f s l h o (suc (suc (suc (suc (suc (suc zero)))))) i = torn-state M 90 _ _ _ _ f s begun-5a (omega arith) (omega arith)
-header-cut M d f s l h o (suc (suc (suc (suc (suc (suc (suc zero))))))) i = cut-state M d 0 f (f - 8) [] s refl (omega arith) tt l h (omega arith) o
-header-cut M d f s l h o (suc (suc (suc (suc (suc (suc (suc (suc k)))))))) i = absurd (omega arith)
+header-cut : (d f : ℕ) (s : List ℕ) → d < 4294967296 → size-of 0 d ≤ f → (k : ℕ) → k ≤ 7 → Opened f s (run (blanks 8 ++ (blanks (f - 8) ++ s)) (take k (header-steps d)))
+header-cut d f s l h zero i =
+    record { seg = seg-none; left = f; is = sym (append-assoc (blanks 8) (blanks (f - 8)) s) ∙ ap (λ (z : List ℕ). z ++ s) (sym (blank-split 8 (f - 8) f (omega arith))); sum = zero-add f }
+header-cut d f s l h (suc zero) i = torn-state 255 255 255 255 255 f s begun-ff (omega arith)
+header-cut d f s l h (suc (suc zero)) i = torn-state 90 255 255 255 255 f s begun-5a (omega arith)
+header-cut d f s l h (suc (suc (suc zero))) i = torn-state 90 _ 255 255 255 f s begun-5a (omega arith)
+header-cut d f s l h (suc (suc (suc (suc zero)))) i = torn-state 90 _ _ 255 255 f s begun-5a (omega arith)
+header-cut d f s l h (suc (suc (suc (suc (suc zero))))) i = torn-state 90 _ _ _ 255 f s begun-5a (omega arith)
+header-cut d f s l h (suc (suc (suc (suc (suc (suc zero)))))) i = torn-state 90 _ _ _ _ f s begun-5a (omega arith)
+header-cut d f s l h (suc (suc (suc (suc (suc (suc (suc zero))))))) i = cut-state d 0 f (f - 8) [] s refl (omega arith) tt l h (omega arith)
+header-cut d f s l h (suc (suc (suc (suc (suc (suc (suc (suc k)))))))) i = absurd (omega arith)
 
 -- the name
-name-cut : (d f : ℕ) (n s : List ℕ) → length n < 64 → Plain n → d < 4294967296 → size-of (length n) d ≤ f → (j : ℕ) → j ≤ length n → Opened (size-of (length n) d) f s (run (header d (blanks (f - 8) ++ s)) (take j (bytes-at 8 n)))
+name-cut : (d f : ℕ) (n s : List ℕ) → length n < 64 → Plain n → d < 4294967296 → size-of (length n) d ≤ f → (j : ℕ) → j ≤ length n → Opened f s (run (header d (blanks (f - 8) ++ s)) (take j (bytes-at 8 n)))
 name-cut d f n s h p l i j k =
     let e : run (header d (blanks (f - 8) ++ s)) (take j (bytes-at 8 n)) ≡ header d (take j n ++ (blanks (f - 8 - j) ++ s)) =
     write-blank (header d []) n s 8 j (f - 8 - j) (f - 8) refl k (omega arith) in
-    rw e (cut-state (size-of (length n) d) d j f (f - 8 - j) (take j n) s (length-take-le j n k) (omega arith) (take-plain j n p) l (omega arith) (omega arith) (omega arith))
+    rw e (cut-state d j f (f - 8 - j) (take j n) s (length-take-le j n k) (omega arith) (take-plain j n p) l (omega arith) (omega arith))
 
 pub bytes-append : (a : ℕ) (v w : List ℕ) → bytes-at a (v ++ w) ≡ bytes-at a v ++ bytes-at (a + length v) w
 bytes-append a [] w = rw (add-zero a)
@@ -115,7 +111,7 @@ data-done n c s j m h e =
     rw (l₁, l₂) (simp append-assoc (simp append-assoc at (write-blank p c (blanks (pad d) ++ s) (8 + up8 (length n + 1)) j m d a h e)))
 
 data-cut : (n c s : List ℕ) (f : ℕ) → Fit (length c) n → size-of (length n) (length c) ≤ f → (j : ℕ) → j ≤ length c →
-    Opened (size-of (length n) (length c)) f s (run (onto (held n (blanks (length c))) (blanks (f - size-of (length n) (length c)) ++ s)) (take j (data-steps (length n) c)))
+    Opened f s (run (onto (held n (blanks (length c))) (blanks (f - size-of (length n) (length c)) ++ s)) (take j (data-steps (length n) c)))
 data-cut n c s f g h j i =
     let l : length (take j c ++ blanks (length c - j)) ≡ length c = simp (length-append, length-replicate, length-take-le j c i) (omega arith) in
     rw (data-done n c (blanks (f - size-of (length n) (length c)) ++ s) j (length c - j) i (omega arith))
@@ -124,7 +120,6 @@ data-cut n c s f g h j i =
       left = f - size-of (length n) (length c);
       is = refl;
       sum = rw l (omega arith);
-      bound = rw l (omega arith);
     })
 
 -- name and data
@@ -136,27 +131,27 @@ abbrev pub open-steps : List ℕ → List ℕ → List Step
 open-steps n c = header-steps (length c) ++ body-steps n c
 
 names-cut : (n c s : List ℕ) (f : ℕ) → Fit (length c) n → size-of (length n) (length c) ≤ f → (k : ℕ) → k ≤ length n + 1 →
-    Opened (size-of (length n) (length c)) f s (run (header (length c) (blanks (f - 8) ++ s)) (take k (name-steps n)))
+    Opened f s (run (header (length c) (blanks (f - 8) ++ s)) (take k (name-steps n)))
 names-cut n c s f g h k i =
     let H : List ℕ = header (length c) (blanks (f - 8) ++ s) in
     let R : List ℕ = onto (held n (blanks (length c))) (blanks (f - size-of (length n) (length c)) ++ s) in
-    let names : (j : ℕ) → j ≤ length n → Opened (size-of (length n) (length c)) f s (run H (take j (bytes-at 8 n))) = name-cut (length c) f n s (g .short) (g .plain) (g .small) h in
+    let names : (j : ℕ) → j ≤ length n → Opened f s (run H (take j (bytes-at 8 n))) = name-cut (length c) f n s (g .short) (g .plain) (g .small) h in
     let all : take (length n) (bytes-at 8 n) ≡ bytes-at 8 n = take-all (length n) (bytes-at 8 n) (omega (arith, length-bytes 8 n)) in
-    let a : Opened (size-of (length n) (length c)) f s (run H (bytes-at 8 n)) = rw all at (names (length n) (omega arith)) in
+    let a : Opened f s (run H (bytes-at 8 n)) = rw all at (names (length n) (omega arith)) in
     let e : apply (run H (bytes-at 8 n)) (program (8 + length n) 0) ≡ R = sym (run-append H (bytes-at 8 n) (program (8 + length n) 0 ∷ [])) ∙ named n c s f h in
-    cut-append (Opened (size-of (length n) (length c)) f s) H (bytes-at 8 n) (program (8 + length n) 0 ∷ [])
+    cut-append (Opened f s) H (bytes-at 8 n) (program (8 + length n) 0 ∷ [])
     (λ j l. names j (omega (arith, length-bytes 8 n)))
-    (cut-one (Opened (size-of (length n) (length c)) f s) (run H (bytes-at 8 n)) (program (8 + length n) 0) [] a
-    (λ j l. subst (λ (m : List ℕ). Opened (size-of (length n) (length c)) f s m) (sym e ∙ ap (run (apply (run H (bytes-at 8 n)) (program (8 + length n) 0))) (sym (take-nil j))) (data-cut n c s f g h 0 (omega arith))))
+    (cut-one (Opened f s) (run H (bytes-at 8 n)) (program (8 + length n) 0) [] a
+    (λ j l. subst (λ (m : List ℕ). Opened f s m) (sym e ∙ ap (run (apply (run H (bytes-at 8 n)) (program (8 + length n) 0))) (sym (take-nil j))) (data-cut n c s f g h 0 (omega arith))))
     k (omega (arith, length-bytes 8 n))
 
 body-cut : (n c s : List ℕ) (f : ℕ) → Fit (length c) n → size-of (length n) (length c) ≤ f → (k : ℕ) → k ≤ length n + suc (length c) →
-    Opened (size-of (length n) (length c)) f s (run (header (length c) (blanks (f - 8) ++ s)) (take k (body-steps n c)))
+    Opened f s (run (header (length c) (blanks (f - 8) ++ s)) (take k (body-steps n c)))
 body-cut n c s f g h k i =
     let ln : length (name-steps n) ≡ length n + 1 = length-append (bytes-at 8 n) (program (8 + length n) 0 ∷ []) ∙ omega (arith, length-bytes 8 n) in
-    cut-append (Opened (size-of (length n) (length c)) f s) (header (length c) (blanks (f - 8) ++ s)) (name-steps n) (data-steps (length n) c)
+    cut-append (Opened f s) (header (length c) (blanks (f - 8) ++ s)) (name-steps n) (data-steps (length n) c)
     (λ j l. names-cut n c s f g h j (omega (arith, ln)))
-    (λ j l. subst (λ (m : List ℕ). Opened (size-of (length n) (length c)) f s (run m (take j (data-steps (length n) c)))) (sym (named n c s f h))
+    (λ j l. subst (λ (m : List ℕ). Opened f s (run m (take j (data-steps (length n) c)))) (sym (named n c s f h))
     (data-cut n c s f g h j (omega (arith, length-bytes (8 + up8 (length n + 1)) c))))
     k (omega (arith, ln, length-bytes (8 + up8 (length n + 1)) c))
 
@@ -164,12 +159,12 @@ length-body : (n c : List ℕ) → length (body-steps n c) ≡ length n + suc (l
 length-body n c = simp (length-append, length-bytes) (omega arith)
 
 -- all steps before the commit
-pub open-cut : (n c s : List ℕ) (f : ℕ) → Fit (length c) n → size-of (length n) (length c) ≤ f → (k : ℕ) → k ≤ 8 + length n + length c → Opened (size-of (length n) (length c)) f s (run (blanks f ++ s) (take k (open-steps n c)))
+pub open-cut : (n c s : List ℕ) (f : ℕ) → Fit (length c) n → size-of (length n) (length c) ≤ f → (k : ℕ) → k ≤ 8 + length n + length c → Opened f s (run (blanks f ++ s) (take k (open-steps n c)))
 open-cut n c s f g h k i =
     let b : blanks f ++ s ≡ blanks 8 ++ (blanks (f - 8) ++ s) = ap (λ (z : List ℕ). z ++ s) (blank-split 8 (f - 8) f (omega arith)) ∙ append-assoc (blanks 8) (blanks (f - 8)) s in
     rw b
-    (cut-append (Opened (size-of (length n) (length c)) f s) (blanks 8 ++ (blanks (f - 8) ++ s)) (header-steps (length c)) (body-steps n c)
-    (λ j l. header-cut (size-of (length n) (length c)) (length c) f s (g .small) (omega arith) (omega arith) j l)
+    (cut-append (Opened f s) (blanks 8 ++ (blanks (f - 8) ++ s)) (header-steps (length c)) (body-steps n c)
+    (λ j l. header-cut (length c) f s (g .small) (omega arith) j l)
     (λ j l. body-cut n c s f g h j (omega (arith, length-body n c)))
     k (omega (arith, length-body n c)))
 

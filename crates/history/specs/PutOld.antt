@@ -25,7 +25,7 @@ use Rattle.history.specs.Put.{file}
 use Rattle.history.specs.Safe.{Safe}
 use Rattle.history.specs.StraightEdit.{restatus}
 use Rattle.history.specs.Laid.{Laid, Tail, Bare}
-use Rattle.history.specs.Kinds.{Bytes, Starts, Ok, quiet, shadow, Inv, Rested, Live-bytes}
+use Rattle.history.specs.Kinds.{Bytes, Starts, Ok, quiet, shadow, Inv, Rested}
 use Rattle.history.specs.LaidEdit.{restatus-laid, status-at, entry-inside}
 use Rattle.history.specs.OkLaws.{ok-same, ok-over, ok-unshadow}
 
@@ -147,9 +147,6 @@ module _ {im : Image} {h : ℕ} (xs ys : List Entry) (o e : Entry) (l : Ledger) 
   starts : Starts (xs ++ (o ∷ (ys ++ (e ∷ []))))
   starts = subst Starts joined (starts-end (xs ++ (o ∷ ys)) e plain st)
 
-  o-bytes : Bytes (content-of o)
-  o-bytes = each-at Live-bytes xs ys o (ok .bytes) (f8-alive o f8)
-
   pub deleted : Bare h (xs ++ (gone o ∷ (ys ++ (e ∷ [])))) (set im (o .at + 2) 0)
   deleted = record { S = r .S; B = r .B; F = r .F; t = r .t; laid = restatus-laid xs (ys ++ (e ∷ [])) o laid 0 st-00; tail = r .tail }
 
@@ -164,7 +161,7 @@ module _ {im : Image} {h : ℕ} (xs ys : List Entry) (o e : Entry) (l : Ledger) 
 
   pub delete-safe : Safe (Inv new) im (program (o .at + 2) 0 ∷ [])
   delete-safe = (
-    record { good = good; kind = shadow (r .B) (r .F) xs (ys ++ (e ∷ [])) o laid (r .tail) starts (ok-over xs ys o e l ok f8 fc same b .1) o-bytes (ok-over xs ys o e l ok f8 fc same b .0) },
+    record { good = good; kind = shadow (r .B) (r .F) xs (ys ++ (e ∷ [])) o laid (r .tail) starts (ok-over xs ys o e l ok f8 fc same b .1) (ok-over xs ys o e l ok f8 fc same b .0) },
     status-sound xs (ys ++ (e ∷ [])) o laid 0 refl,
     bare-inv still-good deleted gone-starts gone-ok,
   )

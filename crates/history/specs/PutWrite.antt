@@ -20,7 +20,7 @@ use Rattle.history.specs.Seg.{Seg, seg-none, seg-torn, seg-cut, seg-held
 use Rattle.history.specs.Steps.{Programs, take-moved, take-programs, run-past, length-moved}
 use Rattle.history.specs.Put.{Opened, open-steps, open-cut, open-done, file, length-record, record-programs}
 use Rattle.history.specs.Safe.{Safe, safe-from, sound-past}
-use Rattle.history.specs.Laid.{Laid, laid-straight, laid-turned, Hole, Tail, tail-clear, tail-floor, tail-N, tail-turn, Bare}
+use Rattle.history.specs.Laid.{Laid, laid-straight, laid-turned, Hole, Tail, tail-clear, tail-floor, tail-N, tail-turn, Bare, clear-ff}
 use Rattle.history.specs.Kinds.{Bytes, Starts, Ok, Kind, quiet, Inv}
 use Rattle.history.specs.LaidEdit.{laid-below, hole-of, turn-exact}
 use Rattle.history.specs.PutSound.{open-sound, commit-last}
@@ -97,14 +97,14 @@ pub bare-of : {im : Image} {h S : ℕ} {t : Bool} {es : List Entry} (B F : ℕ) 
 bare-of {im} {h} {S} {t} {es} B F d = go (left-of B F d)
   where
     go : Left h t B F → Bare h es im
-    go (left-some f) = record { S = S; B = B; F = F; t = t; laid = d; tail = tail-clear (blanks (F - 8)) (blank-eight F f) (sym (add-zero S)) refl }
+    go (left-some f) = record { S = S; B = B; F = F; t = t; laid = d; tail = clear-ff F f }
     go (left-floor z e) = record { S = S; B = B; F = F; t = t; laid = d; tail = tail-floor (ap blanks z) e (sym (add-zero S)) e }
     go (left-N z e f) = record { S = S; B = B; F = F; t = t; laid = d; tail = tail-N (ap blanks z) e f (sym (add-zero S)) e }
     go (left-turn z e b) =
         let ends : Laid im h S false es seg-none (blanks B) [] =
         subst (λ (u : Bool). Laid im h S u es seg-none (blanks B) []) e (subst (λ (k : ℕ). Laid im h S t es seg-none (blanks B) (blanks k)) z d) in
         let one : 1 ≤ B = omega arith in
-        record { S = 0; B = 0; F = B; t = true; laid = turn-exact ends one; tail = tail-clear (blanks (B - 8)) (blank-eight B b) refl refl }
+        record { S = 0; B = 0; F = B; t = true; laid = turn-exact ends one; tail = clear-ff B b }
 
 -- ---- the record
 
@@ -125,7 +125,7 @@ module _ {im : Image} {h S : ℕ} {t : Bool} {es : List Entry} (B F : ℕ) (d : 
   at-hole H ss p = ap (λ (z : Image). run z (moved S ss)) (H .is) ∙ run-past (H .pre) (blanks F ++ H .post) ss S (H .at) p
 
   -- what stands at S replaced by a record under way
-  plugged : (l : Ledger) → Starts es → Ok es l → (H : Hole im h S t es seg-none (blanks B) (blanks F)) (im′ : Image) (s : List ℕ) → Opened (size-of (length n) (length c)) F (H .post) s → im′ ≡ H .pre ++ s → Kind im′ l
+  plugged : (l : Ledger) → Starts es → Ok es l → (H : Hole im h S t es seg-none (blanks B) (blanks F)) (im′ : Image) (s : List ℕ) → Opened F (H .post) s → im′ ≡ H .pre ++ s → Kind im′ l
   plugged l st ok H im′ s o e =
       let m : ℕ = blank-words F d .0 - seg-words (o .seg) .0 in
       let w : o .left ≡ 8 * m = omega (arith, blank-words F d .1, seg-words (o .seg) .1, o .sum) in

@@ -75,6 +75,11 @@ opens-end : {free : List ℕ} {x : Next} → Opens free x → Low-end x
 opens-end opens-ff = low-clear
 opens-end opens-none = low-over
 
+pub open-ff : (n : ℕ) (s free : List ℕ) → free ≡ blanks n ++ s → 8 ≤ n → Opens free Next.Clear
+open-ff n s free e h =
+    subst (λ (l : List ℕ). Opens l Next.Clear)
+    (sym (e ∙ ap (λ (l : List ℕ). l ++ s) (blank-split 8 (n - 8) n (omega arith)) ∙ append-assoc (blanks 8) (blanks (n - 8)) s)) opens-ff
+
 -- so many FF
 pub opens-blanks : (k : ℕ) → 8 ≤ k → Opens (blanks k) Next.Clear
 opens-blanks k h = subst (λ (l : List ℕ). Opens l Next.Clear) (sym (blank-split 8 (k - 8) k (omega arith))) opens-ff

@@ -115,10 +115,10 @@ module _ {im : List ℕ} {a l : ℕ} {lost : List ℕ} {h : ℕ} {low : List Rec
       }
 
   -- all that stands before what follows the records xs from the head on
-  high-front : List Rec → List ℕ
+  pub high-front : List Rec → List ℕ
   high-front xs = lay low (seg-onto seg (free ++ (lost ++ lay xs [])))
 
-  high-front-is : (xs : List Rec) (t : List ℕ) → high-front xs ++ t ≡ lay low (seg-onto seg (free ++ (lost ++ lay xs t)))
+  pub high-front-is : (xs : List Rec) (t : List ℕ) → high-front xs ++ t ≡ lay low (seg-onto seg (free ++ (lost ++ lay xs t)))
   unfolding high-front
   high-front-is xs t =
       let u : List ℕ = free ++ (lost ++ lay xs []) in
@@ -127,7 +127,7 @@ module _ {im : List ℕ} {a l : ℕ} {lost : List ℕ} {h : ℕ} {low : List Rec
       (sym (seg-append seg u t)
       ∙ ap (seg-onto seg) (append-assoc free (lost ++ lay xs []) t ∙ ap (λ (l : List ℕ). free ++ l) (append-assoc lost (lay xs []) t ∙ ap (λ (l : List ℕ). lost ++ l) (sym (lay-is xs t)))))
 
-  high-front-length : (xs : List Rec) → length (high-front xs) ≡ h + sizes xs
+  pub high-front-length : (xs : List Rec) → length (high-front xs) ≡ h + sizes xs
   unfolding high-front
   high-front-length xs =
       length-lay low (seg-onto seg (free ++ (lost ++ lay xs [])))
