@@ -1,65 +1,90 @@
-pub mod Lay
-pub mod Last
-pub mod Walk
-pub mod Head
-pub mod Quiet
-pub mod Shape
-pub mod Seg
-pub mod Erase
-pub mod Steps
-pub mod Put
-pub mod Legal
-pub mod Straight
-pub mod StraightErase
-pub mod StraightEdit
-pub mod Turned
-pub mod TurnedErase
-pub mod Marker
-pub mod Whole
+-- Demand 3: what histories leave on the image, and that mount finds it again. The theorem is in Theorem, the invariant in Kinds.
+
+-- ---- lists and ledger
 pub mod Lists
 pub mod Store
 pub mod Ledger
 pub mod Shadow
-pub mod Settled
+
+-- ---- layout and last things
+pub mod Lay
+pub mod Last
+pub mod Quiet
+pub mod Seg
+pub mod Steps
 pub mod Safe
-pub mod Void
-pub mod Repair
-pub mod Clean
-pub mod Top
+pub mod Erase
+
+-- ---- head search
+pub mod Walk
+pub mod Head
+
+-- ---- reading
+pub mod Shape
+pub mod Legal
+pub mod Straight
+pub mod Turned
+pub mod Marker
+pub mod Whole
+
+-- ---- the one layout and its edits
 pub mod Laid
-pub mod Kinds
+pub mod StraightEdit
 pub mod Entries
 pub mod StraightLaid
 pub mod TurnedLaid
 pub mod LaidEdit
+
+-- ---- the kinds of image
+pub mod Kinds
 pub mod OkLaws
 pub mod Rules
 pub mod LaidRead
+pub mod Settled
 pub mod Settling
-pub mod Shows
+pub mod Vacant
+
+-- ---- put
+pub mod Put
 pub mod PutSound
 pub mod PutWrite
 pub mod PutTurn
 pub mod PutPhases
 pub mod PutOld
 pub mod Puts
-pub mod Vacant
+
+-- ---- move
+pub mod Clean
+pub mod StraightErase
+pub mod TurnedErase
 pub mod LaidClean
 pub mod LaidForget
 pub mod LaidErase
+pub mod Repair
 pub mod EraseFree
 pub mod LaidMend
 pub mod Closes
+
+-- ---- mount
 pub mod Idle
 pub mod Resting
 pub mod Unshadow
+pub mod Void
 pub mod Voiding
 pub mod VoidMount
 pub mod HalfMount
 pub mod Mounts
-pub mod Copying
+
+-- ---- sweep
 pub mod Handover
+pub mod Copying
 pub mod Sweeps
+
+-- ---- format
 pub mod Formats
+
+-- ---- the theorem
+pub mod Shows
 pub mod Calls
+pub mod Top
 pub mod Theorem
