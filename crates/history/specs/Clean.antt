@@ -73,6 +73,7 @@ mark-set (x ∷ y ∷ s) h = mark-second x s
 mark-take : (s : List ℕ) → 8 ≤ length s → mark-here (take 8 s) ≡ mark-here s
 mark-take s h = sym (mark-append (take 8 s) (drop 8 s) (omega (arith, length-take-le 8 s h))) ∙ ap mark-here (take-append-drop 8 s)
 
+-- all of (c)
 pub clean-done : (k a : ℕ) (p s q : List ℕ) → length p ≡ a → length s ≤ 8 * k → Clean-now k p s q (run (p ++ (s ++ q)) (clean-steps k a s))
 unfolding clean-steps
 clean-done zero a p s q e l = record { now = s; is = refl; same-length = refl; quiet = tt }

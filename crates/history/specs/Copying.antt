@@ -125,6 +125,7 @@ module _ {l : Ledger} {im : Image} {r : Reading} (q : Rested l im r) (x : Entry)
   again : List·Permᴰ (with-file n c l) l
   again = ok-again [] es x l ok live
 
+  -- cut anywhere, the files are those of the ledger
   pub copy-safe : Safe (Inv l) im ss
   copy-safe =
       let k : Commits l (with-file n c l) im ss (length n + length c + 9 + one-if-fc (some x) + three-if (with-marker (r .place) (size-of (length n) (length c)))) (r .place .head) = commits in
@@ -135,6 +136,7 @@ module _ {l : Ledger} {im : Image} {r : Reading} (q : Rested l im r) (x : Entry)
         safe-map (Inv (with-file n c l)) (Inv l) (inv-perm again) (apply (run im (k .before)) (k .commit)) (k .behind) (k .safe-behind),
       ))
 
+  -- it has a step
   pub copy-some : ss ≡ [] → ⊥
   copy-some e = some-behind (last-delete (r .place) x n c .0) [] (program (x .at + 2) 0) (sym (last-delete (r .place) x n c .1) ∙ e)
 
@@ -158,6 +160,7 @@ module _ {l : Ledger} {im : Image} {r : Reading} (q : Rested l im r) (x : Entry)
           (dead-first f (w .1) (record { name = n; content = c }) (without n l) (head-dead (commits .rested) (x .at) (run im (last-delete (r .place) x n c .0)) same-head ends (w .0) (w .1) (w .2))
           (subst (λ (fs : List Entry). Matches fs (with-file n c l)) (w .2) (commits .rested .ok .matches)))
 
+  -- at the end: rested, and the head's record is dead
   pub copied : (p : Rested l (run im ss) (reading-from (run im ss) (r .place .head))) × Dead-first (p .es)
   unfolding rested-perm
   copied =

@@ -19,13 +19,13 @@ use Rattle.spec.specs.Mount.{free-sectors, dirty, erase-steps}
 use Rattle.history.specs.Lay.{blanks, lay}
 use Rattle.history.specs.Walk.{Quiet}
 use Rattle.history.specs.Quiet.{quiet-append, quiet-drop, quiet-take, quiet-ff}
-use Rattle.history.specs.Seg.{Seg, seg-none, seg-onto}
+use Rattle.history.specs.Seg.{seg-none, seg-onto}
 use Rattle.history.specs.Erase.{erase-mid, length-sector, sector-is}
 use Rattle.history.specs.Lists.{keep-yes, keep-no, each-map, each-append}
 use Rattle.history.specs.Safe.{Safe}
 use Rattle.history.specs.Laid.{Laid, laid-straight, laid-turned, Hole}
 use Rattle.history.specs.Kinds.{place}
-use Rattle.history.specs.LaidEdit.{laid-below, laid-head, laid-length, hole-of}
+use Rattle.history.specs.LaidEdit.{laid-below, laid-head, laid-length, hole-of, free-quiet}
 use Rattle.history.specs.Vacant.{laid-eight, take-blanks, good-mod, Vacant, vacant-long}
 use Rattle.history.specs.LaidErase.{erase-length}
 use Rattle.history.specs.StraightErase.{second-ff}
@@ -96,14 +96,11 @@ data Erasable (h S lim : ℕ) (t : Bool) (z : ℕ) : Type 0 where
   low-sector : t ≡ false → z % 4096 ≡ 0 → z + 4096 ≤ floor h → Erasable h S lim t z
   high-sector : z % 4096 ≡ 0 → ceiling S ≤ z → z + 4096 ≤ lim → Erasable h S lim t z
 
+-- a vacant image on the way: its length and the end of its free run stay
 pub record Mid (N h S lim : ℕ) (t : Bool) (es : List Entry) (im : Image) : Type 0 where
   pub len : length im ≡ N
   pub vac : Vacant h S t es im
   pub ends : S + length (vac .free) ≡ lim
-
-pub free-quiet : {im : Image} {h S : ℕ} {t : Bool} {es : List Entry} {seg : Seg} {below free : List ℕ} → Laid im h S t es seg below free → (f : ℕ) × (length free ≡ 8 * f) × Quiet f free
-free-quiet (laid-straight f s t₁ S₁ e₁ lf qf) = (f, lf, qf)
-free-quiet (laid-turned {f = f} s t₁ S₁ e₁ b) = (f, s .free-length, s .free-quiet)
 
 front-blanked : (u q w lost : List ℕ) (j : ℕ) → length u ≡ j → j % 4096 ≡ 0 → (getD ((u ++ (q ++ w)) ++ lost) 1 0 ≡ 90 → ⊥) → getD ((u ++ (sector ++ w)) ++ lost) 1 0 ≡ 90 → ⊥
 front-blanked [] q w lost j e z f = subst (λ (s : List ℕ). getD ((s ++ w) ++ lost) 1 0 ≡ 90 → ⊥) (sym sector-is) (second-ff 4096 w lost (omega arith))
@@ -218,6 +215,7 @@ mid-safe {N} {h} {S} {lim} {t} {es} (z ∷ zs) im e d = (d, sound (e .0), mid-sa
     sound (low-sector f m l) = (m, omega (arith, laid-head (d .vac .laid)))
     sound (high-sector m g l) = (m, omega (arith, laid-length (d .vac .laid), d .ends))
 
+-- erases in the free run, cut anywhere
 pub erase-safe : {im : Image} {h S : ℕ} {t : Bool} {es : List Entry} → good-length (length im) ≡ true → Mid (length im) h S (limit (place im h S t)) t es im →
     Safe (Mid (length im) h S (limit (place im h S t)) t es) im (erase-steps im (place im h S t))
 unfolding erase-steps

@@ -79,6 +79,7 @@ third : (w : Work) (a : ℕ) → Each Finished (w .reading .entries) → w .read
 unfolding repair-3
 third w a f e = ap₂ (λ (x : List Step) (y : Ending). after w (x ++ torn-wrap-steps y) (w .reading .place .head)) (last-none (w .image) (w .reading .entries) f) e
 
+-- the kind half: mount finishes the marker
 pub mends-half :
     {l : Ledger} {im : Image} (a m c k : ℕ) {h : ℕ} {lost : List ℕ} {x : Rec} {ys : List Rec} → Inv l im → Straight im a m (blanks (4096 * a)) lost h (x ∷ ys) seg-none (torn-wrap c k) → Begun c → 1 ≤ a →
     Starts (entries-of h (x ∷ ys)) → Ok (entries-of h (x ∷ ys)) l → Mends l im

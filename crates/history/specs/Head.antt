@@ -67,9 +67,11 @@ pub record Reaching (L : ℕ → ℕ → List ℕ → List ℕ → Type 0) (at :
   pub quiet : Quiet j g
   pub far : by + 8 * j ≡ m
 
+-- with fuel for one step of the walk
 abbrev pub Reaches₁ : ℕ → List ℕ → List ℕ → ℕ → Type 0
 Reaches₁ at s t m = Reaching Lands₁ at s t m
 
+-- with fuel for two
 abbrev pub Reaches : ℕ → List ℕ → List ℕ → ℕ → Type 0
 Reaches at s t m = Reaching Lands at s t m
 
@@ -114,6 +116,7 @@ unfolding is-start is-clean is-record is-high
 quiet-name-begun s begun-none = refl
 quiet-name-begun s begun-end = refl
 
+-- behind a torn record
 pub reaches-torn : {c t : ℕ} (at x y z w j : ℕ) (g s : List ℕ) → Begun c → Name-begun t → length g ≡ 8 * j → Quiet j g → Reaches₁ at (torn c (x ∷ y ∷ z ∷ w ∷ []) t (g ++ s)) s (16 + 8 * j)
 reaches-torn {c} {t} at x y z w j g s b n e q =
     record {
@@ -126,6 +129,7 @@ reaches-torn {c} {t} at x y z w j g s b n e q =
       far = omega arith;
     }
 
+-- behind a record whose name was not ended
 pub reaches-begun : {m : ℕ} (at d : ℕ) (n s t : List ℕ) → Fit d n → Reaches₁ (at + size-of (length n) d) s t m → Reaches at (begun d n s) t (size-of (length n) d + m)
 reaches-begun at d n s t f r =
     record {
@@ -141,6 +145,7 @@ reaches-begun at d n s t f r =
       far = omega (arith, r .far);
     }
 
+-- behind a record that was not committed
 pub reaches-held : {m : ℕ} (at : ℕ) (n c s t : List ℕ) → Fit (length c) n → Reaches₁ (at + size-of (length n) (length c)) s t m → Reaches at (onto (held n c) s) t (size-of (length n) (length c) + m)
 reaches-held at n c s t f z =
     record {
@@ -244,6 +249,7 @@ nil-no-torn : torn-here [] ≡ false
 unfolding is-erased
 nil-no-torn = refl
 
+-- nothing but what has no mark
 pub reaches-end : (at j : ℕ) (g : List ℕ) → length g ≡ 8 * j → Quiet j g → Reaches₁ at g [] (8 * j)
 reaches-end at zero [] e q = record { by = 0; g = []; j = 0; land = lands-quiet at [] mark-nil nil-no-torn; whole = refl; quiet = tt; far = refl }
 reaches-end at zero (x ∷ g) e q = absurd (omega arith)
@@ -262,6 +268,7 @@ none-there low s m r =
     drop-lay low s m ∙ ap (λ (k : ℕ). drop k s) (sym (r .far)) ∙ sym (drop-drop (8 * r .j) (r .by) s) ∙ ap (drop (8 * r .j)) (r .land .there)
     ∙ drop-at (r .g) [] (8 * r .j) (r .whole)
 
+-- no head is found, and CLEAN stands at 0: 0 is the head
 pub head-none : (low : List Rec) (s : List ℕ) (m : ℕ) → All-fine low → Walked 0 low → Front low s → clean-here (lay low s) ≡ true → 1 ≤ length (lay low s) → Reaches (sizes low) s [] m → head (lay low s) ≡ give 0
 head-none low s m f w p c l r =
     head-by (lay low s) (sizes low + m) (give 0) (front-start p w) (front-wrap p w) (nothing low s m f w l r)

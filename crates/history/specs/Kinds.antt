@@ -34,6 +34,7 @@ use Rattle.history.specs.Store.{alive, Unique, Well-named, Unmarked}
 use Rattle.history.specs.Shadow.{Shadowed}
 use Rattle.history.specs.Ledger.{Matches}
 
+-- each is a byte
 abbrev pub Bytes : List ℕ → Type 0
 Bytes c = Each (λ b. b < 256) c
 
@@ -57,6 +58,7 @@ Starts (x ∷ es) = (x .it .low ≡ 0) × Each Unmarked es
 abbrev pub place : Image → ℕ → ℕ → Bool → Place
 place im h T t = record { head = h; tail = T; turned = t; length = length im }
 
+-- the six kinds
 pub data Kind (im : Image) (l : Ledger) : Type 0 where
   quiet :
       {h S T : ℕ} (B F : ℕ) {t u : Bool} {es : List Entry} {seg : Seg} → Laid im h S t es seg (blanks B) (blanks F) → Tail h S t seg (blanks B) (blanks F) T u →

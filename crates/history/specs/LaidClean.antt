@@ -143,6 +143,7 @@ front-split : (x : Rec) (s : List ℕ) → onto x s ≡ data-front x (length (x 
 unfolding data-front
 front-split x s = simp append-assoc
 
+-- the entry with other data
 abbrev pub anew : Entry → List ℕ → Entry
 anew x c = record { at = x .at; it = recontent c (x .it) }
 
@@ -204,6 +205,7 @@ module _ {im : Image} {h S : ℕ} {t : Bool} {x : Entry} {ys : List Entry} {seg 
 
 -- ---- step (c) on a laid image
 
+-- what (c) leaves, cut anywhere and at the end
 pub record Swept (l : Ledger) (im : Image) (ss : List Step) (h S B F : ℕ) (t : Bool) (x y : Entry) (es : List Entry) : Type 0 where
   pub safe : Safe (Inv l) im ss
   pub same : length (run im ss) ≡ length im
@@ -213,6 +215,7 @@ pub record Swept (l : Ledger) (im : Image) (ss : List Step) (h S B F : ℕ) (t :
   pub dead : alive (anew x now) ≡ false
   pub ok : Ok (anew x now ∷ y ∷ es) l
 
+-- step (c) on a laid image
 pub sweep-data :
     {l : Ledger} {im : Image} {h S : ℕ} (B F : ℕ) {t : Bool} {x y : Entry} {es : List Entry} → good-length (length im) ≡ true →
     Laid im h S t (x ∷ y ∷ es) seg-none (blanks B) (blanks F) → Tail h S t seg-none (blanks B) (blanks F) S t → x .it .low ≡ 0 → alive x ≡ false → y .it .low ≡ 160 → Each Unmarked es →

@@ -44,6 +44,7 @@ erase-length im a h =
     length-append (take a im) (sector ++ drop 4096 (drop a im)) ∙ ap (λ (n : ℕ). length (take a im) + n) (length-append sector (drop 4096 (drop a im)))
     ∙ omega (arith, length-take-le a im (omega arith), length-sector, length-drop 4096 (drop a im), length-drop a im)
 
+-- erases keep the length
 pub erases-length : (j a k : ℕ) (im : Image) → a + 4096 * k ≤ length im → length (run im (take j (erases a k))) ≡ length im
 erases-length zero a k im h = refl
 erases-length (suc j) a zero im h = refl
@@ -51,12 +52,14 @@ erases-length (suc j) a (suc k) im h =
     let e : length (apply im (erase a)) ≡ length im = erase-length im a (omega arith) in
     erases-length j (a + 4096) k (apply im (erase a)) (omega arith) ∙ e
 
+-- erases of whole sectors are sound
 pub erases-sound : (a k : ℕ) (im : Image) → a % 4096 ≡ 0 → a + 4096 * k ≤ length im → Steps-sound im (erases a k)
 erases-sound a zero im z h = tt
 erases-sound a (suc k) im z h =
     let e : length (apply im (erase a)) ≡ length im = erase-length im a (omega arith) in
     ((z, omega arith), erases-sound (a + 4096) k (apply im (erase a)) (omega arith) (omega arith))
 
+-- no erase: no sector
 pub no-map : (zs : List ℕ) → map erase zs ≡ [] → zs ≡ []
 no-map [] e = refl
 no-map (z ∷ zs) e = let n : _≡_ {A = ℕ} 0 1 = cc in absurd (omega arith)
@@ -281,6 +284,7 @@ Leaving im [] = Unit {0}
 Leaving im (x ∷ []) = Unit {0}
 Leaving im (x ∷ (y ∷ es)) = Cleaned (x .it) → Leaves im x y es
 
+-- every laid image with a cleaned head X and Y behind it
 pub leaves : {im : Image} {h S : ℕ} (B F : ℕ) {t : Bool} {x y : Entry} {es : List Entry} → good-length (length im) ≡ true → Laid im h S t (x ∷ y ∷ es) seg-none (blanks B) (blanks F) →
     Tail h S t seg-none (blanks B) (blanks F) S t → Cleaned (x .it) → Leaves im x y es
 leaves {im} {h} {S} B F {t} {x} {y} {es} g (laid-straight {a} {l} {lost} {x = x₀} {ys} f s t₁ S₁ e₁ lf qf) tl = go ys s S₁ e₁

@@ -94,6 +94,7 @@ Forgets im h S t seg below free [] = Unit {0}
 Forgets im h S t seg below free (x ∷ []) = Unit {0}
 Forgets im h S t seg below free (x ∷ (y ∷ es)) = Cleaned (x .it) → floor (y .at) ≡ floor h → Laid (set im (x .at + 1) 0) (y .at) S t (y ∷ es) seg below free
 
+-- step (f) on a laid image
 pub forget-laid : {im : Image} {h S : ℕ} {t : Bool} {x y : Entry} {es : List Entry} {seg : Seg} {below free : List ℕ} → Laid im h S t (x ∷ y ∷ es) seg below free → Cleaned (x .it) →
     floor (y .at) ≡ floor h → Laid (set im (x .at + 1) 0) (y .at) S t (y ∷ es) seg below free
 forget-laid {im} {h} {S} {t} {x} {y} {es} {seg} {below} {free} (laid-straight {a} {l} {lost} {x = x₀} {ys} f s t₁ S₁ es₁ lf qf) = go ys s S₁ es₁

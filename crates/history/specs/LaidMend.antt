@@ -23,10 +23,10 @@ use Rattle.history.specs.Repair.{mend-steps, mend-done}
 use Rattle.history.specs.Safe.{Safe, safe-map}
 use Rattle.history.specs.Laid.{Laid, laid-straight, laid-turned, Hole, Tail, tail-clear, tail-floor, tail-N, tail-turn, Bare, clear-ff}
 use Rattle.history.specs.Kinds.{place}
-use Rattle.history.specs.LaidEdit.{laid-below, hole-of}
+use Rattle.history.specs.LaidEdit.{laid-below, hole-of, free-quiet}
 use Rattle.history.specs.Vacant.{take-blanks, good-mod, limit-is, Vacant, vacant-long, vacant-of, vacant-tail, vacant-blank}
 use Rattle.history.specs.LaidErase.{no-map, join-ff}
-use Rattle.history.specs.EraseFree.{Mid, free-quiet, erase-safe}
+use Rattle.history.specs.EraseFree.{Mid, erase-safe}
 use Rattle.history.specs.Quiet.{quiet-ff}
 use Rattle.history.specs.Turned.{opens-blanks}
 
@@ -160,6 +160,7 @@ full-below {below = below} false d z = none-at below (laid-below d refl ∙ z re
 
 -- ---- repair 1
 
+-- the image on the way: the head CLEAN, the sector of T FF
 pub record Vacates (N h S : ℕ) (t : Bool) (es : List Entry) (im : Image) : Type 0 where
   pub len : length im ≡ N
   pub below : List ℕ
@@ -168,10 +169,12 @@ pub record Vacates (N h S : ℕ) (t : Bool) (es : List Entry) (im : Image) : Typ
   pub tail : Tail h S t seg-none below free S t
   pub blank : tail-blank im (place im h S t) ≡ true
 
+-- repair 1, cut anywhere and at the end
 pub record Repaired (im : Image) (h S : ℕ) (t : Bool) (es : List Entry) : Type 0 where
   pub safe : Safe (Vacates (length im) h S t es) im (erase-steps im (place im h S t))
   pub bare : Bare h es (run im (erase-steps im (place im h S t)))
 
+-- repair 1 on a laid image
 pub repair-laid : {im : Image} {h S : ℕ} {t : Bool} {es : List Entry} {below free : List ℕ} → good-length (length im) ≡ true → Laid im h S t es seg-none below free → Tail h S t seg-none below free S t →
     tail-blank im (place im h S t) ≡ true → Repaired im h S t es
 repair-laid {im} {h} {S} {t} {es} {below} {free} g d e b = go e

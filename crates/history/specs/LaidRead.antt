@@ -93,6 +93,7 @@ module _ {im : Image} {h S : ℕ} {t : Bool} {es : List Entry} {seg : Seg} {unde
       low-clear (λ o k. ap (chain (suc k) o 0) eb ∙ stops-clear 0 w o k))
       ∙ read-same (sym eT) (sym eu) (sym (ap₂ (λ (m : List Entry) (n : ℕ). m ++ seg-entries n seg) ee eS))
 
+  -- what is read from the head on
   pub laid-reads : Laid im h S t es seg under free → {T : ℕ} {u : Bool} → Tail h S t seg under free T u → reading-from im h ≡ read (length im) h T u (es ++ seg-entries S seg) Ending.Tail
   laid-reads (laid-straight f s et eS ee lf qf) e = straight-reads s et eS ee e
   laid-reads (laid-turned {low = low} {x = x} {ys = ys} s et eS ee eb) e =

@@ -9,12 +9,15 @@ use Rattle.spec.specs.History.{File, Ledger, not-named, without}
 use Rattle.history.specs.Lists.{keep-yes, keep-no, keep-append}
 use Rattle.history.specs.Store.{alive}
 
+-- an entry as a file
 abbrev pub as-file : Entry → File
 as-file e = record { name = name-of e; content = content-of e }
 
+-- the files of the live entries
 abbrev pub contents : List Entry → List File
 contents es = map as-file (keep alive es)
 
+-- they are the ledger's, in some order
 abbrev pub Matches : List Entry → Ledger → Type 0
 Matches es l = List·Permᴰ (contents es) l
 
@@ -39,6 +42,7 @@ module _ {A : Type 0} where
       go false true e f = rw (keep-no p x (y ∷ l) e, keep-yes p y (x ∷ l) f, keep-yes p y l f, keep-no p x l e) (Permᴰ·refl (y ∷ keep p l))
       go false false e f = rw (keep-no p x (y ∷ l) e, keep-no p y (x ∷ l) f, keep-no p y l f, keep-no p x l e) (Permᴰ·refl (keep p l))
 
+  -- what is kept of a list in another order
   pub perm-keep : (p : A → Bool) {xs ys : List A} → List·Permᴰ xs ys → List·Permᴰ (keep p xs) (keep p ys)
   perm-keep p List·Permᴰ·nil = List·Permᴰ·nil
   perm-keep p (List·Permᴰ·cons {a = x} {b = y} {l₁ = xs} {l₂ = ys} e d) = subst (λ (z : A). List·Permᴰ (keep p (x ∷ xs)) (keep p (z ∷ ys))) e (keep-cons p x xs ys (perm-keep p d))
@@ -61,9 +65,11 @@ map-append : (xs ys : List Entry) → map as-file (xs ++ ys) ≡ map as-file xs 
 map-append [] ys = refl
 map-append (x ∷ xs) ys = ap (λ (l : List File). as-file x ∷ l) (map-append xs ys)
 
+-- two lists of entries
 pub contents-append : (xs ys : List Entry) → contents (xs ++ ys) ≡ contents xs ++ contents ys
 contents-append xs ys = ap (map as-file) (keep-append alive xs ys) ∙ map-append (keep alive xs) (keep alive ys)
 
+-- one live entry
 pub contents-one : (e : Entry) → alive e ≡ true → contents (e ∷ []) ≡ as-file e ∷ []
 contents-one e h = rw (keep-yes alive e [] h)
 

@@ -22,6 +22,7 @@ use Rattle.history.specs.Lists.{not-both}
 open-some : (g : Seg) → seg-open g ≡ true → g ≡ seg-none → ⊥
 open-some g o e = not-both (seg-open g) (ap seg-open e) o
 
+-- every image of the invariant is mended
 pub mends : (l : Ledger) (im : Image) → Inv l im → Mends l im
 mends l im i = go (i .kind)
   where
@@ -51,6 +52,7 @@ waiting : (im : Image) (r : Reading) → reading im ≡ give r → empty (mended
 unfolding settled-reading if-settled settled
 waiting im r e b = rw (settled-reading, e, if-settled, settled, b)
 
+-- every image of the invariant is rested, or waits for mount
 pub settling : (l : Ledger) (im : Image) → Inv l im → Settling l im
 settling l im i = go (m .needs)
   where

@@ -18,11 +18,13 @@ use Rattle.history.specs.Kinds.{Ok, Bytes, Live-bytes}
 
 -- ---- names
 
+-- a name is the same as itself
 pub same-refl : (s : List ℕ) → same s s ≡ true
 unfolding same
 same-refl [] = refl
 same-refl (x ∷ s) = rw (same, eq-eqb x x refl) (same-refl s)
 
+-- names that are the same are equal
 pub same-is : (s t : List ℕ) → same s t ≡ true → s ≡ t
 unfolding same
 same-is [] [] h = refl
@@ -224,6 +226,7 @@ old-first n (e ∷ es) = go (alive e) (same (name-of e) n) refl refl (old-first 
         subst (Old n (e ∷ es)) (sym (ap (first-such (has-name n)) (keep-yes alive e es x) ∙ first-no (has-name n) e (keep alive es) y)) (old-cons n e es (λ k. y) ih)
     go false b x y ih = subst (Old n (e ∷ es)) (sym (ap (first-such (has-name n)) (keep-no alive e es x))) (old-cons n e es (λ k. absurd (not-both (alive e) x k)) ih)
 
+-- what the search for a name gives
 pub old-file : (n : List ℕ) (es : List Entry) (l : Ledger) → Ok es l → Old n es (file-named n es)
 unfolding file-named
 old-file n es l ok = subst (λ (fs : List Entry). Old n es (first-such (has-name n) fs)) (sym (files-alive es (ok .unique))) (old-first n es)

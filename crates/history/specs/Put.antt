@@ -18,6 +18,7 @@ use Rattle.history.specs.Seg.{Seg, seg-none, seg-torn, seg-cut, seg-held
 
 -- ---- the states of a record under way, each with f bytes from its start to what follows, s
 
+-- f bytes, of which some are taken by something unfinished and the others are FF
 pub record Opened (f : ℕ) (s l : List ℕ) : Type 0 where
   pub seg : Seg
   pub left : ℕ
@@ -76,6 +77,7 @@ name-cut d f n s h p l i j k =
     write-blank (header d []) n s 8 j (f - 8 - j) (f - 8) refl k (omega arith) in
     rw e (cut-state d j f (f - 8 - j) (take j n) s (length-take-le j n k) (omega arith) (take-plain j n p) l (omega arith) (omega arith))
 
+-- two runs of bytes
 pub bytes-append : (a : ℕ) (v w : List ℕ) → bytes-at a (v ++ w) ≡ bytes-at a v ++ bytes-at (a + length v) w
 bytes-append a [] w = rw (add-zero a)
 bytes-append a (x ∷ v) w =
@@ -168,9 +170,11 @@ open-cut n c s f g h k i =
     (λ j l. body-cut n c s f g h j (omega (arith, length-body n c)))
     k (omega (arith, length-body n c)))
 
+-- the record of a file
 abbrev pub file : List ℕ → List ℕ → Rec
 file n c = record { low = 165; status = 252; name = n; content = c }
 
+-- all but the commit is done
 pub open-done : (n c s : List ℕ) (f : ℕ) → size-of (length n) (length c) ≤ f → run (blanks f ++ s) (open-steps n c) ≡ onto (held n c) (blanks (f - size-of (length n) (length c)) ++ s)
 open-done n c s f h =
     let r : List ℕ = blanks (f - size-of (length n) (length c)) ++ s in
@@ -182,6 +186,7 @@ open-done n c s f h =
     ∙ run-append H (name-steps n) D ∙ ap (λ (l : List ℕ). run l D) (named n c s f h)
     ∙ (rw (all, take-length c, append-nil c) at (data-done n c r (length c) 0 (omega arith) (omega arith)))
 
+-- how many steps a record has
 pub length-record : (n c : List ℕ) → length (record-steps n c) ≡ 9 + length n + length c
 length-record n c = simp (length-append, length-bytes) (omega arith)
 
@@ -189,5 +194,6 @@ programs-bytes : (a : ℕ) (w : List ℕ) (ss : List Step) → Programs ss → P
 programs-bytes a [] ss p = p
 programs-bytes a (x ∷ w) ss p = programs-bytes (a + 1) w ss p
 
+-- none of them erases
 pub record-programs : (n c : List ℕ) → Programs (record-steps n c)
 record-programs n c = rw (append-assoc (bytes-at 8 n)) (programs-bytes 8 n _ (programs-bytes (8 + up8 (length n + 1)) c _ tt))

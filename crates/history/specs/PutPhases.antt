@@ -23,9 +23,10 @@ use Rattle.history.specs.Safe.{Safe, safe-append}
 use Rattle.history.specs.Laid.{Laid, Tail, Bare}
 use Rattle.history.specs.Kinds.{Bytes, Starts, Ok, Inv, place}
 use Rattle.history.specs.LaidEdit.{laid-below, laid-length, laid-head}
-use Rattle.history.specs.PutSound.{name-fit, and-right}
+use Rattle.history.specs.PutSound.{name-fit}
 use Rattle.history.specs.PutWrite.{bare-of, good-run, length-open, open-safe, commit-sound, committed}
 use Rattle.history.specs.PutTurn.{Given, given-tail, given-zero, given, turned-by-marker, marker-safe}
+use Rattle.history.specs.Lists.{and-right}
 
 -- the steps before the commit of a record at a, behind the steps `turn`, m of them
 pub record Written (l : Ledger) (im : Image) (h : ℕ) (es : List Entry) (n c : List ℕ) (turn : List Step) (a m : ℕ) : Type 0 where
@@ -69,6 +70,7 @@ module _ {im : Image} {h S : ℕ} {t : Bool} {es : List Entry} (B F : ℕ) (d : 
         rest = bare-of 0 (B - size-of (length n) (length c)) (committed 0 B turned n c g b room);
       }
 
+  -- put up to its commit, at the place that the size is given
   pub written : (p : Place) → p ≡ place im h S t → Tail h S t seg-none (blanks B) (blanks F) S t → fits p (size-of (length n) (length c)) ≡ true →
       Written l im h es n c (turn-steps p (size-of (length n) (length c))) (address p (size-of (length n) (length c))) (three-if (with-marker p (size-of (length n) (length c))))
   written p e tl f =

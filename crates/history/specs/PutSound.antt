@@ -15,7 +15,7 @@ use Rattle.spec.specs.Record.{size-of, name-ok, ends-in-slash}
 use Rattle.spec.specs.Write.{header-steps, name-steps, data-steps, commit-steps, record-steps}
 use Rattle.spec.specs.Demand.{Steps-sound}
 use Rattle.history.specs.Lay.{blanks, pad, Plain, Fit, header}
-use Rattle.history.specs.Lists.{and-left}
+use Rattle.history.specs.Lists.{and-left, and-right}
 use Rattle.history.specs.Quiet.{blank-split}
 use Rattle.history.specs.Put.{open-steps, bytes-append}
 use Rattle.history.specs.Steps.{write-over}
@@ -23,10 +23,6 @@ use Rattle.history.specs.Safe.{sound-append, sound-bytes, on-blank}
 use Rattle.history.specs.Kinds.{Bytes}
 
 -- ---- a file name
-
-pub and-right : (a b : Bool) → (a && b) ≡ true → b ≡ true
-and-right true b h = h
-and-right false b h = cc
 
 printable : (x : ℕ) → is-printable x ≡ true → (33 ≤ x) × (x ≤ 126)
 unfolding is-printable
@@ -52,6 +48,7 @@ name-fit n d h l =
       small = l;
     }
 
+-- a file name is not empty
 pub name-some : (n : List ℕ) → name-ok n ≡ true → empty n ≡ false
 unfolding name-ok
 name-some [] h = cc
@@ -97,6 +94,7 @@ body-sound n c s f g b h =
     (subst (λ (z : List Step). Steps-sound (header d [] ++ (blanks (f - 8) ++ s)) z) (sym names) (sound-bytes (header d []) w s 8 (f - 8) (f - 8 - k) refl (omega arith) (plain-bytes n (g .plain))))
     (subst (λ (z : List ℕ). Steps-sound z (data-steps (length n) c)) (sym after) (sound-bytes (header d [] ++ (w ++ blanks p)) c s (8 + up8 (length n + 1)) m (m - d) a (omega arith) b))
 
+-- all but the commit
 pub open-sound : (n c s : List ℕ) (f : ℕ) → Fit (length c) n → Bytes c → size-of (length n) (length c) ≤ f → Steps-sound (blanks f ++ s) (open-steps n c)
 open-sound n c s f g b h =
     let e : blanks f ++ s ≡ blanks 8 ++ (blanks (f - 8) ++ s) = ap (λ (z : List ℕ). z ++ s) (blank-split 8 (f - 8) f (omega arith)) ∙ append-assoc (blanks 8) (blanks (f - 8)) s in

@@ -20,9 +20,9 @@ use Rattle.history.specs.Seg.{Seg, seg-none, seg-torn, seg-cut, seg-held
 use Rattle.history.specs.Steps.{Programs, take-moved, take-programs, run-past, length-moved}
 use Rattle.history.specs.Put.{Opened, open-steps, open-cut, open-done, file, length-record, record-programs}
 use Rattle.history.specs.Safe.{Safe, safe-from, sound-past}
-use Rattle.history.specs.Laid.{Laid, laid-straight, laid-turned, Hole, Tail, tail-clear, tail-floor, tail-N, tail-turn, Bare, clear-ff}
+use Rattle.history.specs.Laid.{Laid, Hole, Tail, tail-clear, tail-floor, tail-N, tail-turn, Bare, clear-ff}
 use Rattle.history.specs.Kinds.{Bytes, Starts, Ok, Kind, quiet, Inv}
-use Rattle.history.specs.LaidEdit.{laid-below, hole-of, turn-exact}
+use Rattle.history.specs.LaidEdit.{laid-below, hole-of, turn-exact, free-quiet}
 use Rattle.history.specs.PutSound.{open-sound, commit-last}
 
 -- ---- lengths
@@ -37,6 +37,7 @@ programs-moved a [] p = tt
 programs-moved a (program i b ∷ ss) p = programs-moved a ss p
 programs-moved a (erase i ∷ ss) p = absurd p
 
+-- programming keeps the length
 pub good-run : (im : Image) (ss : List Step) → Programs ss → good-length (length im) ≡ true → good-length (length (run im ss)) ≡ true
 good-run im ss p g = ap good-length (length-run im ss p) ∙ g
 
@@ -46,13 +47,8 @@ seg-words (seg-torn c x y z w t b m) = (2, refl)
 seg-words (seg-cut d n f) = (1 + (length n + 1 + 7) / 8 + (d + 7) / 8, omega arith)
 seg-words (seg-held n c f) = (1 + (length n + 1 + 7) / 8 + (length c + 7) / 8, omega arith)
 
--- the free run is words
-free-words : {im : Image} {h S : ℕ} {t : Bool} {es : List Entry} {seg : Seg} {below free : List ℕ} → Laid im h S t es seg below free → (f : ℕ) × (length free ≡ 8 * f)
-free-words (laid-straight f s a b c l q) = (f, l)
-free-words (laid-turned {f = f} s a b c e) = (f, s .free-length)
-
 blank-words : {im : Image} {h S : ℕ} {t : Bool} {es : List Entry} {seg : Seg} {below : List ℕ} (F : ℕ) → Laid im h S t es seg below (blanks F) → (f : ℕ) × (F ≡ 8 * f)
-blank-words F d = let w = free-words d in (w .0, sym (length-replicate {A = ℕ} F 255) ∙ w .1)
+blank-words F d = let w = free-quiet d in (w .0, sym (length-replicate {A = ℕ} F 255) ∙ w .1)
 
 -- ---- the tail
 
@@ -78,6 +74,7 @@ left-of {h = h} {t = t} B F d = words (blank-words F d .0) (blank-words F d .1)
     words (suc k) e = left-some (omega arith)
     words zero e = turned t refl (omega arith)
 
+-- eight FF first
 pub blank-eight : (k : ℕ) → 8 ≤ k → blanks k ≡ blanks 8 ++ blanks (k - 8)
 blank-eight k h = blank-split 8 (k - 8) k (omega arith)
 
@@ -116,6 +113,7 @@ programs-left (erase i ∷ ss) ts p = p
 open-programs : (n c : List ℕ) → Programs (open-steps n c)
 open-programs n c = programs-left (open-steps n c) commit-steps (subst Programs (commit-last n c) (record-programs n c))
 
+-- how many steps there are before the commit
 pub length-open : (n c : List ℕ) → length (open-steps n c) ≡ 8 + length n + length c
 length-open n c = omega (arith, length-record n c, ap length (commit-last n c), length-append (open-steps n c) commit-steps)
 
@@ -141,6 +139,7 @@ module _ {im : Image} {h S : ℕ} {t : Bool} {es : List Entry} (B F : ℕ) (d : 
       plugged l st ok (hole-of d) (run im (take k (moved S (open-steps n c)))) (run (blanks F ++ hole-of d .post) (take k (open-steps n c))) (open-cut n c (hole-of d .post) F g room k i)
       (ap (run im) (take-moved k S (open-steps n c)) ∙ at-hole (hole-of d) (take k (open-steps n c)) (take-programs k (open-steps n c) (open-programs n c)))
 
+  -- before the commit, cut anywhere
   pub open-safe : (l : Ledger) → good-length (length im) ≡ true → Starts es → Ok es l → Safe (Inv l) im (moved S (open-steps n c))
   open-safe l good st ok =
       safe-from (Inv l) im (moved S (open-steps n c))
@@ -154,11 +153,13 @@ module _ {im : Image} {h S : ℕ} {t : Bool} {es : List Entry} (B F : ℕ) (d : 
   open-is : run im (moved S (open-steps n c)) ≡ hole-of d .pre ++ onto (held n c) (blanks (F - size-of (length n) (length c)) ++ hole-of d .post)
   open-is = at-hole (hole-of d) (open-steps n c) (open-programs n c) ∙ ap (λ (z : List ℕ). hole-of d .pre ++ z) (open-done n c (hole-of d .post) F room)
 
+  -- the commit only clears bits
   pub commit-sound : Sound (run im (moved S (open-steps n c))) (program (S + 2) 252)
   commit-sound =
       subst (λ (z : Image). Sound z (program (S + 2) 252)) (sym open-is)
       (sound-past (hole-of d .pre) (onto (held n c) (blanks (F - size-of (length n) (length c)) ++ hole-of d .post)) (program 2 252 ∷ []) S (hole-of d .at) tt ((omega arith, refl), tt) .0)
 
+  -- and adds the record
   pub committed :
       Laid (apply (run im (moved S (open-steps n c))) (program (S + 2) 252)) h (S + size-of (length n) (length c)) t (es ++ (record { at = S; it = file n c } ∷ [])) seg-none (blanks B)
       (blanks (F - size-of (length n) (length c)))

@@ -176,6 +176,7 @@ module _ {l : Ledger} {im : Image} {r : Reading} (q : Rested l im r) (n c : List
           (recount (omega arith) (over (record { at = e .at; it = restatus 248 (e .it) }) (program (e .at + 2) 248 ∷ []) (migrates (q .B) (q .F) xs ys e d (q .tail) l (q .good) st ok a k named-so)))
       go false k = subst P (sym k) (recount (omega arith) (over e [] (stays (q .B) (q .F) xs ys e d (q .tail) l (q .good) st ok a k)))
 
+-- put on a rested image
 pub put-commits :
     {l : Ledger} {im : Image} {r : Reading} (q : Rested l im r) (old : Option Entry) (n c : List ℕ) → Old n (r .entries) old → name-ok n ≡ true → Bytes c →
     fits (r .place) (size-of (length n) (length c)) ≡ true →

@@ -18,6 +18,7 @@ use Rattle.history.specs.Quiet.{blank-split}
 use Rattle.history.specs.Erase.{erase-mid, sector-is}
 use Rattle.history.specs.Lists.{keep-yes, keep-no}
 
+-- what is blank is FF
 pub blank-is : (s : List ℕ) → blank s ≡ true → s ≡ blanks (length s)
 unfolding blank
 blank-is [] h = refl

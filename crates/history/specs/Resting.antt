@@ -36,6 +36,7 @@ use Rattle.history.specs.Lists.{some-behind, some-append}
 
 -- ---- quiet, nothing at S
 
+-- a rested image: mount has nothing to do
 pub mends-quiet : {l : Ledger} {im : Image} {r : Reading} → Rested l im r → Mends l im
 mends-quiet q = mends-none (rested-reads q) (rested-inv q) q
 
@@ -80,6 +81,7 @@ pub starts-read :
 starts-read B F [] d e s r = absurd s
 starts-read B F (x ∷ es) d e s r = start-is B F d e (s .0) r
 
+-- the kind clean: mount does the rest of the move
 pub mends-clean :
     {l : Ledger} {im : Image} {h S T : ℕ} (B F : ℕ) {t u : Bool} {x y : Entry} {es : List Entry} → good-length (length im) ≡ true →
     Laid im h S t (x ∷ y ∷ es) seg-none (blanks B) (blanks F) → Tail h S t seg-none (blanks B) (blanks F) T u → x .it .low ≡ 0 → alive x ≡ false → y .it .low ≡ 160 → Each Unmarked es →
@@ -90,6 +92,7 @@ mends-clean {l} {im} {h} {T = T} B F {u = u} {x} {y} {es} g d e a b c m o =
     (close-rests B F g d e a b c m o) (close-some (length im) x y)
     (one-none (begin im r) (is-clean-0 (x .it .low) a)) (second-clean (begin im r) x y es c)
 
+-- the kind both: mount does the last step
 pub mends-both :
     {l : Ledger} {im : Image} {h S T : ℕ} (B F : ℕ) {t u : Bool} {x y : Entry} {es : List Entry} → good-length (length im) ≡ true →
     Laid im h S t (x ∷ y ∷ es) seg-none (blanks B) (blanks F) → Tail h S t seg-none (blanks B) (blanks F) T u → x .it .low ≡ 0 → alive x ≡ false → Cleaned (x .it) → y .it .low ≡ 0 →
@@ -105,6 +108,7 @@ first-clean : (w : Work) → head-clean (w .reading .entries) ≡ true → repai
 unfolding repair-1
 first-clean w e = rw (repair-1, e)
 
+-- the kind vacated: mount erases, and makes Y START
 pub mends-vacated :
     {l : Ledger} {im : Image} {h S T : ℕ} {t u : Bool} {x : Entry} {es : List Entry} {below free : List ℕ} → good-length (length im) ≡ true → Laid im h S t (x ∷ es) seg-none below free →
     Tail h S t seg-none below free T u → tail-blank im (place im h T u) ≡ true → x .it .low ≡ 160 → Each Unmarked es → Ok (x ∷ es) l → Mends l im

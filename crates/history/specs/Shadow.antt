@@ -16,6 +16,7 @@ empty-right : (a b : List Entry) → a ++ b ≡ [] → b ≡ []
 empty-right [] b h = h
 empty-right (x ∷ a) b h = cc
 
+-- the F8 record o between xs and ys, with an FC of its name among them
 pub record Shadowed (xs ys : List Entry) (o : Entry) : Type 0 where
   pub unique : Unique (xs ++ ys)
   pub old : named 0xF8 o ≡ true
@@ -33,10 +34,12 @@ module _ (xs ys : List Entry) (o : Entry) (s : Shadowed xs ys o) where
   unfolding has-named
   has-same e = any-insert (named-as 0xFC e) xs ys o (rw (fc-not-f8 o (s .old)))
 
+  -- the others are live as without o
   pub live-same : (e : Entry) → live es e ≡ live R e
   unfolding live
   live-same e = ap (λ (b : Bool). named 0xFC e || (named 0xF8 e && not b)) (has-same e)
 
+  -- o is not
   pub o-dead : live es o ≡ false
   unfolding live
   o-dead = rw (live, has-same o, s .covered, fc-not-f8 o (s .old)) (and-false (named 0xF8 o))

@@ -17,6 +17,7 @@ use Rattle.spec.specs.Chain.{Chain, add, stop, chain, Reading, read, joined, fr
 use Rattle.history.specs.Lay.{lay, sizes, entries-of, before, All-fine, chain-lay, length-lay, lay-is, lots, drop-past}
 use Rattle.history.specs.Last.{Ends, Stops}
 
+-- entries, then the end
 abbrev pub chain-of : List Entry → Bool → ℕ → Next → Chain
 chain-of es o t x = record { entries = es; held = o; tail = t; last = x }
 
@@ -37,9 +38,11 @@ module _ (low high : List Rec) (gap lost rest : List ℕ) (h : ℕ) (below : siz
   low-length : length (lay low gap) ≡ floor h
   low-length = length-lay low gap ∙ below
 
+  -- up to the head's sector
   pub take-low : take (floor h) image ≡ lay low gap
   take-low = ap (take (floor h)) split ∙ take-at (lay low gap) (lost ++ lay high rest) (floor h) low-length
 
+  -- from the head on
   pub drop-high : drop h image ≡ lay high rest
   drop-high = ap (drop h) split ∙ drop-past (lay low gap) (lost ++ lay high rest) h (length lost) (sym here ∙ ap (λ (k : ℕ). k + length lost) (sym low-length)) ∙ drop-at lost (lay high rest) (length lost) refl
 

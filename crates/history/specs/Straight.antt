@@ -73,6 +73,7 @@ module _ {im : List ℕ} {a l : ℕ} {gap lost : List ℕ} {h : ℕ} {x : Rec} {
       subst (λ (m : ℕ). Reaches 0 ((gap ++ lost) ++ lay (x ∷ ys) (seg-onto seg free)) (lay (x ∷ ys) (seg-onto seg free)) m) g
       (reaches-more (reaches-quiet 0 w (gap ++ lost) (lay (x ∷ ys) (seg-onto seg free)) (before-length ∙ omega arith) (subst (λ (n : ℕ). Quiet n (gap ++ lost)) (sym e) before-quiet)))
 
+  -- START is found
   pub straight-start : (h ≡ 0 → ⊥) → x .low ≡ 0 → head im ≡ give h
   straight-start n e =
       ap head together
@@ -83,6 +84,7 @@ module _ {im : List ℕ} {a l : ℕ} {gap lost : List ℕ} {h : ℕ} {x : Rec} {
   not-clean : (h ≡ 0 → ⊥) → clean-here ((gap ++ lost) ++ lay (x ∷ ys) (seg-onto seg free)) ≡ false
   not-clean n = second-clean ((gap ++ lost) ++ lay (x ∷ ys) (seg-onto seg free)) (λ e. s .front (sym (List·getD-append (gap ++ lost) (lay (x ∷ ys) (seg-onto seg free)) 0 1 (omega (arith, before-length, s .at))) ∙ e))
 
+  -- CLEAN is found
   pub straight-clean : (h ≡ 0 → ⊥) → x .low ≡ 160 → head im ≡ give h
   straight-clean n e =
       ap head together
@@ -90,6 +92,7 @@ module _ {im : List ℕ} {a l : ℕ} {gap lost : List ℕ} {h : ℕ} {x : Rec} {
       (subst (λ (b : ℕ). Reaches 0 ((gap ++ lost) ++ lay (x ∷ ys) (seg-onto seg free)) (b ∷ 90 ∷ drop 2 (lay (x ∷ ys) (seg-onto seg free))) h) e (reached n))
       ∙ ap give (zero-add h)
 
+  -- START at 0 is found
   pub straight-zero : h ≡ 0 → x .low ≡ 0 → head im ≡ give h
   straight-zero z e = ap head (at-zero z) ∙ subst (λ (b : ℕ). head (b ∷ 90 ∷ drop 2 (lay (x ∷ ys) (seg-onto seg free))) ≡ give 0) (sym e) (head-zero (drop 2 (lay (x ∷ ys) (seg-onto seg free)))) ∙ ap give (sym z)
 
@@ -103,9 +106,11 @@ module _ {im : List ℕ} {a l : ℕ} {gap lost : List ℕ} {h : ℕ} {x : Rec} {
       ∙ ap give (sym z)
 
   -- ---- the reading
+  -- the head's sector
   pub bottom : floor h ≡ 4096 * a
   bottom = omega (arith, s .at, s .lost-small)
 
+  -- what is read
   pub straight-reading : (t : ℕ) (o : Bool) (es : List Entry) → Ends (h + sizes (x ∷ ys)) (seg-onto seg free) (chain-of es o t Next.Clear) →
       reading-from im h ≡ read (length im) h t false (entries-of h (x ∷ ys) ++ es) Ending.Tail
   straight-reading t o es e =

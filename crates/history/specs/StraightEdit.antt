@@ -14,22 +14,27 @@ use Rattle.history.specs.Straight.{Straight}
 
 -- ---- lists of records
 
+-- two lists of records
 pub lay-append : (xs ys : List Rec) (s : List ℕ) → lay (xs ++ ys) s ≡ lay xs (lay ys s)
 lay-append [] ys s = refl
 lay-append (a ∷ xs) ys s = ap (onto a) (lay-append xs ys s)
 
+-- two lists of records
 pub sizes-append : (xs ys : List Rec) → sizes (xs ++ ys) ≡ sizes xs + sizes ys
 sizes-append [] ys = sym (zero-add (sizes ys))
 sizes-append (a ∷ xs) ys = ap (λ (n : ℕ). rsize a + n) (sizes-append xs ys) ∙ sym (add-assoc (rsize a) (sizes xs) (sizes ys))
 
+-- two lists of records
 pub fine-append : (xs ys : List Rec) → All-fine xs → All-fine ys → All-fine (xs ++ ys)
 fine-append [] ys p q = q
 fine-append (x ∷ xs) ys p q = (p .0, fine-append xs ys (p .1) q)
 
+-- the first list
 pub fine-left : (xs ys : List Rec) → All-fine (xs ++ ys) → All-fine xs
 fine-left [] ys p = tt
 fine-left (x ∷ xs) ys p = (p .0, fine-left xs ys (p .1))
 
+-- the second
 pub fine-right : (xs ys : List Rec) → All-fine (xs ++ ys) → All-fine ys
 fine-right [] ys p = p
 fine-right (x ∷ xs) ys p = fine-right xs ys (p .1)
@@ -56,6 +61,7 @@ other im′ s e f =
 unfoldable pub front-part : List ℕ → List ℕ → List Rec → List ℕ
 front-part gap lost xs = gap ++ (lost ++ lay xs [])
 
+-- it, and t behind it
 pub front-is : (gap lost : List ℕ) (xs : List Rec) (t : List ℕ) → front-part gap lost xs ++ t ≡ gap ++ (lost ++ lay xs t)
 unfolding front-part
 front-is gap lost xs t =
@@ -63,12 +69,14 @@ front-is gap lost xs t =
     ∙ ap (λ (l : List ℕ). gap ++ l) (append-assoc lost (lay xs []) t ∙ ap (λ (l : List ℕ). lost ++ l) (sym (lay-is xs t)))
 
 module _ {im : List ℕ} {a l : ℕ} {gap lost : List ℕ} {h : ℕ} {rs : List Rec} (xs ys : List Rec) {seg : Seg} {free : List ℕ} (e : rs ≡ xs ++ ys) (s : Straight im a l gap lost h rs seg free) where
+  -- how long it is
   pub front-length : length (front-part gap lost xs) ≡ h + sizes xs
   unfolding front-part
   front-length =
       length-append gap (lost ++ lay xs []) ∙ ap (λ (n : ℕ). length gap + n) (length-append lost (lay xs []))
       ∙ omega (arith, s .gap-length, s .lost-length, s .at, length-lay xs [])
 
+  -- the image in two parts
   pub split-at : im ≡ front-part gap lost xs ++ lay ys (seg-onto seg free)
   split-at =
       s .is ∙ ap (λ (l : List ℕ). gap ++ (lost ++ l)) (ap (λ (zs : List Rec). lay zs (seg-onto seg free)) e ∙ lay-append xs ys (seg-onto seg free))
@@ -82,19 +90,23 @@ module _ {im : List ℕ} {a l : ℕ} {gap lost : List ℕ} {h : ℕ} {rs : List 
 
 -- ---- a status byte, a low byte
 
+-- with another status
 abbrev pub restatus : ℕ → Rec → Rec
 restatus b r = record { low = r .low; status = b; name = r .name; content = r .content }
 
+-- with another low byte
 abbrev pub relow : ℕ → Rec → Rec
 relow b r = record { low = b; status = r .status; name = r .name; content = r .content }
 
 -- ---- a record written at T
 
+-- how long the image is
 pub straight-length : {im : List ℕ} {a l : ℕ} {gap lost : List ℕ} {h : ℕ} {high : List Rec} {seg : Seg} {free : List ℕ} → Straight im a l gap lost h high seg free →
     length im ≡ h + sizes high + seg-size seg + length free
 straight-length {gap = gap} {lost = lost} {high = high} {seg = seg} {free = free} s =
     ap length (s .is) ∙ length-append gap (lost ++ lay high (seg-onto seg free)) ∙ ap (λ (n : ℕ). length gap + n) (length-append lost (lay high (seg-onto seg free)))
     ∙ omega (arith, s .gap-length, s .lost-length, s .at, length-lay high (seg-onto seg free), length-seg seg free)
 
+-- with other data
 abbrev pub recontent : List ℕ → Rec → Rec
 recontent c r = record { low = r .low; status = r .status; name = r .name; content = c }

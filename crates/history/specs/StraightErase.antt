@@ -17,6 +17,7 @@ use Rattle.history.specs.Erase.{erases, half-erased, half-erased-length,
 use Rattle.history.specs.Seg.{seg-none}
 use Rattle.history.specs.Straight.{Straight}
 
+-- the second byte is FF, so no record stands at 0
 pub second-ff : (n : ℕ) (p q : List ℕ) → 2 ≤ n → getD ((blanks n ++ p) ++ q) 1 0 ≡ 90 → ⊥
 second-ff zero p q h e = not-suc-le-zero h
 second-ff (suc zero) p q h e = omega arith
@@ -27,6 +28,7 @@ front-keep [] lost D L a l f g = g
 front-keep (x ∷ []) lost D L a l f g = absurd (omega arith)
 front-keep (x ∷ y ∷ gap) lost D L a l f g = f
 
+-- a record is words
 pub rsize-words : (r : Rec) → rsize r ≡ 8 * (rsize r / 8)
 rsize-words r = omega arith
 
@@ -87,6 +89,7 @@ vacated-to : (N : ℕ) (y : Entry) → (y .at ≡ 0 → ⊥) → vacated-end N y
 unfolding vacated-end
 vacated-to N y n = rw (vacated-end, ne-eqb (y .at) 0 n)
 
+-- the sectors that a move erases
 pub vacated-are : (N h : ℕ) (x y : Rec) (a l k r : ℕ) → 4096 * a + 8 * l ≡ h → l < 512 → 512 * suc k + r ≡ l + rsize x / 8 → r < 512 →
     map erase (vacated N (record { at = h; it = x }) (record { at = h + rsize x; it = y })) ≡ erases (4096 * a) (suc k)
 vacated-are N h x y a l k r e s t u =
@@ -102,6 +105,7 @@ module _ {im : Image} {a l : ℕ} {gap lost : List ℕ} {h : ℕ} {x y : Rec} {y
   abbrev A : ℕ
   A = 4096 * a
 
+  -- all of (d): the gap's new sectors are FF
   pub done : Straight (run im (erases A (suc k))) (a + suc k) r (gap ++ blanks (4096 * suc k)) (drop (4096 * suc k) (old-head lost x)) (h + rsize x) (y ∷ ys) seg-none free
   done =
       subst (λ (g : List ℕ). Straight (run im (erases A (suc k))) (a + suc k) r (gap ++ g) (drop (4096 * suc k) (old-head lost x)) (h + rsize x) (y ∷ ys) seg-none free) (all-erased (suc k) (old-head lost x))

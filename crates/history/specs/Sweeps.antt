@@ -36,6 +36,7 @@ use Rattle.history.specs.Copying.{Dead-first, copy-safe, copy-some, copi
 
 -- ---- remove
 
+-- remove's one step
 pub remove-keeps :
     {l : Ledger} {im : Image} {r : Reading} (n : List ℕ) (e : Entry) → Rested l im r → file-named n (r .entries) ≡ some e →
     Sound im (status-step e 0) × Inv (without n l) (run im (status-step e 0 ∷ []))
@@ -172,6 +173,7 @@ moves-on : (k : ℕ) (im : Image) (r : Reading) → stuck r ≡ false → moves 
 unfolding moves
 moves-on k im r e = rw (moves, e)
 
+-- k moves, cut anywhere
 pub moves-safe : (k : ℕ) {l : Ledger} {im : Image} {r : Reading} → Rested l im r → Safe (Inv l) im (concat (moves k im r))
 unfolding moves
 moves-safe zero q = rested-inv q

@@ -237,5 +237,6 @@ sound-by im l Request.mount i b = safe-sound (Inv l) im (steps-of (mount-plan im
 sound-by im l (Request.get n) i b = safe-sound (Inv l) im (steps-of (get-plan n im)) (none-safe im l (get-plan n im) (get-none n im) i)
 sound-by im l (Request.list j) i b = safe-sound (Inv l) im (steps-of (list-plan j im)) (none-safe im l (list-plan j im) (list-none j im) i)
 
+-- the theorem
 pub demand-3 : Demand-3
 demand-3 = demand-by Inv formatted (λ im l c. keeps-by im l (c .request) (c .allowance)) sound-by mounts

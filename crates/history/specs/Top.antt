@@ -22,11 +22,13 @@ carried : (im : Image) (k : ℕ) (p : Plan) → carry-out im k (give p) ≡ reco
 unfolding carry-out
 carried im k p = refl
 
+-- enough allowance: done
 pub carried-done : (im : Image) (k : ℕ) (p : Plan) → length (p .steps) ≤ k → carry-out im k (give p) ≡ record { numbers = p .done; image = run im (p .steps) }
 carried-done im k p h =
     carried im k p
     ∙ ap₂ (λ (n : Numbers) (i : Image). record { numbers = n; image = i }) (numbers-by k p true (le-leb (length (p .steps)) k h)) (ap (run im) (take-all k (p .steps) h))
 
+-- less: cut
 pub carried-cut : (im : Image) (k : ℕ) (p : Plan) → k < length (p .steps) → carry-out im k (give p) ≡ record { numbers = cut k p; image = run im (take k (p .steps)) }
 carried-cut im k p h =
     carried im k p ∙ ap (λ (n : Numbers). record { numbers = n; image = run im (take k (p .steps)) }) (numbers-by k p false (lt-leb (length (p .steps)) k h))
@@ -61,6 +63,7 @@ module _ (Inv : Ledger → Image → Type 0) where
       all-sound (outcome im c .image) (fed im (c .request) (outcome im c .numbers) l) cs (keeps im l c i (b .0)) (b .1),
     )
 
+    -- demand 3 from these four
     pub demand-by : Demand-3
     demand-by raw k cs e b =
         let start : Image = format raw k .image in

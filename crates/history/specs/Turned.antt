@@ -25,6 +25,7 @@ pub data End : Type 0 where
   exact : End
   marker : ℕ → End
 
+-- its bytes
 abbrev pub end-bytes : End → List ℕ
 end-bytes exact = []
 end-bytes (marker k) = wrap (blanks k)
@@ -75,6 +76,7 @@ opens-end : {free : List ℕ} {x : Next} → Opens free x → Low-end x
 opens-end opens-ff = low-clear
 opens-end opens-none = low-over
 
+-- with eight FF at least
 pub open-ff : (n : ℕ) (s free : List ℕ) → free ≡ blanks n ++ s → 8 ≤ n → Opens free Next.Clear
 open-ff n s free e h =
     subst (λ (l : List ℕ). Opens l Next.Clear)
@@ -107,11 +109,13 @@ module _ {im : List ℕ} {a l : ℕ} {lost : List ℕ} {h : ℕ} {low : List Rec
   fronted : Front low (seg-onto seg ((free ++ lost) ++ rest))
   fronted = rw (append-assoc free lost rest) (front-seg low seg free (lost ++ rest) (s .opened) (s .opens) (omega (arith, s .below, s .free-length, s .some-below)))
 
+  -- START is found
   pub turned-start : x .low ≡ 0 → head im ≡ give h
   turned-start e =
       ap head seg-whole ∙ head-start low (seg-onto seg ((free ++ lost) ++ rest)) (drop 2 rest) (seg-size seg + 8 * (f + l)) (s .fine-low) (s .walked) fronted (reached e is-START)
       ∙ ap give (omega (arith, s .below, s .at))
 
+  -- CLEAN is found, if none stands at 0
   pub turned-clean : x .low ≡ 160 → clean-here im ≡ false → head im ≡ give h
   turned-clean e c =
       ap head seg-whole ∙ head-clean low (seg-onto seg ((free ++ lost) ++ rest)) (drop 2 rest) (seg-size seg + 8 * (f + l)) (s .fine-low) (s .walked) fronted (sym (ap clean-here seg-whole) ∙ c) (reached e is-CLEAN)
@@ -121,18 +125,22 @@ module _ {im : List ℕ} {a l : ℕ} {lost : List ℕ} {h : ℕ} {low : List Rec
   bottom : floor h ≡ 4096 * a
   bottom = omega (arith, s .at, s .lost-small)
 
+  -- the bytes below the head's sector
   pub low-part : sizes low + length (seg-onto seg free) ≡ floor h
   low-part = ap (λ (n : ℕ). sizes low + n) (length-seg seg free) ∙ omega (arith, s .below, s .free-length, bottom)
 
+  -- the lost bytes before the head
   pub high-part : floor h + length lost ≡ h
   high-part = omega (arith, bottom, s .at, s .lost-length)
 
+  -- the image in the general shape
   pub shaped : im ≡ image low (x ∷ ys) (seg-onto seg free) lost (end-bytes end) h low-part high-part
   shaped = s .is ∙ ap (lay low) (seg-append seg free (lost ++ rest))
 
   low-ends : Ends (sizes low) (seg-onto seg free) (chain-of (seg-entries (sizes low) seg) (seg-open seg) (sizes low + seg-size seg) (s .opened))
   low-ends = seg-ends (s .opened) (sizes low) seg free (opens-stops (sizes low + seg-size seg) (s .opens))
 
+  -- what is read
   pub turned-reading : reading-from im h ≡ read (length im) h (sizes low + seg-size seg) true (entries-of h (x ∷ ys) ++ (entries-of 0 low ++ seg-entries (sizes low) seg)) Ending.Tail
   turned-reading = go end shaped
     where

@@ -55,6 +55,7 @@ module _ {im : List ℕ} {a l : ℕ} {lost : List ℕ} {h : ℕ} {low : List Rec
       let n : rsize x / 8 - 1 ≡ 511 - l + (512 * k + r) = omega (arith, s .lost-small) in
       quiet-second x lost [] l (512 * k + r) (s .lost-length) (omega (arith, s .lost-small)) (subst (λ (m : ℕ). Quiet m (body (x .name) (x .content) [])) n c)
 
+  -- after at least one erase: the head is Y
   pub turned-m3 : (i : ℕ) → i ≤ k → Turned (run im (take (suc i) (erases (4096 * a) (suc k)))) (a + suc k) r (drop (4096 * suc k) (old-head lost x)) (h + rsize x) low seg-none (f + 512 * suc k) (free ++ half-erased (suc i) (suc k) (old-head lost x)) (y ∷ ys) end
   unfolding rest
   turned-m3 i e =
@@ -111,6 +112,7 @@ module _ {im : List ℕ} {a l : ℕ} {lost : List ℕ} {h : ℕ} {low : List Rec
       let n : 511 - l + 512 * k ≡ 511 - l + (512 * k + 0) = omega arith in
       quiet-second x lost (end-bytes end) l (512 * k + 0) (s .lost-length) (omega (arith, s .lost-small)) (subst (λ (m : ℕ). Quiet m (body (x .name) (x .content) (end-bytes end))) n c)
 
+  -- after at least one erase: not turned, the head is at 0
   pub zero-m3 : (i : ℕ) → i ≤ k → Straight (run im (take (suc i) (erases (4096 * a) (suc k)))) 0 0 [] [] 0 low seg-none (free ++ half-erased (suc i) (suc k) (last-head lost x end))
   zero-m3 i e =
       let D : List ℕ = half-erased (suc i) (suc k) q₀ in

@@ -91,6 +91,7 @@ module _ {im : List ℕ} {a l : ℕ} {lost : List ℕ} {h : ℕ} {low : List Rec
   abbrev rest : List ℕ
   rest = lost ++ lay (x ∷ ys) (end-bytes end)
 
+  -- what stands at S may be replaced
   pub turned-hole : Hole im h (sizes low) true (entries-of h (x ∷ ys) ++ entries-of 0 low) seg [] free
   turned-hole =
       record {
@@ -118,6 +119,7 @@ module _ {im : List ℕ} {a l : ℕ} {lost : List ℕ} {h : ℕ} {low : List Rec
   pub high-front : List Rec → List ℕ
   high-front xs = lay low (seg-onto seg (free ++ (lost ++ lay xs [])))
 
+  -- it, and t behind it
   pub high-front-is : (xs : List Rec) (t : List ℕ) → high-front xs ++ t ≡ lay low (seg-onto seg (free ++ (lost ++ lay xs t)))
   unfolding high-front
   high-front-is xs t =
@@ -127,12 +129,14 @@ module _ {im : List ℕ} {a l : ℕ} {lost : List ℕ} {h : ℕ} {low : List Rec
       (sym (seg-append seg u t)
       ∙ ap (seg-onto seg) (append-assoc free (lost ++ lay xs []) t ∙ ap (λ (l : List ℕ). free ++ l) (append-assoc lost (lay xs []) t ∙ ap (λ (l : List ℕ). lost ++ l) (sym (lay-is xs t)))))
 
+  -- how long it is
   pub high-front-length : (xs : List Rec) → length (high-front xs) ≡ h + sizes xs
   unfolding high-front
   high-front-length xs =
       length-lay low (seg-onto seg (free ++ (lost ++ lay xs [])))
       ∙ omega (arith, length-seg seg (free ++ (lost ++ lay xs [])), length-append free (lost ++ lay xs []), length-append lost (lay xs []), length-lay xs [], s .free-length, s .lost-length, s .below, s .at)
 
+  -- a record from the head on may be replaced
   pub high-inside : {xs zs : List Entry} {e : Entry} → Among h (x ∷ ys) xs e zs → Inside im h (sizes low) true xs e (zs ++ entries-of 0 low) seg [] free
   high-inside {xs} {zs} {e} q =
       record {
@@ -156,6 +160,7 @@ module _ {im : List ℕ} {a l : ℕ} {lost : List ℕ} {h : ℕ} {low : List Rec
   walks-still k (low-high p) w = absurd (omega arith)
   walks-still {e} k (low-zero p u) w = subst (λ (c : ℕ). Walks (e .at) c) (sym u) (walks-at (sym p) walks-clean)
 
+  -- a record from 0 on may be replaced
   pub low-inside : {xs zs : List Entry} {e : Entry} → Among 0 low xs e zs → Inside im h (sizes low) true (entries-of h (x ∷ ys) ++ xs) e zs seg [] free
   low-inside {xs} {zs} {e} q =
       let t : List ℕ = seg-onto seg (free ++ rest) in
@@ -183,6 +188,7 @@ module _ {im : List ℕ} {a l : ℕ} {lost : List ℕ} {h : ℕ} {low : List Rec
             refl;
       }
 
+  -- how long the image is
   pub turned-length : length im ≡ h + sizes (x ∷ ys) + length (end-bytes end)
   turned-length =
       ap length (s .is ∙ sym (high-front-is [] (lay (x ∷ ys) (end-bytes end)))) ∙ length-append (high-front []) (lay (x ∷ ys) (end-bytes end))

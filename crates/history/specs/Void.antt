@@ -27,6 +27,7 @@ void-rel (seg-held n c f) = program 2 0 ∷ []
 abbrev pub dead : List ℕ → List ℕ → Rec
 dead n c = record { low = 165; status = 0; name = n; content = c }
 
+-- a dead record of its size
 abbrev pub voided : Seg → List Rec
 voided seg-none = []
 voided (seg-torn c x y z w t b m) = dead [] [] ∷ []
@@ -45,18 +46,21 @@ end-name d n s =
     ap (λ (x : List ℕ). x ++ s) (blank-split d (pad d) (up8 d) (omega arith)) ∙ append-assoc (blanks d) (blanks (pad d)) s in
     set-end (header d []) n (blanks (pad (length n + 1)) ++ (blanks (up8 d) ++ s)) refl ∙ rw (l, v)
 
+-- the steps make it so
 pub void-run : (g : Seg) (s : List ℕ) → run (seg-onto g s) (void-rel g) ≡ lay (voided g) s
 void-run seg-none s = refl
 void-run (seg-torn c x y z w t b m) s = refl
 void-run (seg-cut d n f) s = ap (λ (l : List ℕ). set l 2 0) (end-name d n s)
 void-run (seg-held n c f) s = refl
 
+-- none erases
 pub void-programs : (g : Seg) → Programs (void-rel g)
 void-programs seg-none = tt
 void-programs (seg-torn c x y z w t b m) = tt
 void-programs (seg-cut d n f) = tt
 void-programs (seg-held n c f) = tt
 
+-- the dead record is fine
 pub void-fine : (g : Seg) → All-fine (voided g)
 void-fine seg-none = tt
 void-fine (seg-torn c x y z w t b m) = (record { low-ok = low-record; status-ok = st-00; fit = record { short = omega arith; plain = tt; small = omega arith } }, tt)

@@ -34,7 +34,7 @@ use Rattle.history.specs.Whole.{is-clean-0}
 use Rattle.history.specs.Legal.{Ruled}
 use Rattle.history.specs.Void.{void-rel, void-run, void-programs, void-cut, last-end}
 use Rattle.history.specs.Laid.{Laid, Tail, tail-clear, tail-floor, tail-N, tail-turn, Hole, Bare}
-use Rattle.history.specs.LaidEdit.{laid-fine, hole-of}
+use Rattle.history.specs.LaidEdit.{laid-fine, hole-of, free-quiet}
 use Rattle.history.specs.LaidRead.{start-reads}
 use Rattle.history.specs.OkLaws.{ok-add}
 use Rattle.history.specs.Kinds.{Ok, Starts, quiet, Inv, Rested}
@@ -42,7 +42,6 @@ use Rattle.history.specs.Closes.{Rests}
 use Rattle.history.specs.Rules.{calm-of, seg-dead, seg-plain}
 use Rattle.history.specs.Idle.{Mends, mends-3}
 use Rattle.history.specs.Vacant.{rested-of, rested-inv}
-use Rattle.history.specs.EraseFree.{free-quiet}
 use Rattle.history.specs.PutWrite.{bare-of}
 use Rattle.history.specs.PutOld.{starts-end}
 use Rattle.history.specs.Voiding.{Voids, voids}
@@ -163,6 +162,7 @@ third w es e ss i j k =
     ap₂ (λ (a : List Step) (b : Ending). after w (a ++ torn-wrap-steps b) (w .reading .place .head)) (ap (last-steps (w .image)) i ∙ last-end (w .image) es e ∙ k) j
     ∙ ap (λ (a : List Step). after w a (w .reading .place .head)) (append-nil ss)
 
+-- the kind quiet with an unfinished record: mount voids it
 pub mends-void :
     {l : Ledger} {im : Image} {h S T : ℕ} (B F : ℕ) {t u : Bool} (es : List Entry) (g : Seg) → good-length (length im) ≡ true → Laid im h S t es g (blanks B) (blanks F) →
     Tail h S t g (blanks B) (blanks F) T u → Starts es → Ok es l → (g ≡ seg-none → ⊥) → Mends l im

@@ -58,6 +58,7 @@ torn-sound x y z w t s begun-ff =
 torn-sound x y z w t s begun-5a =
     ((omega arith, refl), ((omega arith, refl), ((omega arith, refl), ((omega arith, refl), ((omega arith, refl), ((omega arith, refl), ((omega arith, refl), tt)))))))
 
+-- every unfinished record
 pub voids : (g : Seg) (S : ℕ) → (g ≡ seg-none → ⊥) → Voids g S
 unfolding alive named void-steps is-erased is-reserved
 voids seg-none S n = absurd (n refl)

@@ -25,10 +25,12 @@ use Rattle.history.specs.Straight.{Straight, straight-start, straight-ze
 use Rattle.history.specs.Marker.{torn-reading}
 use Rattle.history.specs.Turned.{Turned, End, end-bytes, low-part, high-part, shaped}
 
+-- START is not CLEAN
 pub is-clean-0 : (b : ℕ) → b ≡ 0 → is-clean b ≡ false
 unfolding is-clean
 is-clean-0 b e = rw e
 
+-- CLEAN
 pub is-clean-A0 : (b : ℕ) → b ≡ 160 → is-clean b ≡ true
 unfolding is-clean
 is-clean-A0 b e = rw e
@@ -37,12 +39,15 @@ module _ {im : List ℕ} {a l : ℕ} {gap lost : List ℕ} {h : ℕ} {x : Rec} {
   abbrev T : ℕ
   T = h + sizes (x ∷ ys) + seg-size seg
 
+  -- the gap fills the sectors below
   pub below : sizes [] + length gap ≡ floor h
   below = zero-add (length gap) ∙ s .gap-length ∙ sym (bottom s)
 
+  -- the lost bytes end at the head
   pub here : floor h + length lost ≡ h
   here = omega (arith, bottom s, s .at, s .lost-length)
 
+  -- START is found
   pub started : x .low ≡ 0 → head im ≡ give h
   started e = go (eqb h 0) refl
     where
@@ -50,9 +55,11 @@ module _ {im : List ℕ} {a l : ℕ} {gap lost : List ℕ} {h : ℕ} {x : Rec} {
       go true k = straight-zero s (eqb-true h 0 k) e
       go false k = straight-start s (eqb-false h 0 k) e
 
+  -- the bytes below the head's sector
   pub gap-part : part 0 (floor h) im ≡ gap
   gap-part = ap (take (floor h)) (s .is) ∙ part-below [] (x ∷ ys) gap lost (seg-onto seg free) h below here
 
+  -- the free run
   pub free-part : part T (length im) im ≡ free
   free-part =
       let e : part (h + sizes (x ∷ ys)) (length im) im ≡ seg-onto seg free = ap (λ (l : List ℕ). drop (h + sizes (x ∷ ys)) (take (length im) l)) (s .is) ∙ part-rest [] (x ∷ ys) gap lost (seg-onto seg free) h below here (length im) (ap length (s .is)) in
@@ -72,9 +79,9 @@ module _ {im : List ℕ} {a l : ℕ} {lost : List ℕ} {h : ℕ} {low : List Rec
   abbrev T₁ : ℕ
   T₁ = sizes low + seg-size seg
 
+  -- the free run
   pub free₁ : part T₁ (floor h) im ≡ free
   free₁ =
       sym (drop-drop (seg-size seg) (sizes low) (take (floor h) im))
       ∙ ap (λ (l : List ℕ). drop (seg-size seg) (drop (sizes low) (take (floor h) l))) (shaped s)
       ∙ ap (drop (seg-size seg)) (part-gap low (x ∷ ys) (seg-onto seg free) lost (end-bytes end) h (low-part s) (high-part s)) ∙ drop-seg seg free
-
