@@ -1,4 +1,4 @@
--- Step (c) of a move: the marks in X's data are cleared, word by word. Cut anywhere the data keeps its place and length; at the end it has no mark.
+-- Step (c) of a move: the marks in X's data are cleared, word by word; at the end the data has its place and length, and no mark.
 use Prim.Native.Nat.{ℕ, zero, suc, _+_, _*_, _≤_, _<_}
 use native.Mathlib.Omega.{arith}
 use native.Mathlib.Nat.{not-suc-le-zero}
@@ -106,7 +106,8 @@ clean-done (suc k) a p s q e l =
         (subst (λ (l : List ℕ). Clean-now k (p ++ U) (drop 8 s) q (run l (clean-steps k (a + 8) (drop 8 s)))) (sym n) (f U lu)))
     go false true x y f =
         let i : length s < 8 = ltb-true (length s) 8 y in
-        subst (λ (ss : List Step). Clean-now (suc k) p s q (run (p ++ (s ++ q)) ss)) (sym (clean-miss k a s x ∙ none-left i k)) (record { now = s; is = refl; same-length = refl; quiet = short-quiet s i x })
+        subst (λ (ss : List Step). Clean-now (suc k) p s q (run (p ++ (s ++ q)) ss)) (sym (clean-miss k a s x ∙ none-left i k))
+        (record { now = s; is = refl; same-length = refl; quiet = short-quiet s i x })
     go false false x y f =
         let i : 8 ≤ length s = ltb-false (length s) 8 y in
         let lu : length (take 8 s) ≡ 8 = length-take-le 8 s i in

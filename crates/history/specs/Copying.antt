@@ -94,11 +94,13 @@ last-delete p x n c =
     )
 
 -- the first record of an image whose last step was that
-head-dead : {l : Ledger} {im : Image} {r : Reading} (q : Rested l im r) (h : ℕ) (before : Image) → q .h ≡ h → im ≡ set before (h + 2) 0 → (x : Rec) (rest : List Entry) → q .es ≡ record { at = q .h; it = x } ∷ rest →
+head-dead : {l : Ledger} {im : Image} {r : Reading} (q : Rested l im r) (h : ℕ) (before : Image) → q .h ≡ h → im ≡ set before (h + 2) 0 → (x : Rec) (rest : List Entry) →
+    q .es ≡ record { at = q .h; it = x } ∷ rest →
     alive (record { at = q .h; it = x }) ≡ false
 head-dead {l} {im} q h before e w x rest k =
     let f : Entry = record { at = q .h; it = x } in
-    let d : Laid im (q .h) (q .S) (q .t) (f ∷ rest) seg-none (blanks (q .B)) (blanks (q .F)) = subst (λ (fs : List Entry). Laid im (q .h) (q .S) (q .t) fs seg-none (blanks (q .B)) (blanks (q .F))) k (q .laid) in
+    let d : Laid im (q .h) (q .S) (q .t) (f ∷ rest) seg-none (blanks (q .B)) (blanks (q .F)) =
+    subst (λ (fs : List Entry). Laid im (q .h) (q .S) (q .t) fs seg-none (blanks (q .B)) (blanks (q .F))) k (q .laid) in
     dead-status f
     (sym (status-at [] rest f d) ∙ ap₂ (λ (i : Image) (a : ℕ). getD i (a + 2) 0) w e
     ∙ getD-set-same before (h + 2) 0 0 (omega (arith, entry-inside [] rest f d, ap length w, length-set before (h + 2) 0)))

@@ -68,7 +68,8 @@ module _ {s : List ℕ} {j : ℕ} (c : Cut s j) where
 
   blanked-length : length blanked ≡ length s
   blanked-length =
-      length-append (c .u) (sector ++ c .w) ∙ ap (λ (n : ℕ). length (c .u) + n) (length-append sector (c .w) ∙ ap (λ (n : ℕ). n + length (c .w)) (length-sector ∙ sym (c .lq)) ∙ sym (length-append (c .q) (c .w)))
+      length-append (c .u) (sector ++ c .w)
+      ∙ ap (λ (n : ℕ). length (c .u) + n) (length-append sector (c .w) ∙ ap (λ (n : ℕ). n + length (c .w)) (length-sector ∙ sym (c .lq)) ∙ sym (length-append (c .q) (c .w)))
       ∙ sym (length-append (c .u) (c .q ++ c .w)) ∙ ap length (sym (c .is))
 
   blanked-quiet : (f : ℕ) → length s ≡ 8 * f → j % 8 ≡ 0 → Quiet f s → Quiet f blanked
@@ -107,7 +108,8 @@ front-blanked [] q w lost j e z f = subst (λ (s : List ℕ). getD ((s ++ w) ++ 
 front-blanked (x ∷ []) q w lost j e z f = absurd (omega arith)
 front-blanked (x ∷ y ∷ u) q w lost j e z f = f
 
-low-erase : {im : Image} {h S z : ℕ} {es : List Entry} {below free : List ℕ} → Laid im h S false es seg-none below free → (c : Cut below z) → z % 4096 ≡ 0 → Laid (apply im (erase z)) h S false es seg-none (blanked c) free
+low-erase : {im : Image} {h S z : ℕ} {es : List Entry} {below free : List ℕ} → Laid im h S false es seg-none below free → (c : Cut below z) → z % 4096 ≡ 0 →
+    Laid (apply im (erase z)) h S false es seg-none (blanked c) free
 low-erase {im} {h} {S} {z} {es} {below} {free} (laid-straight {a} {l} {lost} {x} {ys} f s t₁ S₁ e₁ lf qf) c m =
     laid-straight {x = x} {ys = ys} f
     (record {
@@ -168,7 +170,8 @@ mid-erase {N} {h} {S} {lim} {t} {es} {im} {z} d (high-sector m g l) =
         m = v .m;
         laid = subst (λ (x : Image). Laid x h S t es seg-none (v .below) (blanked c)) (sym i)
             (k .plug seg-none (f .0) (blanked c) Next.Clear (e ∙ f .1) (blanked-quiet c (f .0) (f .1) (omega (arith, laid-eight (v .laid))) (f .2))
-            (open-ff (v .m) (drop (v .m) (blanked c)) (blanked c) (sym (take-append-drop (v .m) (blanked c)) ∙ ap (λ (x : List ℕ). x ++ drop (v .m) (blanked c)) own) (vacant-long v)) (ap (λ (n : ℕ). 0 + n) e));
+            (open-ff (v .m) (drop (v .m) (blanked c)) (blanked c) (sym (take-append-drop (v .m) (blanked c)) ∙ ap (λ (x : List ℕ). x ++ drop (v .m) (blanked c)) own) (vacant-long v))
+            (ap (λ (n : ℕ). 0 + n) e));
         own = v .own;
         whole = omega (arith, v .whole);
         ff = own;

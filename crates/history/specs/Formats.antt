@@ -77,7 +77,8 @@ head-dead = refl
 
 fresh-ok : Ok (head ∷ []) []
 unfolding alive named
-fresh-ok = record { unique = (tt, tt); well-named = ((λ k. let z : false ≡ true = sym head-dead ∙ k in cc), tt); bytes = ((λ k. let z : false ≡ true = sym head-dead ∙ k in tt), tt); matches = List·Permᴰ·nil }
+fresh-ok =
+    record { unique = (tt, tt); well-named = ((λ k. let z : false ≡ true = sym head-dead ∙ k in cc), tt); bytes = ((λ k. let z : false ≡ true = sym head-dead ∙ k in tt), tt); matches = List·Permᴰ·nil }
 
 fresh-inv : (f : ℕ) → 1 ≤ f → good-length (16 + 8 * f) ≡ true → Inv [] (fresh f)
 fresh-inv f one g =

@@ -43,7 +43,8 @@ finish-sound : {c : ℕ} (k : ℕ) → Begun c → Steps-sound (torn-wrap c k) f
 finish-sound k begun-ff = ((omega arith, refl), ((omega arith, refl), tt))
 finish-sound k begun-5a = ((omega arith, refl), ((omega arith, refl), tt))
 
-module _ {l : Ledger} {im : Image} (a m c k : ℕ) {h : ℕ} {lost : List ℕ} {x : Rec} {ys : List Rec} (s : Straight im a m (blanks (4096 * a)) lost h (x ∷ ys) seg-none (torn-wrap c k)) (b : Begun c) (z : 1 ≤ a)
+module _ {l : Ledger} {im : Image} (a m c k : ℕ) {h : ℕ} {lost : List ℕ} {x : Rec} {ys : List Rec} (s : Straight im a m (blanks (4096 * a)) lost h (x ∷ ys) seg-none (torn-wrap c k))
+    (b : Begun c) (z : 1 ≤ a)
     (st : Starts (entries-of h (x ∷ ys))) (ok : Ok (entries-of h (x ∷ ys)) l) (good : good-length (length im) ≡ true) where
   abbrev at : ℕ
   at = h + sizes (x ∷ ys)
@@ -81,7 +82,8 @@ third w a f e = ap₂ (λ (x : List Step) (y : Ending). after w (x ++ torn-wrap-
 
 -- the kind half: mount finishes the marker
 pub mends-half :
-    {l : Ledger} {im : Image} (a m c k : ℕ) {h : ℕ} {lost : List ℕ} {x : Rec} {ys : List Rec} → Inv l im → Straight im a m (blanks (4096 * a)) lost h (x ∷ ys) seg-none (torn-wrap c k) → Begun c → 1 ≤ a →
+    {l : Ledger} {im : Image} (a m c k : ℕ) {h : ℕ} {lost : List ℕ} {x : Rec} {ys : List Rec} → Inv l im → Straight im a m (blanks (4096 * a)) lost h (x ∷ ys) seg-none (torn-wrap c k) →
+    Begun c → 1 ≤ a →
     Starts (entries-of h (x ∷ ys)) → Ok (entries-of h (x ∷ ys)) l → Mends l im
 mends-half {l} {im} a m c k {h} {lost} {x} {ys} i s b z st ok =
     let es : List Entry = entries-of h (x ∷ ys) in

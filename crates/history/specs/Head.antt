@@ -235,7 +235,8 @@ head-start low s t m f w p r =
     (chosen-start (lay low s) (sizes low + m) (ap start-here (there-is low s t m r) ∙ start-is t))
 
 -- CLEAN is found, if the image doesn't begin with CLEAN
-pub head-clean : (low : List Rec) (s t : List ℕ) (m : ℕ) → All-fine low → Walked 0 low → Front low s → clean-here (lay low s) ≡ false → Reaches (sizes low) s (160 ∷ 90 ∷ t) m → head (lay low s) ≡ give (sizes low + m)
+pub head-clean : (low : List Rec) (s t : List ℕ) (m : ℕ) → All-fine low → Walked 0 low → Front low s → clean-here (lay low s) ≡ false → Reaches (sizes low) s (160 ∷ 90 ∷ t) m →
+    head (lay low s) ≡ give (sizes low + m)
 head-clean low s t m f w p c r =
     head-by (lay low s) (sizes low + m) (give (sizes low + m)) (front-start p w) (front-wrap p w) (found low s t m f w is-CLEAN r)
     (chosen-clean (lay low s) (sizes low + m) (ap start-here (there-is low s t m r) ∙ clean-no-start t) (ap clean-here (there-is low s t m r) ∙ clean-is t) c)
@@ -269,7 +270,8 @@ none-there low s m r =
     ∙ drop-at (r .g) [] (8 * r .j) (r .whole)
 
 -- no head is found, and CLEAN stands at 0: 0 is the head
-pub head-none : (low : List Rec) (s : List ℕ) (m : ℕ) → All-fine low → Walked 0 low → Front low s → clean-here (lay low s) ≡ true → 1 ≤ length (lay low s) → Reaches (sizes low) s [] m → head (lay low s) ≡ give 0
+pub head-none : (low : List Rec) (s : List ℕ) (m : ℕ) → All-fine low → Walked 0 low → Front low s → clean-here (lay low s) ≡ true → 1 ≤ length (lay low s) → Reaches (sizes low) s [] m →
+    head (lay low s) ≡ give 0
 head-none low s m f w p c l r =
     head-by (lay low s) (sizes low + m) (give 0) (front-start p w) (front-wrap p w) (nothing low s m f w l r)
     (chosen-none (lay low s) (sizes low + m) (ap start-here (none-there low s m r) ∙ no-start [] mark-nil) (ap clean-here (none-there low s m r) ∙ no-clean [] mark-nil) c)

@@ -157,7 +157,8 @@ module _ {im : Image} {h S : ℕ} {t : Bool} {seg : Seg} {below free : List ℕ}
 -- ---- the turn
 
 -- by a marker
-pub turn-laid : {im : Image} {h S B F : ℕ} {es : List Entry} → Laid im h S false es seg-none (blanks B) (blanks F) → 8 ≤ F → 1 ≤ B → Laid (run im (moved S marker-steps)) h 0 true es seg-none [] (blanks B)
+pub turn-laid : {im : Image} {h S B F : ℕ} {es : List Entry} → Laid im h S false es seg-none (blanks B) (blanks F) → 8 ≤ F → 1 ≤ B →
+    Laid (run im (moved S marker-steps)) h 0 true es seg-none [] (blanks B)
 turn-laid {im} {h} {S} {B} {F} {es} (laid-straight {a = a} {lost = lost} {x = x} {ys = ys} g s p q r m n) f b =
     let k : B ≡ 4096 * a = sym (length-replicate {A = ℕ} B 255) ∙ s .gap-length in
     subst (λ (i : ℕ). Laid (run im (moved i marker-steps)) h 0 true es seg-none [] (blanks B)) (sym q)

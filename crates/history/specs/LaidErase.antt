@@ -176,7 +176,8 @@ module _ {im : Image} {a l : ℕ} {lost : List ℕ} {h : ℕ} {x y : Rec} {ys : 
 
 -- ---- turned, Y behind X
 
-module _ {im : Image} {a l : ℕ} {lost : List ℕ} {h : ℕ} {low : List Rec} {f : ℕ} {x y : Rec} {ys : List Rec} {end : End} (F : ℕ) (s : Turned im a l lost h low seg-none f (blanks F) (x ∷ y ∷ ys) end) (c : Cleaned x) where
+module _ {im : Image} {a l : ℕ} {lost : List ℕ} {h : ℕ} {low : List Rec} {f : ℕ} {x y : Rec} {ys : List Rec} {end : End} (F : ℕ)
+    (s : Turned im a l lost h low seg-none f (blanks F) (x ∷ y ∷ ys) end) (c : Cleaned x) where
   abbrev X₁ : Entry
   X₁ = record { at = h; it = x }
 
@@ -224,7 +225,8 @@ end-quiet (marker k) (suc e) p = let n : 8 * e ≡ k = omega (arith, length-repl
 body-is : (n c t : List ℕ) → body n c t ≡ body n c [] ++ t
 body-is n c t = simp append-assoc
 
-module _ {im : Image} {a l : ℕ} {lost : List ℕ} {h : ℕ} {y : Rec} {low : List Rec} {f : ℕ} {x : Rec} {end : End} (F : ℕ) (s : Turned im a l lost h (y ∷ low) seg-none f (blanks F) (x ∷ []) end) (c : Cleaned x)
+module _ {im : Image} {a l : ℕ} {lost : List ℕ} {h : ℕ} {y : Rec} {low : List Rec} {f : ℕ} {x : Rec} {end : End} (F : ℕ) (s : Turned im a l lost h (y ∷ low) seg-none f (blanks F) (x ∷ []) end)
+    (c : Cleaned x)
     (g : good-length (length im) ≡ true) where
   abbrev X₂ : Entry
   X₂ = record { at = h; it = x }
@@ -259,7 +261,8 @@ module _ {im : Image} {a l : ℕ} {lost : List ℕ} {h : ℕ} {y : Rec} {low : L
       let S : ℕ = 0 + sizes (y ∷ low) in
       let rest : ℕ → List ℕ = λ i. take (4096 * (suc k - suc i)) (drop (4096 * suc i) q) in
       let long : (i : ℕ) → i ≤ k → length (blanks F ++ half-erased (suc i) (suc k) q) ≡ 8 * (f + 512 * suc k) =
-      λ i p. length-append (blanks F) (half-erased (suc i) (suc k) q) ∙ omega (arith, half-erased-length (suc i) (suc k) q (omega arith) (omega (arith, behind-length k n)), length-replicate {A = ℕ} F 255, F₂) in
+      λ i p. length-append (blanks F) (half-erased (suc i) (suc k) q)
+      ∙ omega (arith, half-erased-length (suc i) (suc k) q (omega arith) (omega (arith, behind-length k n)), length-replicate {A = ℕ} F 255, F₂) in
       let laid : (i : ℕ) → i ≤ k → Laid (run im (take (suc i) (erases A (suc k)))) 0 S false (Y₂ ∷ E₂) seg-none [] (blanks F ++ half-erased (suc i) (suc k) q) =
       λ i p. laid-straight (f + 512 * suc k) (zero-m3 s k n b i p) refl refl refl (long i p) (zero-quiet s k n b i p) in
       far A k S false (vacated-all (length im) X₂ Y₂ a k refl (omega (arith, s .at, s .lost-small)) n) (omega arith) (omega arith)
@@ -269,7 +272,9 @@ module _ {im : Image} {a l : ℕ} {lost : List ℕ} {h : ℕ} {y : Rec} {low : L
         B = 0;
         F = F + 4096 * suc k;
         t = false;
-        laid = subst (λ (m : List ℕ). Laid (run im (erases A (suc k))) 0 S false (Y₂ ∷ E₂) seg-none [] m) (ap (λ (m : List ℕ). blanks F ++ m) (all-erased (suc k) q) ∙ replicate-append-replicate F (4096 * suc k) 255)
+        laid =
+            subst (λ (m : List ℕ). Laid (run im (erases A (suc k))) 0 S false (Y₂ ∷ E₂) seg-none [] m)
+            (ap (λ (m : List ℕ). blanks F ++ m) (all-erased (suc k) q) ∙ replicate-append-replicate F (4096 * suc k) 255)
             (subst (λ (ss : List Step). Laid (run im ss) 0 S false (Y₂ ∷ E₂) seg-none [] (blanks F ++ half-erased (suc k) (suc k) q)) (take-erases (suc k) (suc k) A (omega arith)) (laid k (omega arith)));
         tail = clear-ff (F + 4096 * suc k) (omega arith);
       })

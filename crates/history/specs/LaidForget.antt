@@ -30,7 +30,8 @@ forgotten-quiet x c =
     subst (λ (m : ℕ). Quiet m (forgotten x)) n (mark-second (x .low) (drop 2 (forgotten x)), c)
 
 -- (f): the head's second byte to 00, Y in the head's sector
-module _ {im : List ℕ} {a l : ℕ} {gap lost : List ℕ} {h : ℕ} {x y : Rec} {ys : List Rec} {seg : Seg} {free : List ℕ} (s : Straight im a l gap lost h (x ∷ y ∷ ys) seg free) (c : Cleaned x) (near : l + rsize x / 8 < 512) where
+module _ {im : List ℕ} {a l : ℕ} {gap lost : List ℕ} {h : ℕ} {x y : Rec} {ys : List Rec} {seg : Seg} {free : List ℕ} (s : Straight im a l gap lost h (x ∷ y ∷ ys) seg free) (c : Cleaned x)
+    (near : l + rsize x / 8 < 512) where
   forget : Straight (set im (h + 1) 0) a (l + rsize x / 8) gap (lost ++ forgotten x) (h + rsize x) (y ∷ ys) seg free
   forget =
       let R : List ℕ = lay (y ∷ ys) (seg-onto seg free) in
@@ -41,7 +42,8 @@ module _ {im : List ℕ} {a l : ℕ} {gap lost : List ℕ} {h : ℕ} {x y : Rec}
       let e₃ : set (onto x R) 1 0 ≡ forgotten x ++ R = ap (λ (l : List ℕ). set l 1 0) (lay-is (x ∷ []) R) in
       let lf : length (forgotten x) ≡ 8 * (rsize x / 8) = omega (arith, length-body (x .name) (x .content) [], rsize-words x) in
       record {
-        is = ap (λ (l : List ℕ). set l (h + 1) 0) e₁ ∙ e₂ ∙ ap (λ (l : List ℕ). G ++ l) e₃ ∙ append-assoc gap lost (forgotten x ++ R) ∙ ap (λ (l : List ℕ). gap ++ l) (sym (append-assoc lost (forgotten x) R));
+        is = ap (λ (l : List ℕ). set l (h + 1) 0) e₁ ∙ e₂ ∙ ap (λ (l : List ℕ). G ++ l) e₃ ∙ append-assoc gap lost (forgotten x ++ R)
+            ∙ ap (λ (l : List ℕ). gap ++ l) (sym (append-assoc lost (forgotten x) R));
         at = omega (arith, s .at, rsize-words x);
         gap-length = s .gap-length;
         gap-quiet = s .gap-quiet;
@@ -59,7 +61,8 @@ module _ {im : List ℕ} {a l : ℕ} {gap lost : List ℕ} {h : ℕ} {x y : Rec}
       fronted (u ∷ []) lost a l p q f = absurd (omega arith)
       fronted (u ∷ v ∷ w) lost a l p q f = f
 
-module _ {im : List ℕ} {a l : ℕ} {lost : List ℕ} {h : ℕ} {low : List Rec} {seg : Seg} {f : ℕ} {free : List ℕ} {x y : Rec} {ys : List Rec} {end : End} (s : Turned im a l lost h low seg f free (x ∷ y ∷ ys) end)
+module _ {im : List ℕ} {a l : ℕ} {lost : List ℕ} {h : ℕ} {low : List Rec} {seg : Seg} {f : ℕ} {free : List ℕ} {x y : Rec} {ys : List Rec} {end : End}
+    (s : Turned im a l lost h low seg f free (x ∷ y ∷ ys) end)
     (c : Cleaned x) (near : l + rsize x / 8 < 512) where
   forget-turned : Turned (set im (h + 1) 0) a (l + rsize x / 8) (lost ++ forgotten x) (h + rsize x) low seg f free (y ∷ ys) end
   forget-turned =
@@ -105,7 +108,8 @@ forget-laid {im} {h} {S} {t} {x} {y} {es} {seg} {below} {free} (laid-straight {a
         subst (Forgets im h S t seg below free) (sym e) (λ c n. laid-straight f (forget s c (omega (arith, n, s .at, s .lost-small, rsize-words x₀))) t₁ (omega arith) refl lf qf)
 forget-laid {im} {h} {S} {t} {x} {y} {es} {seg} {below} {free} (laid-turned {a} {l} {f} {lost} {low} {x = x₀} {ys} {end} s t₁ S₁ es₁ b) = go ys low s S₁ es₁
   where
-    go : (ys low : List Rec) → Turned im a l lost h low seg f free (x₀ ∷ ys) end → S ≡ sizes low → x ∷ y ∷ es ≡ entries-of h (x₀ ∷ ys) ++ entries-of 0 low → Forgets im h S t seg below free (x ∷ y ∷ es)
+    go : (ys low : List Rec) → Turned im a l lost h low seg f free (x₀ ∷ ys) end → S ≡ sizes low → x ∷ y ∷ es ≡ entries-of h (x₀ ∷ ys) ++ entries-of 0 low →
+        Forgets im h S t seg below free (x ∷ y ∷ es)
     go [] [] s S₁ e = let z : _≡_ {A = ℕ} 0 1 = cc in absurd (omega arith)
     go [] (r ∷ low) s S₁ e = subst (Forgets im h S t seg below free) (sym e) (λ c n. absurd (omega (arith, n, s .at, s .lost-small, s .some-below)))
     go (y₀ ∷ ys) low s S₁ e =

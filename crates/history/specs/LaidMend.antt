@@ -47,7 +47,8 @@ low-done {im} {h} {S} {es} {below} {free} (laid-straight {a} {l} {lost} {x} {ys}
     let w : B ≡ 8 * (512 * a) = omega arith in
     laid-straight {x = x} {ys = ys} f
     (record {
-      is = ap (λ (i : Image). run i (mend-steps im B 0 B)) (s .is) ∙ mend-done a B 0 B [] [] below Z refl refl (s .gap-length) (omega arith) (omega arith) im (s .is) ∙ ap (λ (m : ℕ). blanks m ++ Z) (sym b);
+      is = ap (λ (i : Image). run i (mend-steps im B 0 B)) (s .is) ∙ mend-done a B 0 B [] [] below Z refl refl (s .gap-length) (omega arith) (omega arith) im (s .is)
+          ∙ ap (λ (m : ℕ). blanks m ++ Z) (sym b);
       at = s .at;
       gap-length = length-replicate {A = ℕ} B 255 ∙ b;
       gap-quiet = quiet-ff (512 * a) (blanks B) (ap blanks w);
@@ -175,7 +176,8 @@ pub record Repaired (im : Image) (h S : ℕ) (t : Bool) (es : List Entry) : Type
   pub bare : Bare h es (run im (erase-steps im (place im h S t)))
 
 -- repair 1 on a laid image
-pub repair-laid : {im : Image} {h S : ℕ} {t : Bool} {es : List Entry} {below free : List ℕ} → good-length (length im) ≡ true → Laid im h S t es seg-none below free → Tail h S t seg-none below free S t →
+pub repair-laid : {im : Image} {h S : ℕ} {t : Bool} {es : List Entry} {below free : List ℕ} → good-length (length im) ≡ true → Laid im h S t es seg-none below free →
+    Tail h S t seg-none below free S t →
     tail-blank im (place im h S t) ≡ true → Repaired im h S t es
 repair-laid {im} {h} {S} {t} {es} {below} {free} g d e b = go e
   where
@@ -193,7 +195,8 @@ repair-laid {im} {h} {S} {t} {es} {below} {free} g d e b = go e
         let lim : ℕ = limit (place im h S t) in
         record {
           safe = safe-map (Mid (length im) h S lim t es) (Vacates (length im) h S t es)
-              (λ i w. record { len = w .len; below = w .vac .below; free = w .vac .free; laid = w .vac .laid; tail = vacant-tail (w .vac); blank = vacant-blank (w .vac) }) im (erase-steps im (place im h S t))
+              (λ i w. record { len = w .len; below = w .vac .below; free = w .vac .free; laid = w .vac .laid; tail = vacant-tail (w .vac); blank = vacant-blank (w .vac) }) im
+              (erase-steps im (place im h S t))
               (erase-safe g (record { len = refl; vac = v; ends = sym (limit-is (v .laid)) }));
           bare = vacant-bare (good-mod (length im) g) t v;
         }

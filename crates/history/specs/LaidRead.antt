@@ -110,7 +110,8 @@ start-found (laid-straight f s et eS ee lf qf) l = started s (first-low ee l)
 start-found (laid-turned s et eS ee eb) l = turned-start s (first-low ee l)
 
 -- CLEAN
-clean-first : (low : List Rec) (free rest : List ℕ) (x : Next) → Opens free x → 1 ≤ sizes low + length free → All-fine low → Each Unmarked (entries-of 0 low) → clean-here (lay low (free ++ rest)) ≡ false
+clean-first : (low : List Rec) (free rest : List ℕ) (x : Next) → Opens free x → 1 ≤ sizes low + length free → All-fine low → Each Unmarked (entries-of 0 low) →
+    clean-here (lay low (free ++ rest)) ≡ false
 unfolding is-clean
 clean-first (r ∷ rs) free rest x o n f m = rw (low-plain (f .0 .low-ok) (m .0))
 clean-first [] free rest x o n f m = go o n
@@ -157,7 +158,8 @@ placed : (im : Image) (h : ℕ) {T T₁ : ℕ} {u u₁ : Bool} → T ≡ T₁ �
 placed im h p q e = ap₂ (λ (T : ℕ) (u : Bool). free-blank im (place im h T u)) p q ∙ e
 
 -- the free run is FF
-free-is : {im : Image} {h S T : ℕ} (B F : ℕ) {t u : Bool} {es : List Entry} {seg : Seg} → Laid im h S t es seg (blanks B) (blanks F) → Tail h S t seg (blanks B) (blanks F) T u → free-blank im (place im h T u) ≡ true
+free-is : {im : Image} {h S T : ℕ} (B F : ℕ) {t u : Bool} {es : List Entry} {seg : Seg} → Laid im h S t es seg (blanks B) (blanks F) → Tail h S t seg (blanks B) (blanks F) T u →
+    free-blank im (place im h T u) ≡ true
 free-is {im} {h} {S} {T} B F {t} {u} {es} {seg} (laid-straight {x = x} {ys = ys} f s et eS ee lf qf) e = go e
   where
     at : ℕ

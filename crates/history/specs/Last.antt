@@ -177,6 +177,7 @@ rec-of-begun d n s =
     )
 
 -- the chain over it
-pub ends-begun : {c : Chain} (at d : ℕ) (n s : List ℕ) → Fit d n → ((k : ℕ) → chain (suc k) true (at + size-of (length n) d) s ≡ c) → Ends at (begun d n s) (add (record { at = at; it = cut-rec d n }) c)
+pub ends-begun : {c : Chain} (at d : ℕ) (n s : List ℕ) → Fit d n → ((k : ℕ) → chain (suc k) true (at + size-of (length n) d) s ≡ c) →
+    Ends at (begun d n s) (add (record { at = at; it = cut-rec d n }) c)
 ends-begun at d n s f e =
     ends-held at (length n) d (begun d n s) s (cut-rec d n) (next-reserved _ _ _ _ _ ∙ record-at-begun d n s f) unfinished-fe (rec-of-begun d n s) (drop-begun d n s) e

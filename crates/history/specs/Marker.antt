@@ -47,7 +47,8 @@ turned-gap {a = a} {lost = lost} {high = high} s im′ end i e b =
 module _ {im : List ℕ} {a l : ℕ} {gap lost : List ℕ} {h : ℕ} {high : List Rec} {g : ℕ} (s : Straight im a l gap lost h high seg-none (blanks g)) (eight : 8 ≤ g) where
   at-tail : (j : ℕ) → j ≤ 3 → run im (moved (h + sizes high) (take j marker-steps)) ≡ gap ++ (lost ++ lay high (run (blanks 8 ++ blanks (g - 8)) (take j marker-steps)))
   at-tail j l =
-      run-behind high [] (sym (append-nil high)) s (take j marker-steps) (programs j) ∙ ap (λ (x : List ℕ). gap ++ (lost ++ lay high (run x (take j marker-steps)))) (blank-split 8 (g - 8) g (omega arith))
+      run-behind high [] (sym (append-nil high)) s (take j marker-steps) (programs j)
+      ∙ ap (λ (x : List ℕ). gap ++ (lost ++ lay high (run x (take j marker-steps)))) (blank-split 8 (g - 8) g (omega arith))
     where
       programs : (j : ℕ) → Programs (take j marker-steps)
       programs zero = tt
@@ -68,7 +69,8 @@ module _ {im : List ℕ} {a l : ℕ} {gap lost : List ℕ} {h : ℕ} {high : Lis
   turned-by e b = turned-gap s (run im (moved (h + sizes high) marker-steps)) (marker (g - 8)) (at-tail 3 (omega arith)) e b
 
 -- a chain that ends at N with floor(h) > 0 has turned: the same bytes
-pub turned-exact : {im : List ℕ} {a l : ℕ} {gap lost : List ℕ} {h : ℕ} {high : List Rec} (s : Straight im a l gap lost h high seg-none []) → gap ≡ blanks (4096 * a) → 1 ≤ a → Turned im a l lost h [] seg-none (512 * a) (blanks (4096 * a)) high exact
+pub turned-exact : {im : List ℕ} {a l : ℕ} {gap lost : List ℕ} {h : ℕ} {high : List Rec} (s : Straight im a l gap lost h high seg-none []) → gap ≡ blanks (4096 * a) → 1 ≤ a →
+    Turned im a l lost h [] seg-none (512 * a) (blanks (4096 * a)) high exact
 turned-exact {im = im} s e b = turned-gap s im exact (s .is) e b
 
 -- the reading of a torn wrap

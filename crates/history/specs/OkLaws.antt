@@ -62,7 +62,8 @@ without-mid : (xs ys : List Entry) (e : Entry) (l : Ledger) → Unique (xs ++ (e
 without-mid xs ys e l u a m =
     let n : List ℕ = name-of e in
     let p : List·Permᴰ (without n (as-file e ∷ contents (xs ++ ys))) (without n l) = perm-keep (not-named n) (List·Permᴰ·trans (Permᴰ·symm (contents-front xs ys e a)) m) in
-    let q : without n (as-file e ∷ contents (xs ++ ys)) ≡ contents (xs ++ ys) = keep-no (not-named n) (as-file e) (contents (xs ++ ys)) (ap not (same-refl n)) ∙ keep-contents n (xs ++ ys) (absent-others xs ys e u a) in
+    let q : without n (as-file e ∷ contents (xs ++ ys)) ≡ contents (xs ++ ys) =
+    keep-no (not-named n) (as-file e) (contents (xs ++ ys)) (ap not (same-refl n)) ∙ keep-contents n (xs ++ ys) (absent-others xs ys e u a) in
     subst (λ (fs : List File). List·Permᴰ fs (without n l)) q p
 
 matches-put : (es : List Entry) (e : Entry) (l : Ledger) → alive e ≡ true → List·Permᴰ (contents es) (without (name-of e) l) → Matches (es ++ (e ∷ [])) (with-file (name-of e) (content-of e) l)

@@ -71,7 +71,8 @@ header-cut d f s l h (suc (suc (suc (suc (suc (suc (suc zero))))))) i = cut-stat
 header-cut d f s l h (suc (suc (suc (suc (suc (suc (suc (suc k)))))))) i = absurd (omega arith)
 
 -- the name
-name-cut : (d f : ℕ) (n s : List ℕ) → length n < 64 → Plain n → d < 4294967296 → size-of (length n) d ≤ f → (j : ℕ) → j ≤ length n → Opened f s (run (header d (blanks (f - 8) ++ s)) (take j (bytes-at 8 n)))
+name-cut : (d f : ℕ) (n s : List ℕ) → length n < 64 → Plain n → d < 4294967296 → size-of (length n) d ≤ f → (j : ℕ) → j ≤ length n →
+    Opened f s (run (header d (blanks (f - 8) ++ s)) (take j (bytes-at 8 n)))
 name-cut d f n s h p l i j k =
     let e : run (header d (blanks (f - 8) ++ s)) (take j (bytes-at 8 n)) ≡ header d (take j n ++ (blanks (f - 8 - j) ++ s)) =
     write-blank (header d []) n s 8 j (f - 8 - j) (f - 8) refl k (omega arith) in

@@ -76,7 +76,8 @@ unfolding alive named
 gone-dead e = refl
 
 -- a status byte that only clears bits
-pub status-sound : {im : Image} {h S : ℕ} {t : Bool} {seg : Seg} {below free : List ℕ} (xs ys : List Entry) (e : Entry) → Laid im h S t (xs ++ (e ∷ ys)) seg below free → (b : ℕ) → bitAnd b (e .it .status) ≡ b →
+pub status-sound : {im : Image} {h S : ℕ} {t : Bool} {seg : Seg} {below free : List ℕ} (xs ys : List Entry) (e : Entry) → Laid im h S t (xs ++ (e ∷ ys)) seg below free → (b : ℕ) →
+    bitAnd b (e .it .status) ≡ b →
     Sound im (program (e .at + 2) b)
 status-sound xs ys e d b k = (omega (arith, entry-inside xs ys e d), subst (λ (z : ℕ). bitAnd b z ≡ b) (sym (status-at xs ys e d)) k)
 
@@ -113,7 +114,8 @@ pub record Migrated (l : Ledger) (im : Image) (h S : ℕ) (t : Bool) (B F : ℕ)
   pub same-name : name-of o ≡ name-of e
   pub same-length : length (run im ss) ≡ length im
 
-module _ {im : Image} {h S : ℕ} {t : Bool} (B F : ℕ) (xs ys : List Entry) (e : Entry) (d : Laid im h S t (xs ++ (e ∷ ys)) seg-none (blanks B) (blanks F)) (tl : Tail h S t seg-none (blanks B) (blanks F) S t)
+module _ {im : Image} {h S : ℕ} {t : Bool} (B F : ℕ) (xs ys : List Entry) (e : Entry) (d : Laid im h S t (xs ++ (e ∷ ys)) seg-none (blanks B) (blanks F))
+    (tl : Tail h S t seg-none (blanks B) (blanks F) S t)
     (l : Ledger) (good : good-length (length im) ≡ true) (st : Starts (xs ++ (e ∷ ys))) (ok : Ok (xs ++ (e ∷ ys)) l) (a : alive e ≡ true) where
   here : Inv l im
   here = record { good = good; kind = quiet B F d tl st ok }
@@ -146,7 +148,8 @@ module _ {im : Image} {h S : ℕ} {t : Bool} (B F : ℕ) (xs ys : List Entry) (e
 
 -- ---- the old file's 00, behind the commit of e
 
-module _ {im : Image} {h : ℕ} (xs ys : List Entry) (o e : Entry) (l : Ledger) (good : good-length (length im) ≡ true) (r : Bare h ((xs ++ (o ∷ ys)) ++ (e ∷ [])) im) (st : Starts (xs ++ (o ∷ ys))) (ok : Ok (xs ++ (o ∷ ys)) l)
+module _ {im : Image} {h : ℕ} (xs ys : List Entry) (o e : Entry) (l : Ledger) (good : good-length (length im) ≡ true) (r : Bare h ((xs ++ (o ∷ ys)) ++ (e ∷ [])) im)
+    (st : Starts (xs ++ (o ∷ ys))) (ok : Ok (xs ++ (o ∷ ys)) l)
     (f8 : named 0xF8 o ≡ true) (fc : named 0xFC e ≡ true) (same : name-of e ≡ name-of o) (plain : Unmarked e) (b : Bytes (content-of e)) where
   abbrev new : Ledger
   new = with-file (name-of e) (content-of e) l

@@ -39,7 +39,8 @@ small-image : (N : ℕ) → good-length N ≡ true → N ≤ 16777216
 unfolding good-length
 small-image N g = leb-true N 16777216 (and-right (eqb (N % 4096) 0 && leb 8192 N) (leb N 16777216) g)
 
-module _ {im : Image} {h S : ℕ} {t : Bool} {es : List Entry} (B F : ℕ) (d : Laid im h S t es seg-none (blanks B) (blanks F)) (l : Ledger) (good : good-length (length im) ≡ true) (st : Starts es) (ok : Ok es l)
+module _ {im : Image} {h S : ℕ} {t : Bool} {es : List Entry} (B F : ℕ) (d : Laid im h S t es seg-none (blanks B) (blanks F)) (l : Ledger) (good : good-length (length im) ≡ true) (st : Starts es)
+    (ok : Ok es l)
     (n c : List ℕ) (nice : name-ok n ≡ true) (b : Bytes c) where
   fit-tail : size-of (length n) (length c) ≤ F → Fit (length c) n
   fit-tail room = name-fit n (length c) nice (omega (arith, small-image (length im) good, laid-length d, length-replicate {A = ℕ} F 255))

@@ -75,7 +75,8 @@ header-sound d s = (
   ),
 )
 
-body-sound : (n c s : List ℕ) (f : ℕ) → Fit (length c) n → Bytes c → size-of (length n) (length c) ≤ f → Steps-sound (header (length c) [] ++ (blanks (f - 8) ++ s)) (name-steps n ++ data-steps (length n) c)
+body-sound : (n c s : List ℕ) (f : ℕ) → Fit (length c) n → Bytes c → size-of (length n) (length c) ≤ f →
+    Steps-sound (header (length c) [] ++ (blanks (f - 8) ++ s)) (name-steps n ++ data-steps (length n) c)
 body-sound n c s f g b h =
     let d : ℕ = length c in
     let k : ℕ = length n + 1 in

@@ -70,7 +70,8 @@ module _ (k l : Ledger) (im : Image) (h : ℕ) (es : List Entry) (n c : List ℕ
       ap (λ (z : List Step). mig ++ (turn ++ (z ++ del))) (ap (moved a) (commit-last n c) ∙ moved-two a (open-steps n c) commit-steps)
       ∙ regroup mig turn (moved a (open-steps n c)) (moved a commit-steps) del
 
-  together : (left : Reading) → Safe (Inv l) (apply (run (run im mig) opened) (program (a + 2) 252)) del → Rested l (run (apply (run (run im mig) opened) (program (a + 2) 252)) del) left → left .place .head ≡ h →
+  together : (left : Reading) → Safe (Inv l) (apply (run (run im mig) opened) (program (a + 2) 252)) del → Rested l (run (apply (run (run im mig) opened) (program (a + 2) 252)) del) left →
+      left .place .head ≡ h →
       Commits k l im (mig ++ (turn ++ (moved a (record-steps n c) ++ del))) (length mig + (8 + length n + length c + m) + 1) h
   together left t r hd =
       record {
@@ -183,7 +184,8 @@ pub put-commits :
     Commits l (with-file n c l) im (put-steps (r .place) old n c)
     (length n + length c + 9 + one-if-fc old + three-if (with-marker (r .place) (size-of (length n) (length c)))) (r .place .head)
 put-commits {l} {im} {r} q old n c o nice b f =
-    subst (Commits l (with-file n c l) im (put-steps (r .place) old n c) _) (sym (ap (λ (y : Reading). y .place .head) (q .is))) (go (subst (λ (z : List Entry). Old n z old) (ap (λ (y : Reading). y .entries) (q .is)) o))
+    subst (Commits l (with-file n c l) im (put-steps (r .place) old n c) _) (sym (ap (λ (y : Reading). y .place .head) (q .is)))
+    (go (subst (λ (z : List Entry). Old n z old) (ap (λ (y : Reading). y .entries) (q .is)) o))
   where
     go : {old : Option Entry} → Old n (q .es) old →
         Commits l (with-file n c l) im (put-steps (r .place) old n c)

@@ -1,4 +1,4 @@
--- Repair 1: the sectors of a free run that aren't FF are erased, ascending; cut anywhere.
+-- Repair 1: the sectors of a free run that are not FF are erased, ascending; at the end all of it is FF.
 use Prim.Native.Nat.{ℕ, zero, suc, _+_, _*_, _≤_}
 use native.Mathlib.Omega.{arith}
 use native.Mathlib.Nat.{not-suc-le-zero}
@@ -76,13 +76,16 @@ mend-done (suc k) (suc n) a b p₀ p r s e₀ e l t i im₀ f =
     tested = ap (part a (a + 4096)) (f ∙ ap (λ (x : List ℕ). p₀ ++ x) split) ∙ part-mid p₀ (take 4096 r) (drop 4096 r ++ s) a e₀ lr
 
     joined : (p ++ blanks 4096) ++ (blanks (4096 * k) ++ s) ≡ p ++ (blanks (4096 * suc k) ++ s)
-    joined = append-assoc p (blanks 4096) (blanks (4096 * k) ++ s) ∙ ap (λ (x : List ℕ). p ++ x) (sym (append-assoc (blanks 4096) (blanks (4096 * k)) s) ∙ ap (λ (x : List ℕ). x ++ s) (sym (blank-split 4096 (4096 * k) (4096 * suc k) (omega arith))))
+    joined =
+        append-assoc p (blanks 4096) (blanks (4096 * k) ++ s)
+        ∙ ap (λ (x : List ℕ). p ++ x) (sym (append-assoc (blanks 4096) (blanks (4096 * k)) s) ∙ ap (λ (x : List ℕ). x ++ s) (sym (blank-split 4096 (4096 * k) (4096 * suc k) (omega arith))))
 
     go : (t : Bool) → blank (part a (a + 4096) im₀) ≡ t → run ((p ++ blanks 4096) ++ (drop 4096 r ++ s)) (mend-steps im₀ n (a + 4096) b) ≡ (p ++ blanks 4096) ++ (blanks (4096 * k) ++ s) →
         run (p ++ (r ++ s)) (mend-steps im₀ (suc n) a b) ≡ p ++ (blanks (4096 * suc k) ++ s)
     go true h rec =
         let u : take 4096 r ≡ blanks 4096 = blank-is (take 4096 r) (sym (ap blank tested) ∙ h) ∙ ap blanks lr in
-        let v : p ++ (r ++ s) ≡ (p ++ blanks 4096) ++ (drop 4096 r ++ s) = ap (λ (x : List ℕ). p ++ x) (split ∙ ap (λ (x : List ℕ). x ++ (drop 4096 r ++ s)) u) ∙ sym (append-assoc p (blanks 4096) (drop 4096 r ++ s)) in
+        let v : p ++ (r ++ s) ≡ (p ++ blanks 4096) ++ (drop 4096 r ++ s) =
+        ap (λ (x : List ℕ). p ++ x) (split ∙ ap (λ (x : List ℕ). x ++ (drop 4096 r ++ s)) u) ∙ sym (append-assoc p (blanks 4096) (drop 4096 r ++ s)) in
         ap₂ run v (mend-keep im₀ n a b (omega arith) h) ∙ rec ∙ joined
     go false h rec =
         let v : apply (p ++ (r ++ s)) (erase a) ≡ (p ++ blanks 4096) ++ (drop 4096 r ++ s) =

@@ -68,7 +68,8 @@ or-second false b e = e
 
 -- the whole reading, with nothing at S
 start-is :
-    {im : Image} {h S T : ℕ} (B F : ℕ) {t u : Bool} {x : Entry} {es : List Entry} → Laid im h S t (x ∷ es) seg-none (blanks B) (blanks F) → Tail h S t seg-none (blanks B) (blanks F) T u → x .it .low ≡ 0 →
+    {im : Image} {h S T : ℕ} (B F : ℕ) {t u : Bool} {x : Entry} {es : List Entry} → Laid im h S t (x ∷ es) seg-none (blanks B) (blanks F) → Tail h S t seg-none (blanks B) (blanks F) T u →
+    x .it .low ≡ 0 →
     Ruled (x ∷ es) → reading im ≡ give (read (length im) h T u (x ∷ es) Ending.Tail)
 start-is {im} {h} {T = T} B F {u = u} {x} {es} d e a r =
     let n : (x ∷ es) ++ [] ≡ x ∷ es = append-nil (x ∷ es) in
@@ -104,7 +105,8 @@ mends-both {l} {im} {h} {T = T} B F {u = u} {x} {y} {es} g d e a b c k f m o =
     (both-rests B F g d e a b c k f m o) (some-behind [] [] (program (x .at + 1) 0))
     (one-none (begin im r) (is-clean-0 (x .it .low) a)) (second-start (begin im r) x y es k)
 
-first-clean : (w : Work) → head-clean (w .reading .entries) ≡ true → repair-1 w ≡ after w (erase-steps (w .image) (w .reading .place) ++ (program (w .reading .place .head) 0 ∷ [])) (w .reading .place .head)
+first-clean : (w : Work) → head-clean (w .reading .entries) ≡ true →
+    repair-1 w ≡ after w (erase-steps (w .image) (w .reading .place) ++ (program (w .reading .place .head) 0 ∷ [])) (w .reading .place .head)
 unfolding repair-1
 first-clean w e = rw (repair-1, e)
 

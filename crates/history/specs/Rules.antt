@@ -61,7 +61,8 @@ unfolding marks-ok
 marks-second x y es s h = rw (marks-ok, s, any-none marked es h)
 
 -- a head that is dead, and Y behind it CLEAN or in its sector
-pub second-ruled : (x y : Entry) (es : List Entry) (l : Ledger) → Ok (x ∷ y ∷ es) l → alive x ≡ false → (is-clean (y .it .low) || eqb (floor (y .at)) (floor (x .at))) ≡ true → Each Unmarked es → Ruled (x ∷ y ∷ es)
+pub second-ruled : (x y : Entry) (es : List Entry) (l : Ledger) → Ok (x ∷ y ∷ es) l → alive x ≡ false → (is-clean (y .it .low) || eqb (floor (y .at)) (floor (x .at))) ≡ true →
+    Each Unmarked es → Ruled (x ∷ y ∷ es)
 second-ruled x y es l o a e m =
     record {
       names = names-by (x ∷ y ∷ es) (o .unique) (o .well-named);

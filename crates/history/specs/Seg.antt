@@ -82,7 +82,8 @@ gap-or at zero q t e h l n = reaches-gap at zero q t e h l (λ i. not-suc-le-zer
 gap-or {b} at (suc j) q t e h l n = reaches-quiet at j q (b ∷ 90 ∷ t) e h
 
 -- the head behind it is reached
-pub seg-reaches : {b : ℕ} (at j : ℕ) (g : Seg) (q t : List ℕ) → length q ≡ 8 * j → Quiet j q → Head-low b → (at + seg-size g ≡ 0 → 1 ≤ j) → Reaches at (seg-onto g (q ++ (b ∷ 90 ∷ t))) (b ∷ 90 ∷ t) (seg-size g + 8 * j)
+pub seg-reaches : {b : ℕ} (at j : ℕ) (g : Seg) (q t : List ℕ) → length q ≡ 8 * j → Quiet j q → Head-low b → (at + seg-size g ≡ 0 → 1 ≤ j) →
+    Reaches at (seg-onto g (q ++ (b ∷ 90 ∷ t))) (b ∷ 90 ∷ t) (seg-size g + 8 * j)
 seg-reaches {b} at j seg-none q t e h l n = rw (zero-add (8 * j)) (reaches-more (gap-or at j q t e h l (λ i. n (add-zero at ∙ i))))
 seg-reaches {b} at j (seg-torn c x y z w u o m) q t e h l n = reaches-more (reaches-torn at x y z w j q (b ∷ 90 ∷ t) o m e h)
 seg-reaches {b} at j (seg-cut d m f) q t e h l n = reaches-begun at d m (q ++ (b ∷ 90 ∷ t)) (b ∷ 90 ∷ t) f (reaches-gap (at + size-of (length m) d) j q t e h l (λ i. omega arith))

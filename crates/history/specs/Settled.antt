@@ -46,7 +46,8 @@ last-none im (e ∷ f ∷ es) h = last-none im (f ∷ es) (h .1)
 -- repair 3: all records are finished
 pub three-none : (w : Work) → Each Finished (w .reading .entries) → w .reading .ending ≡ Ending.Tail → repair-3 w ≡ w
 unfolding repair-3
-three-none w h t = ap₂ (λ (a : List Step) (b : Ending). after w (a ++ torn-wrap-steps b) (w .reading .place .head)) (last-none (w .image) (w .reading .entries) h) t ∙ after-none w (w .reading .place .head)
+three-none w h t =
+    ap₂ (λ (a : List Step) (b : Ending). after w (a ++ torn-wrap-steps b) (w .reading .place .head)) (last-none (w .image) (w .reading .entries) h) t ∙ after-none w (w .reading .place .head)
 
 -- repair 4: no name is alive twice
 pub four-none : (w : Work) → Unique (w .reading .entries) → repair-4 w ≡ w

@@ -44,14 +44,17 @@ module _ (low high : List Rec) (gap lost rest : List ℕ) (h : ℕ) (below : siz
 
   -- from the head on
   pub drop-high : drop h image ≡ lay high rest
-  drop-high = ap (drop h) split ∙ drop-past (lay low gap) (lost ++ lay high rest) h (length lost) (sym here ∙ ap (λ (k : ℕ). k + length lost) (sym low-length)) ∙ drop-at lost (lay high rest) (length lost) refl
+  drop-high =
+      ap (drop h) split ∙ drop-past (lay low gap) (lost ++ lay high rest) h (length lost) (sym here ∙ ap (λ (k : ℕ). k + length lost) (sym low-length))
+      ∙ drop-at lost (lay high rest) (length lost) refl
 
   length-image : length image ≡ h + sizes high + length rest
   length-image =
       length-lay low (gap ++ (lost ++ lay high rest))
       ∙ omega (arith, length-append gap (lost ++ lay high rest), length-append lost (lay high rest), length-lay high rest)
 
-  fuel : (rs : List Rec) (k at : ℕ) (s : List ℕ) (es : List Entry) (o : Bool) (t : ℕ) (x : Next) → All-fine rs → Ends (at + sizes rs) s (chain-of es o t x) → length rs < k → chain (suc k) false at (lay rs s) ≡ chain-of (entries-of at rs ++ es) o t x
+  fuel : (rs : List Rec) (k at : ℕ) (s : List ℕ) (es : List Entry) (o : Bool) (t : ℕ) (x : Next) → All-fine rs → Ends (at + sizes rs) s (chain-of es o t x) → length rs < k →
+      chain (suc k) false at (lay rs s) ≡ chain-of (entries-of at rs ++ es) o t x
   fuel rs k at s es o t x f e l =
       let i : suc k ≡ length rs + suc (suc (k - suc (length rs))) = omega arith in
       ap (λ (n : ℕ). chain n false at (lay rs s)) i ∙ chain-lay rs (suc (suc (k - suc (length rs)))) at s f
@@ -119,7 +122,8 @@ joined-torn N h t o es d = refl
 
 -- ---- the readings of the shape, one for each way the chain can go
 
-module _ (low high : List Rec) (gap lost rest : List ℕ) (h : ℕ) (below : sizes low + length gap ≡ floor h) (here : floor h + length lost ≡ h) (fl : All-fine low) (fh : All-fine high) (some-high : 1 ≤ sizes high) where
+module _ (low high : List Rec) (gap lost rest : List ℕ) (h : ℕ) (below : sizes low + length gap ≡ floor h) (here : floor h + length lost ≡ h) (fl : All-fine low) (fh : All-fine high)
+    (some-high : 1 ≤ sizes high) where
   abbrev im : List ℕ
   im = image low high gap lost rest h below here
 
@@ -137,7 +141,8 @@ module _ (low high : List Rec) (gap lost rest : List ℕ) (h : ℕ) (below : siz
   shape-full es o t z e = reading-is im h _ _ (from-h es o t Next.Over e) (read-full im h t o (entries-of h high ++ es) z)
 
   -- turned, by a marker or at N
-  pub shape-turned : {x y : Next} (fs : List Entry) (p : Bool) (t u : ℕ) → (floor h ≡ 0 → ⊥) → Turns x → Ends (h + sizes high) rest (chain-of [] false t x) → Low-end y → Ends (sizes low) gap (chain-of fs p u y) →
+  pub shape-turned : {x y : Next} (fs : List Entry) (p : Bool) (t u : ℕ) → (floor h ≡ 0 → ⊥) → Turns x → Ends (h + sizes high) rest (chain-of [] false t x) → Low-end y →
+      Ends (sizes low) gap (chain-of fs p u y) →
       reading-from im h ≡ read (length im) h u true (entries-of h high ++ (entries-of 0 low ++ fs)) Ending.Tail
   shape-turned {x} {y} fs p t u z n e l d =
       reading-is im h _ _ (from-h [] false t x e ∙ ap (λ (m : List Entry). chain-of m false t x) (append-nil (entries-of h high)))

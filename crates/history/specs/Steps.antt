@@ -13,7 +13,8 @@ use Rattle.history.specs.Quiet.{blank-split}
 -- ---- a property of every cut, phase by phase
 
 -- one step, then others
-pub cut-one : (P : List ℕ → Type 0) (s : List ℕ) (x : Step) (b : List Step) → P s → ((j : ℕ) → j ≤ length b → P (run (apply s x) (take j b))) → (k : ℕ) → k ≤ suc (length b) → P (run s (take k (x ∷ b)))
+pub cut-one : (P : List ℕ → Type 0) (s : List ℕ) (x : Step) (b : List Step) → P s → ((j : ℕ) → j ≤ length b → P (run (apply s x) (take j b))) → (k : ℕ) → k ≤ suc (length b) →
+    P (run s (take k (x ∷ b)))
 cut-one P s x b p q zero h = p
 cut-one P s x b p q (suc k) h = q k (omega arith)
 

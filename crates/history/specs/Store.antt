@@ -76,7 +76,7 @@ doubled-none st a (e ∷ es) u =
     )
     (doubled-none st a es (u .1))
 
--- the rule on FC names
+-- no name is FC twice, none is F8 twice
 pub unique-single : (es : List Entry) → Unique es → single es ≡ true
 unfolding single
 unique-single es u = rw (single, doubled-none 0xFC fc-alive es u, doubled-none 0xF8 f8-alive es u)
@@ -122,7 +122,7 @@ none-superseded es u = keep-none (superseded es) es (each-map es (λ e h. and-no
 abbrev pub Well-named : Entry → Type 0
 Well-named e = alive e ≡ true → name-ok (name-of e) ≡ true
 
--- its status is written
+-- its status is not that of an unfinished record
 abbrev pub Finished : Entry → Type 0
 Finished e = is-unfinished (e .it .status) ≡ false
 

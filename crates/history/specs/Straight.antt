@@ -82,7 +82,8 @@ module _ {im : List ℕ} {a l : ℕ} {gap lost : List ℕ} {h : ℕ} {x : Rec} {
       ∙ ap give (zero-add h)
 
   not-clean : (h ≡ 0 → ⊥) → clean-here ((gap ++ lost) ++ lay (x ∷ ys) (seg-onto seg free)) ≡ false
-  not-clean n = second-clean ((gap ++ lost) ++ lay (x ∷ ys) (seg-onto seg free)) (λ e. s .front (sym (List·getD-append (gap ++ lost) (lay (x ∷ ys) (seg-onto seg free)) 0 1 (omega (arith, before-length, s .at))) ∙ e))
+  not-clean n =
+      second-clean ((gap ++ lost) ++ lay (x ∷ ys) (seg-onto seg free)) (λ e. s .front (sym (List·getD-append (gap ++ lost) (lay (x ∷ ys) (seg-onto seg free)) 0 1 (omega (arith, before-length, s .at))) ∙ e))
 
   -- CLEAN is found
   pub straight-clean : (h ≡ 0 → ⊥) → x .low ≡ 160 → head im ≡ give h
@@ -94,7 +95,8 @@ module _ {im : List ℕ} {a l : ℕ} {gap lost : List ℕ} {h : ℕ} {x : Rec} {
 
   -- START at 0 is found
   pub straight-zero : h ≡ 0 → x .low ≡ 0 → head im ≡ give h
-  straight-zero z e = ap head (at-zero z) ∙ subst (λ (b : ℕ). head (b ∷ 90 ∷ drop 2 (lay (x ∷ ys) (seg-onto seg free))) ≡ give 0) (sym e) (head-zero (drop 2 (lay (x ∷ ys) (seg-onto seg free)))) ∙ ap give (sym z)
+  straight-zero z e =
+      ap head (at-zero z) ∙ subst (λ (b : ℕ). head (b ∷ 90 ∷ drop 2 (lay (x ∷ ys) (seg-onto seg free))) ≡ give 0) (sym e) (head-zero (drop 2 (lay (x ∷ ys) (seg-onto seg free)))) ∙ ap give (sym z)
 
   -- head CLEAN at 0: nothing is found
   pub straight-none : (f : ℕ) → h ≡ 0 → x .low ≡ 160 → Walked 0 (x ∷ ys) → seg ≡ seg-none → length free ≡ 8 * f → Quiet f free → head im ≡ give h

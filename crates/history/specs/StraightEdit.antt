@@ -1,4 +1,4 @@
--- Edits of an image that has not turned: a status or low byte, and a record written at T, cut anywhere.
+-- An image that has not turned, cut in two behind some of its records; and a record with another status, low byte or data.
 use Prim.Native.Nat.{ℕ, _+_}
 use native.Mathlib.Omega.{arith}
 use native.Mathlib.Nat.{zero-add, add-assoc}
@@ -88,7 +88,7 @@ module _ {im : List ℕ} {a l : ℕ} {gap lost : List ℕ} {h : ℕ} {rs : List 
       ap (λ (l : List ℕ). run l (moved (h + sizes xs) ss)) split-at ∙ run-past (front-part gap lost xs) (lay ys (seg-onto seg free)) ss (h + sizes xs) front-length p
       ∙ front-is gap lost xs (run (lay ys (seg-onto seg free)) ss)
 
--- ---- a status byte, a low byte
+-- ---- a record changed
 
 -- with another status
 abbrev pub restatus : ℕ → Rec → Rec
@@ -98,7 +98,11 @@ restatus b r = record { low = r .low; status = b; name = r .name; content = r .c
 abbrev pub relow : ℕ → Rec → Rec
 relow b r = record { low = b; status = r .status; name = r .name; content = r .content }
 
--- ---- a record written at T
+-- with other data
+abbrev pub recontent : List ℕ → Rec → Rec
+recontent c r = record { low = r .low; status = r .status; name = r .name; content = c }
+
+-- ---- its length
 
 -- how long the image is
 pub straight-length : {im : List ℕ} {a l : ℕ} {gap lost : List ℕ} {h : ℕ} {high : List Rec} {seg : Seg} {free : List ℕ} → Straight im a l gap lost h high seg free →
@@ -106,7 +110,3 @@ pub straight-length : {im : List ℕ} {a l : ℕ} {gap lost : List ℕ} {h : ℕ
 straight-length {gap = gap} {lost = lost} {high = high} {seg = seg} {free = free} s =
     ap length (s .is) ∙ length-append gap (lost ++ lay high (seg-onto seg free)) ∙ ap (λ (n : ℕ). length gap + n) (length-append lost (lay high (seg-onto seg free)))
     ∙ omega (arith, s .gap-length, s .lost-length, s .at, length-lay high (seg-onto seg free), length-seg seg free)
-
--- with other data
-abbrev pub recontent : List ℕ → Rec → Rec
-recontent c r = record { low = r .low; status = r .status; name = r .name; content = c }

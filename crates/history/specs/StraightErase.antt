@@ -1,4 +1,4 @@
--- Step (d) of a move on an image that has not turned, Y in a later sector: cut anywhere, the head is Y and the gap has no mark.
+-- Step (d) of a move on an image that has not turned, Y in a later sector: which sectors are erased, and that cut anywhere the head is Y and the gap has no mark.
 use Prim.Native.Nat.{ℕ, zero, suc, _+_, _-_, _*_, _/_, _≤_, _<_}
 use native.Mathlib.Omega.{arith}
 use native.Mathlib.Nat.{not-suc-le-zero}
@@ -64,7 +64,8 @@ module _ {im : List ℕ} {a l : ℕ} {gap lost : List ℕ} {h : ℕ} {x y : Rec}
         quiet-second x lost [] l (512 * k + r) (s .lost-length) (omega (arith, s .lost-small)) (subst (λ (m : ℕ). Quiet m (body (x .name) (x .content) [])) n c)
 
     -- after at least one erase: the head is Y, the free run may hold remains, without marks
-    pub to-m3 : (i : ℕ) → i ≤ k → Straight (run im (take (suc i) (erases (4096 * a) (suc k)))) (a + suc k) r (gap ++ half-erased (suc i) (suc k) (old-head lost x)) (drop (4096 * suc k) (old-head lost x)) (h + rsize x) (y ∷ ys) seg-none free
+    pub to-m3 : (i : ℕ) → i ≤ k →
+        Straight (run im (take (suc i) (erases (4096 * a) (suc k)))) (a + suc k) r (gap ++ half-erased (suc i) (suc k) (old-head lost x)) (drop (4096 * suc k) (old-head lost x)) (h + rsize x) (y ∷ ys) seg-none free
     to-m3 i e =
         let D : List ℕ = half-erased (suc i) (suc k) q in
         let L : List ℕ = drop (4096 * suc k) q in
@@ -108,6 +109,7 @@ module _ {im : Image} {a l : ℕ} {gap lost : List ℕ} {h : ℕ} {x y : Rec} {y
   -- all of (d): the gap's new sectors are FF
   pub done : Straight (run im (erases A (suc k))) (a + suc k) r (gap ++ blanks (4096 * suc k)) (drop (4096 * suc k) (old-head lost x)) (h + rsize x) (y ∷ ys) seg-none free
   done =
-      subst (λ (g : List ℕ). Straight (run im (erases A (suc k))) (a + suc k) r (gap ++ g) (drop (4096 * suc k) (old-head lost x)) (h + rsize x) (y ∷ ys) seg-none free) (all-erased (suc k) (old-head lost x))
+      subst (λ (g : List ℕ). Straight (run im (erases A (suc k))) (a + suc k) r (gap ++ g) (drop (4096 * suc k) (old-head lost x)) (h + rsize x) (y ∷ ys) seg-none free)
+      (all-erased (suc k) (old-head lost x))
       (subst (λ (ss : List Step). Straight (run im ss) (a + suc k) r (gap ++ half-erased (suc k) (suc k) (old-head lost x)) (drop (4096 * suc k) (old-head lost x)) (h + rsize x) (y ∷ ys) seg-none free)
       (take-erases (suc k) (suc k) A (omega arith)) (to-m3 s c k r all short k (omega arith)))

@@ -64,7 +64,8 @@ record Done (l : Ledger) (im : Image) (w : Work) : Type 0 where
   pub image : w .image ≡ run im (w .steps)
   pub rested : Rested l (w .image) (w .reading)
 
-two-on : (w : Work) (x y : Entry) (es : List Entry) → w .reading .entries ≡ x ∷ y ∷ es → moved-on w ≡ reread w (program (y .at) 160 ∷ close-steps (w .reading .place .length) x y) (run (w .image) (program (y .at) 160 ∷ close-steps (w .reading .place .length) x y)) (y .at)
+two-on : (w : Work) (x y : Entry) (es : List Entry) → w .reading .entries ≡ x ∷ y ∷ es →
+    moved-on w ≡ reread w (program (y .at) 160 ∷ close-steps (w .reading .place .length) x y) (run (w .image) (program (y .at) 160 ∷ close-steps (w .reading .place .length) x y)) (y .at)
 unfolding hand-over after
 two-on w x y es e = ap (hand-over w) e
 
@@ -126,7 +127,8 @@ copy-dead : (r : Reading) (x : Entry) (es : List Entry) → live (x ∷ es) x �
 unfolding copy-steps
 copy-dead r x es e = rw (copy-steps, e)
 
-move-by : (im : Image) (r : Reading) (es : List Entry) (ss : List Step) (w : Work) → r .entries ≡ es → copy-steps r es ≡ ss → after (begin im r) ss (r .place .head) ≡ w → move (begin im r) ≡ moved-on w
+move-by : (im : Image) (r : Reading) (es : List Entry) (ss : List Step) (w : Work) → r .entries ≡ es → copy-steps r es ≡ ss → after (begin im r) ss (r .place .head) ≡ w →
+    move (begin im r) ≡ moved-on w
 unfolding move
 move-by im r es ss w e k a = ap moved-on (ap (λ (fs : List Entry). after (begin im r) (copy-steps r fs) (r .place .head)) e ∙ ap (λ (ts : List Step). after (begin im r) ts (r .place .head)) k ∙ a)
 

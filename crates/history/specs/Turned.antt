@@ -91,7 +91,8 @@ pub opens-words : (m k : ℕ) → k ≡ 8 * m → (x : Next) × Opens (blanks k)
 opens-words zero k e = (Next.Over, subst (λ (i : ℕ). Opens (blanks i) Next.Over) (sym e) opens-none)
 opens-words (suc m) k e = (Next.Clear, opens-blanks k (omega arith))
 
-module _ {im : List ℕ} {a l : ℕ} {lost : List ℕ} {h : ℕ} {low : List Rec} {seg : Seg} {f : ℕ} {free : List ℕ} {x : Rec} {ys : List Rec} {end : End} (s : Turned im a l lost h low seg f free (x ∷ ys) end) where
+module _ {im : List ℕ} {a l : ℕ} {lost : List ℕ} {h : ℕ} {low : List Rec} {seg : Seg} {f : ℕ} {free : List ℕ} {x : Rec} {ys : List Rec} {end : End}
+    (s : Turned im a l lost h low seg f free (x ∷ ys) end) where
   abbrev rest : List ℕ
   rest = lay (x ∷ ys) (end-bytes end)
 
@@ -118,7 +119,8 @@ module _ {im : List ℕ} {a l : ℕ} {lost : List ℕ} {h : ℕ} {low : List Rec
   -- CLEAN is found, if none stands at 0
   pub turned-clean : x .low ≡ 160 → clean-here im ≡ false → head im ≡ give h
   turned-clean e c =
-      ap head seg-whole ∙ head-clean low (seg-onto seg ((free ++ lost) ++ rest)) (drop 2 rest) (seg-size seg + 8 * (f + l)) (s .fine-low) (s .walked) fronted (sym (ap clean-here seg-whole) ∙ c) (reached e is-CLEAN)
+      ap head seg-whole ∙ head-clean low (seg-onto seg ((free ++ lost) ++ rest)) (drop 2 rest) (seg-size seg + 8 * (f + l)) (s .fine-low) (s .walked) fronted (sym (ap clean-here seg-whole) ∙ c)
+      (reached e is-CLEAN)
       ∙ ap give (omega (arith, s .below, s .at))
 
   -- ---- the reading

@@ -24,7 +24,8 @@ more-open i k q opens-none =
     (sym (ap (λ (l : List ℕ). l ++ take (4096 * (k - suc i)) (drop (4096 * suc i) q)) (blank-split 8 (4096 * suc i - 8) (4096 * suc i) (omega arith)))) opens-ff
 
 -- Y behind X, in a later sector
-module _ {im : List ℕ} {a l : ℕ} {lost : List ℕ} {h : ℕ} {low : List Rec} {f : ℕ} {free : List ℕ} {x y : Rec} {ys : List Rec} {end : End} (s : Turned im a l lost h low seg-none f free (x ∷ y ∷ ys) end) (c : Cleaned x)
+module _ {im : List ℕ} {a l : ℕ} {lost : List ℕ} {h : ℕ} {low : List Rec} {f : ℕ} {free : List ℕ} {x y : Rec} {ys : List Rec} {end : End}
+    (s : Turned im a l lost h low seg-none f free (x ∷ y ∷ ys) end) (c : Cleaned x)
     (k r : ℕ) (all : 512 * suc k + r ≡ l + rsize x / 8) (short : r < 512) where
   abbrev q : List ℕ
   q = old-head lost x
@@ -56,7 +57,8 @@ module _ {im : List ℕ} {a l : ℕ} {lost : List ℕ} {h : ℕ} {low : List Rec
       quiet-second x lost [] l (512 * k + r) (s .lost-length) (omega (arith, s .lost-small)) (subst (λ (m : ℕ). Quiet m (body (x .name) (x .content) [])) n c)
 
   -- after at least one erase: the head is Y
-  pub turned-m3 : (i : ℕ) → i ≤ k → Turned (run im (take (suc i) (erases (4096 * a) (suc k)))) (a + suc k) r (drop (4096 * suc k) (old-head lost x)) (h + rsize x) low seg-none (f + 512 * suc k) (free ++ half-erased (suc i) (suc k) (old-head lost x)) (y ∷ ys) end
+  pub turned-m3 : (i : ℕ) → i ≤ k →
+      Turned (run im (take (suc i) (erases (4096 * a) (suc k)))) (a + suc k) r (drop (4096 * suc k) (old-head lost x)) (h + rsize x) low seg-none (f + 512 * suc k) (free ++ half-erased (suc i) (suc k) (old-head lost x)) (y ∷ ys) end
   unfolding rest
   turned-m3 i e =
       let D : List ℕ = half-erased (suc i) (suc k) q in

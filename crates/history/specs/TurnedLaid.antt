@@ -87,7 +87,8 @@ high-laid (x ∷ xs) r ys s e = laid-turned s refl refl e refl
 
 -- ---- the edits
 
-module _ {im : List ℕ} {a l : ℕ} {lost : List ℕ} {h : ℕ} {low : List Rec} {seg : Seg} {f : ℕ} {free : List ℕ} {x : Rec} {ys : List Rec} {end : End} (s : Turned im a l lost h low seg f free (x ∷ ys) end) where
+module _ {im : List ℕ} {a l : ℕ} {lost : List ℕ} {h : ℕ} {low : List Rec} {seg : Seg} {f : ℕ} {free : List ℕ} {x : Rec} {ys : List Rec} {end : End}
+    (s : Turned im a l lost h low seg f free (x ∷ ys) end) where
   abbrev rest : List ℕ
   rest = lost ++ lay (x ∷ ys) (end-bytes end)
 
@@ -100,7 +101,8 @@ module _ {im : List ℕ} {a l : ℕ} {lost : List ℕ} {h : ℕ} {low : List Rec
         is = s .is ∙ lay-is low (seg-onto seg (free ++ rest));
         at = length-lay low [] ∙ omega arith;
         plug = λ g k new y m q o z.
-            laid-turned {low = low} (with-low (lay low [] ++ seg-onto g (new ++ rest)) k s (sym (lay-is low (seg-onto g (new ++ rest)))) (omega arith) m q o (s .fine-low) (s .walked)) refl refl refl refl;
+            laid-turned {low = low}
+            (with-low (lay low [] ++ seg-onto g (new ++ rest)) k s (sym (lay-is low (seg-onto g (new ++ rest)))) (omega arith) m q o (s .fine-low) (s .walked)) refl refl refl refl;
         grow = λ r k new y fine w m q o z.
             laid-turned {low = low ++ (r ∷ [])}
             (with-low (lay low [] ++ onto r (new ++ rest)) k s
@@ -142,7 +144,8 @@ module _ {im : List ℕ} {a l : ℕ} {lost : List ℕ} {h : ℕ} {low : List Rec
       record {
         pre = high-front (q .before);
         post = lay (q .after) (end-bytes end);
-        is = s .is ∙ ap (λ (l : List ℕ). lay low (seg-onto seg (free ++ (lost ++ l)))) (ap (λ (k : List Rec). lay k (end-bytes end)) (q .is) ∙ lay-append (q .before) (e .it ∷ q .after) (end-bytes end))
+        is =
+            s .is ∙ ap (λ (l : List ℕ). lay low (seg-onto seg (free ++ (lost ++ l)))) (ap (λ (k : List Rec). lay k (end-bytes end)) (q .is) ∙ lay-append (q .before) (e .it ∷ q .after) (end-bytes end))
             ∙ sym (high-front-is (q .before) (lay (e .it ∷ q .after) (end-bytes end)));
         at = high-front-length (q .before) ∙ sym (q .there);
         fine = among-fine q (s .fine-high);

@@ -1,4 +1,4 @@
--- Images whose head is CLEAN with T's own sector FF (Vacant), and those whose free run is all FF (Bare): from these the head's low byte makes a rested image.
+-- Images whose head is CLEAN with T's own sector FF (Vacant), and those that are bare: from these the head's low byte makes a rested image.
 use Prim.Native.Nat.{ℕ, _+_, _-_, _%_, min, _≤_}
 use native.Mathlib.Omega.{arith}
 use native.Mathlib.Nat.{add-zero}
@@ -137,7 +137,8 @@ module _ {h S : ℕ} {t : Bool} {es : List Entry} {im : Image} (v : Vacant h S t
       (omega (arith, v .own, limit-is (v .laid))) (omega (arith, v .own))
 
 -- from so many FF at T that they fill its sector
-pub vacant-at : {im : Image} {h S : ℕ} {t : Bool} {es : List Entry} {below free : List ℕ} (d : Laid im h S t es seg-none below free) (n : ℕ) (s : List ℕ) → free ≡ blanks n ++ s → floor S + 4096 ≤ S + n →
+pub vacant-at : {im : Image} {h S : ℕ} {t : Bool} {es : List Entry} {below free : List ℕ} (d : Laid im h S t es seg-none below free) (n : ℕ) (s : List ℕ) → free ≡ blanks n ++ s →
+    floor S + 4096 ≤ S + n →
     Vacant h S t es im
 vacant-at {S = S} {below = below} {free} d n s e h =
     let m : ℕ = floor S + 4096 - S in
@@ -162,7 +163,8 @@ own-back im pre free post S m M e p q l b =
     blank-is (take m free) (sym (ap blank f) ∙ b) ∙ ap blanks (length-take-le m free l)
 
 -- from the test
-pub vacant-of : {im : Image} {h S : ℕ} {t : Bool} {es : List Entry} {below free : List ℕ} (d : Laid im h S t es seg-none below free) → good-length (length im) ≡ true → (s : List ℕ) → free ≡ blanks 8 ++ s →
+pub vacant-of : {im : Image} {h S : ℕ} {t : Bool} {es : List Entry} {below free : List ℕ} (d : Laid im h S t es seg-none below free) → good-length (length im) ≡ true → (s : List ℕ) →
+    free ≡ blanks 8 ++ s →
     tail-blank im (place im h S t) ≡ true → Vacant h S t es im
 unfolding tail-blank
 vacant-of {im} {h} {S} {t} {es} {below} {free} d g s e b =

@@ -150,13 +150,15 @@ module _ {l : Ledger} {im : Image} {h S T : ℕ} (B F : ℕ) {t u : Bool} {es : 
       subst (λ (i : Image). Rested l i (reading-from i h)) (sym left-is) left-rested in
       record { rested = q; safe = safe-from (Inv l) im (moved S (void-rel g)) (λ k j. go q (leb (length (void-rel g)) k) k refl) sound }
     where
-      go : Rested l (run im (moved S (void-rel g))) (reading-from (run im (moved S (void-rel g))) h) → (b : Bool) (k : ℕ) → leb (length (void-rel g)) k ≡ b → Inv l (run im (take k (moved S (void-rel g))))
+      go : Rested l (run im (moved S (void-rel g))) (reading-from (run im (moved S (void-rel g))) h) → (b : Bool) (k : ℕ) → leb (length (void-rel g)) k ≡ b →
+          Inv l (run im (take k (moved S (void-rel g))))
       go q true k c =
           subst (λ (ss : List Step). Inv l (run im ss)) (sym (take-all k (moved S (void-rel g)) (omega (arith, length-moved S (void-rel g), leb-true (length (void-rel g)) k c)))) (rested-inv q)
       go q false k c = cut-inv k (leb-false (length (void-rel g)) k c)
 
 -- repair 3's steps are these
-third : (w : Work) (es : List Entry) (e : Entry) (ss : List Step) → w .reading .entries ≡ es ++ (e ∷ []) → w .reading .ending ≡ Ending.Tail → void-steps (w .image) e ≡ ss → repair-3 w ≡ after w ss (w .reading .place .head)
+third : (w : Work) (es : List Entry) (e : Entry) (ss : List Step) → w .reading .entries ≡ es ++ (e ∷ []) → w .reading .ending ≡ Ending.Tail → void-steps (w .image) e ≡ ss →
+    repair-3 w ≡ after w ss (w .reading .place .head)
 unfolding repair-3
 third w es e ss i j k =
     ap₂ (λ (a : List Step) (b : Ending). after w (a ++ torn-wrap-steps b) (w .reading .place .head)) (ap (last-steps (w .image)) i ∙ last-end (w .image) es e ∙ k) j

@@ -1,4 +1,4 @@
--- The whole reading, with its rules judged, of every kind of image that histories make.
+-- The parts of an image that the rules look at, and the whole reading, with its rules judged, of an image with a torn wrap.
 use Prim.Native.Nat.{ℕ, _+_, _*_, _≤_}
 use native.Mathlib.Omega.{arith}
 use native.Mathlib.Nat.{zero-add}
@@ -62,7 +62,8 @@ module _ {im : List ℕ} {a l : ℕ} {gap lost : List ℕ} {h : ℕ} {x : Rec} {
   -- the free run
   pub free-part : part T (length im) im ≡ free
   free-part =
-      let e : part (h + sizes (x ∷ ys)) (length im) im ≡ seg-onto seg free = ap (λ (l : List ℕ). drop (h + sizes (x ∷ ys)) (take (length im) l)) (s .is) ∙ part-rest [] (x ∷ ys) gap lost (seg-onto seg free) h below here (length im) (ap length (s .is)) in
+      let e : part (h + sizes (x ∷ ys)) (length im) im ≡ seg-onto seg free =
+      ap (λ (l : List ℕ). drop (h + sizes (x ∷ ys)) (take (length im) l)) (s .is) ∙ part-rest [] (x ∷ ys) gap lost (seg-onto seg free) h below here (length im) (ap length (s .is)) in
       sym (drop-drop (seg-size seg) (h + sizes (x ∷ ys)) (take (length im) im)) ∙ ap (drop (seg-size seg)) e ∙ drop-seg seg free
 
   gap-blank : gap ≡ blanks (4096 * a) → blank (part 0 (floor h) im) ≡ true
@@ -75,7 +76,8 @@ torn-wrap-whole k {im} {a} {l} {gap} {lost} {h} {c} {x} {ys} s b z g e r =
     reading-by im h (read (length im) h 0 true (entries-of h (x ∷ ys)) (Ending.TornWrap (h + sizes (x ∷ ys)))) (started s e) (torn-reading k s b z) refl r
     (free-turned im (length im) h 0 (entries-of h (x ∷ ys)) (Ending.TornWrap (h + sizes (x ∷ ys))) (is-clean-0 (x .low) e) (gap-blank s g))
 
-module _ {im : List ℕ} {a l : ℕ} {lost : List ℕ} {h : ℕ} {low : List Rec} {seg : Seg} {f : ℕ} {free : List ℕ} {x : Rec} {ys : List Rec} {end : End} (s : Turned im a l lost h low seg f free (x ∷ ys) end) where
+module _ {im : List ℕ} {a l : ℕ} {lost : List ℕ} {h : ℕ} {low : List Rec} {seg : Seg} {f : ℕ} {free : List ℕ} {x : Rec} {ys : List Rec} {end : End}
+    (s : Turned im a l lost h low seg f free (x ∷ ys) end) where
   abbrev T₁ : ℕ
   T₁ = sizes low + seg-size seg
 
