@@ -170,8 +170,8 @@ module _ {im : Image} {a l : ℕ} {lost : List ℕ} {h : ℕ} {x y : Rec} {ys : 
   straight-leaves f lf qf S e t =
       by-sectors (l + rsize x / 8)
       (λ n.
-        let p : floor (h + rsize x) ≡ floor h = omega (arith, s .at, s .lost-small, rsize-words x) in
-        near (vacated-none (length im) X Y (λ z. omega arith) p) p (omega arith))
+      let p : floor (h + rsize x) ≡ floor h = omega (arith, s .at, s .lost-small, rsize-words x) in
+      near (vacated-none (length im) X Y (λ z. omega arith) p) p (omega arith))
       (λ k r u v. straight-far k r u v f lf qf S e t)
 
 -- ---- turned, Y behind X
@@ -208,8 +208,8 @@ module _ {im : Image} {a l : ℕ} {lost : List ℕ} {h : ℕ} {low : List Rec} {
   turned-leaves =
       by-sectors (l + rsize x / 8)
       (λ n.
-        let p : floor (h + rsize x) ≡ floor h = omega (arith, s .at, s .lost-small, rsize-words x) in
-        near (vacated-none (length im) X₁ Y₁ (λ z. omega arith) p) p (omega arith))
+      let p : floor (h + rsize x) ≡ floor h = omega (arith, s .at, s .lost-small, rsize-words x) in
+      near (vacated-none (length im) X₁ Y₁ (λ z. omega arith) p) p (omega arith))
       turned-far
 
 -- ---- turned, Y at 0

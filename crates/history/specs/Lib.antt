@@ -5,7 +5,6 @@ pub mod Lists
 pub mod Store
 pub mod Ledger
 pub mod Shadow
-
 -- ---- layout and last things
 pub mod Lay
 pub mod Last
@@ -14,11 +13,9 @@ pub mod Seg
 pub mod Steps
 pub mod Safe
 pub mod Erase
-
 -- ---- head search
 pub mod Walk
 pub mod Head
-
 -- ---- reading
 pub mod Shape
 pub mod Legal
@@ -26,7 +23,6 @@ pub mod Straight
 pub mod Turned
 pub mod Marker
 pub mod Whole
-
 -- ---- the one layout and its edits
 pub mod Laid
 pub mod StraightEdit
@@ -34,7 +30,6 @@ pub mod Entries
 pub mod StraightLaid
 pub mod TurnedLaid
 pub mod LaidEdit
-
 -- ---- the kinds of image
 pub mod Kinds
 pub mod OkLaws
@@ -43,7 +38,6 @@ pub mod LaidRead
 pub mod Settled
 pub mod Settling
 pub mod Vacant
-
 -- ---- put
 pub mod Put
 pub mod PutSound
@@ -52,7 +46,6 @@ pub mod PutTurn
 pub mod PutPhases
 pub mod PutOld
 pub mod Puts
-
 -- ---- move
 pub mod Clean
 pub mod StraightErase
@@ -64,7 +57,6 @@ pub mod Repair
 pub mod EraseFree
 pub mod LaidMend
 pub mod Closes
-
 -- ---- mount
 pub mod Idle
 pub mod Resting
@@ -74,15 +66,12 @@ pub mod Voiding
 pub mod VoidMount
 pub mod HalfMount
 pub mod Mounts
-
 -- ---- sweep
 pub mod Handover
 pub mod Copying
 pub mod Sweeps
-
 -- ---- format
 pub mod Formats
-
 -- ---- the theorem
 pub mod Shows
 pub mod Calls
