@@ -234,6 +234,10 @@ pub lay-is : (rs : List Rec) (s : List ℕ) → lay rs s ≡ lay rs [] ++ s
 lay-is [] s = refl
 lay-is (r ∷ rs) s = ap (onto r) (lay-is rs s) ∙ onto-is r (lay rs [] ++ s) ∙ sym (append-assoc (onto r []) (lay rs []) s) ∙ ap (λ (l : List ℕ). l ++ s) (sym (onto-is r (lay rs [])))
 
+-- more behind what follows
+pub lay-past : (rs : List Rec) (s t : List ℕ) → lay rs s ++ t ≡ lay rs (s ++ t)
+lay-past rs s t = ap (λ (l : List ℕ). l ++ t) (lay-is rs s) ∙ append-assoc (lay rs []) s t ∙ sym (lay-is rs (s ++ t))
+
 length-onto : (r : Rec) (s : List ℕ) → length (onto r s) ≡ rsize r + length s
 length-onto r s = omega (arith, length-body (r .name) (r .content) s)
 

@@ -4,7 +4,7 @@ use native.Mathlib.Omega.{arith}
 use native.Mathlib.Nat.{zero-add}
 use mathlib.Core.Path.{_≡_, refl, sym, ap, _∙_, subst}
 use mathlib.Core.Bool.{Bool, true, false}
-use mathlib.Core.List.{List, [], _∷_, _++_, append-assoc, append-nil}
+use mathlib.Core.List.{List, [], _∷_, _++_, append-nil}
 use lib.ListN.{length, take, drop, length-append}
 use lib.Seq.{take-at, drop-at}
 use lib.Dec.{eqb}
@@ -14,7 +14,7 @@ use Rattle.spec.specs.declared.Ending.{Ending}
 use Rattle.spec.specs.Geometry.{floor}
 use Rattle.spec.specs.Record.{Rec, Entry}
 use Rattle.spec.specs.Chain.{Chain, add, stop, chain, Reading, read, joined, from-head, from-zero, read-on, reading-from}
-use Rattle.history.specs.Lay.{lay, sizes, entries-of, before, All-fine, chain-lay, length-lay, lay-is, lots, drop-past}
+use Rattle.history.specs.Lay.{lay, sizes, entries-of, before, All-fine, chain-lay, length-lay, lots, drop-past, lay-past}
 use Rattle.history.specs.Last.{Ends, Stops}
 
 -- entries, then the end
@@ -33,7 +33,7 @@ module _ (low high : List Rec) (gap lost rest : List ℕ) (h : ℕ) (below : siz
   image = lay low (gap ++ (lost ++ lay high rest))
 
   split : image ≡ lay low gap ++ (lost ++ lay high rest)
-  split = lay-is low (gap ++ (lost ++ lay high rest)) ∙ sym (append-assoc (lay low []) gap (lost ++ lay high rest)) ∙ ap (λ (l : List ℕ). l ++ (lost ++ lay high rest)) (sym (lay-is low gap))
+  split = sym (lay-past low gap (lost ++ lay high rest))
 
   low-length : length (lay low gap) ≡ floor h
   low-length = length-lay low gap ∙ below

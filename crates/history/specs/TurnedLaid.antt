@@ -8,7 +8,7 @@ use mathlib.Core.List.{List, [], _∷_, _++_, append-assoc}
 use lib.ListN.{length, length-append}
 use Rattle.spec.specs.declared.Next.{Next}
 use Rattle.spec.specs.Record.{Rec, Entry}
-use Rattle.history.specs.Lay.{onto, lay, rsize, sizes, entries-of, lay-is, length-lay, All-fine}
+use Rattle.history.specs.Lay.{onto, lay, rsize, sizes, entries-of, lay-is, length-lay, All-fine, lay-past}
 use Rattle.history.specs.Walk.{Quiet, Walks, walks-record, walks-clean, Walked}
 use Rattle.history.specs.Seg.{Seg, seg-onto, seg-size, seg-append, length-seg}
 use Rattle.history.specs.Turned.{Turned, End, end-bytes, Opens}
@@ -126,7 +126,7 @@ module _ {im : List ℕ} {a l : ℕ} {lost : List ℕ} {h : ℕ} {low : List Rec
   unfolding high-front
   high-front-is xs t =
       let u : List ℕ = free ++ (lost ++ lay xs []) in
-      ap (λ (l : List ℕ). l ++ t) (lay-is low (seg-onto seg u)) ∙ append-assoc (lay low []) (seg-onto seg u) t ∙ sym (lay-is low (seg-onto seg u ++ t))
+      lay-past low (seg-onto seg u) t
       ∙ ap (lay low)
       (sym (seg-append seg u t)
       ∙ ap (seg-onto seg) (append-assoc free (lost ++ lay xs []) t ∙ ap (λ (l : List ℕ). free ++ l) (append-assoc lost (lay xs []) t ∙ ap (λ (l : List ℕ). lost ++ l) (sym (lay-is xs t)))))
