@@ -153,8 +153,10 @@ module _ {im : Image} {a l : ℕ} {lost : List ℕ} {h : ℕ} {x y : Rec} {ys : 
         turn-open (subst (λ (m : List ℕ). Straight (run im (erases A (suc k))) (a + suc k) r (blanks (B + 4096 * suc k)) (drop (4096 * suc k) q) (h + rsize x) (y ∷ ys) seg-none m) z all-ff)
         (opens-blanks (B + 4096 * suc k) (omega arith)) (omega arith) in
         let v : (i : ℕ) → i ≤ k →
-        Turned (run im (take (suc i) (erases A (suc k)))) (a + suc k) r (drop (4096 * suc k) q) (h + rsize x) [] seg-none (512 * (a + suc k)) (blanks B ++ half-erased (suc i) (suc k) q) (y ∷ ys) exact =
-        λ i p. turn-open (subst (λ (m : List ℕ). Straight (run im (take (suc i) (erases A (suc k)))) (a + suc k) r (blanks B ++ half-erased (suc i) (suc k) q) (drop (4096 * suc k) q) (h + rsize x) (y ∷ ys) seg-none m) z (to-m3 s c k r all short i p))
+        Turned (run im (take (suc i) (erases A (suc k)))) (a + suc k) r (drop (4096 * suc k) q) (h + rsize x) [] seg-none (512 * (a + suc k)) (blanks B ++ half-erased (suc i) (suc k) q)
+        (y ∷ ys) exact =
+        λ i p. turn-open (subst (λ (m : List ℕ). Straight (run im (take (suc i) (erases A (suc k)))) (a + suc k) r (blanks B ++ half-erased (suc i) (suc k) q) (drop (4096 * suc k) q)
+        (h + rsize x) (y ∷ ys) seg-none m) z (to-m3 s c k r all short i p))
         (open-ff (B + 4096 * suc i) (rest i) (blanks B ++ half-erased (suc i) (suc k) q) (join-ff B (4096 * suc i) (rest i)) (omega arith)) (omega arith) in
         far A k 0 true (vacated-are (length im) h x y a l k r (s .at) (s .lost-small) all short) (omega arith) sectors-in
         (λ i p. vacant-at (laid-turned (v i p) refl refl (sym (append-nil (entries-of (h + rsize x) (y ∷ ys)))) refl) (B + 4096 * suc i) (rest i) (join-ff B (4096 * suc i) (rest i)) (omega arith))
@@ -275,7 +277,8 @@ module _ {im : Image} {a l : ℕ} {lost : List ℕ} {h : ℕ} {y : Rec} {low : L
         laid =
             subst (λ (m : List ℕ). Laid (run im (erases A (suc k))) 0 S false (Y₂ ∷ E₂) seg-none [] m)
             (ap (λ (m : List ℕ). blanks F ++ m) (all-erased (suc k) q) ∙ replicate-append-replicate F (4096 * suc k) 255)
-            (subst (λ (ss : List Step). Laid (run im ss) 0 S false (Y₂ ∷ E₂) seg-none [] (blanks F ++ half-erased (suc k) (suc k) q)) (take-erases (suc k) (suc k) A (omega arith)) (laid k (omega arith)));
+            (subst (λ (ss : List Step). Laid (run im ss) 0 S false (Y₂ ∷ E₂) seg-none [] (blanks F ++ half-erased (suc k) (suc k) q)) (take-erases (suc k) (suc k) A (omega arith))
+            (laid k (omega arith)));
         tail = clear-ff (F + 4096 * suc k) (omega arith);
       })
 

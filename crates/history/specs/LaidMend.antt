@@ -79,7 +79,8 @@ high-done {im} {h} {S} {t} {es} {below} {free} d im₀ pre₀ i₀ l₀ c k lim 
     let n : c + 4096 * k ≡ F = omega arith in
     let e : run im (mend-steps im₀ lim (ceiling S) lim) ≡ K .pre ++ (blanks F ++ K .post) =
     ap (λ (i : Image). run i (mend-steps im₀ lim (ceiling S) lim)) (K .is ∙ opened-up (K .pre) (K .post) free c cb)
-    ∙ mend-done k lim (ceiling S) lim (pre₀ ++ blanks c) (K .pre ++ blanks c) (drop c free) (K .post) (length-append pre₀ (blanks c) ∙ omega arith) (length-append (K .pre) (blanks c) ∙ omega (arith, K .at))
+    ∙ mend-done k lim (ceiling S) lim (pre₀ ++ blanks c) (K .pre ++ blanks c) (drop c free) (K .post) (length-append pre₀ (blanks c) ∙ omega arith)
+    (length-append (K .pre) (blanks c) ∙ omega (arith, K .at))
     (length-drop c free ∙ omega arith) kl (omega arith) im₀ (i₀ ∙ opened-up pre₀ (K .post) free c cb)
     ∙ append-assoc (K .pre) (blanks c) (blanks (4096 * k) ++ K .post) ∙ ap (λ (l : List ℕ). K .pre ++ l) (join-ff c (4096 * k) (K .post) ∙ ap (λ (m : ℕ). blanks m ++ K .post) n) in
     let lF : length (blanks F) ≡ F = length-replicate {A = ℕ} F 255 in
@@ -111,7 +112,8 @@ module _ {im : Image} {h S : ℕ} {es : List Entry} (g : length im % 4096 ≡ 0)
         F = length (v .free);
         t = true;
         laid = subst (λ (b : List ℕ). Laid (run im (mend-steps im (floor h) (ceiling S) (floor h))) h S true es seg-none b (blanks (length (v .free)))) (turned-below (v .laid))
-            (high-done (v .laid) im (K .pre) (K .is) (K .at) c k (floor h) (omega arith) (omega (arith, v .own, v .whole)) e (omega (arith, v .own, v .whole)) (sym L) (omega (arith, vacant-long v, v .whole)));
+            (high-done (v .laid) im (K .pre) (K .is) (K .at) c k (floor h) (omega arith) (omega (arith, v .own, v .whole)) e (omega (arith, v .own, v .whole)) (sym L)
+            (omega (arith, vacant-long v, v .whole)));
         tail = clear-ff (length (v .free)) (omega (arith, vacant-long v, v .whole));
       }
   vacant-bare false v =

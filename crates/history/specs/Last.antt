@@ -132,7 +132,8 @@ held n c = record { low = 165; status = 254; name = n; content = c }
 pub ends-whole : {d : Chain} (at : ℕ) (n c s : List ℕ) → Fit (length c) n → ((k : ℕ) → chain (suc k) true (at + size-of (length n) (length c)) s ≡ d) →
     Ends at (onto (held n c) s) (add (record { at = at; it = held n c }) d)
 ends-whole at n c s f e =
-    ends-held at (length n) (length c) (onto (held n c) s) s (held n c) (next-reserved _ _ _ _ _ ∙ record-at-onto true (held n c) s f) unfinished-fe (rec-of-onto (held n c) s) (drop-onto (held n c) s) e
+    ends-held at (length n) (length c) (onto (held n c) s) s (held n c) (next-reserved _ _ _ _ _ ∙ record-at-onto true (held n c) s f) unfinished-fe (rec-of-onto (held n c) s)
+    (drop-onto (held n c) s) e
 
 -- reserved, with a cut name, and as many FF as make its size
 abbrev pub begun : ℕ → List ℕ → List ℕ → List ℕ

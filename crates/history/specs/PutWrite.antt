@@ -172,5 +172,6 @@ module _ {im : Image} {h S : ℕ} {t : Bool} {es : List Entry} (B F : ℕ) (d : 
       let e : apply (run im (moved S (open-steps n c))) (program (S + 2) 252) ≡ hole-of d .pre ++ onto (file n c) (blanks left ++ hole-of d .post) =
       ap (λ (y : Image). set y (S + 2) 252) open-is ∙ run-past (hole-of d .pre) (onto (held n c) (blanks left ++ hole-of d .post)) (program 2 252 ∷ []) S (hole-of d .at) tt in
       subst (λ (y : Image). Laid y h (S + z) t (es ++ (record { at = S; it = file n c } ∷ [])) seg-none (blanks B) (blanks left)) (sym e)
-      (hole-of d .grow (file n c) m (blanks left) (x .0) (record { low-ok = low-record; status-ok = st-fc; fit = g }) refl (length-replicate {A = ℕ} left 255 ∙ w) (quiet-ff m (blanks left) (ap blanks w)) (x .1)
+      (hole-of d .grow (file n c) m (blanks left) (x .0) (record { low-ok = low-record; status-ok = st-fc; fit = g }) refl (length-replicate {A = ℕ} left 255 ∙ w)
+      (quiet-ff m (blanks left) (ap blanks w)) (x .1)
       (omega (arith, length-replicate {A = ℕ} left 255, length-replicate {A = ℕ} F 255)))

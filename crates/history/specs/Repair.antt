@@ -63,7 +63,8 @@ mend-done zero n a b p₀ p (x ∷ r) s e₀ e l t i im₀ f = absurd (omega ari
 mend-done (suc k) zero a b p₀ p r s e₀ e l t i im₀ f = absurd (not-suc-le-zero i)
 mend-done (suc k) (suc n) a b p₀ p r s e₀ e l t i im₀ f =
     go (blank (part a (a + 4096) im₀)) refl
-    (mend-done k n (a + 4096) b (p₀ ++ take 4096 r) (p ++ blanks 4096) (drop 4096 r) s (length-append p₀ (take 4096 r) ∙ omega (arith, lr)) (length-append p (blanks 4096) ∙ omega (arith, len-4096)) (length-drop 4096 r ∙ omega arith) (omega arith) (omega arith) im₀
+    (mend-done k n (a + 4096) b (p₀ ++ take 4096 r) (p ++ blanks 4096) (drop 4096 r) s (length-append p₀ (take 4096 r) ∙ omega (arith, lr))
+    (length-append p (blanks 4096) ∙ omega (arith, len-4096)) (length-drop 4096 r ∙ omega arith) (omega arith) (omega arith) im₀
     (f ∙ ap (λ (x : List ℕ). p₀ ++ x) split ∙ sym (append-assoc p₀ (take 4096 r) (drop 4096 r ++ s))))
   where
     lr : length (take 4096 r) ≡ 4096

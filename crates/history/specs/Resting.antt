@@ -45,7 +45,8 @@ mends-quiet q = mends-none (rested-reads q) (rested-inv q) q
 close-some : (N : ℕ) (x y : Entry) → close-steps N x y ≡ [] → ⊥
 unfolding close-steps
 close-some N x y e =
-    some-append (clean-steps (length (content-of x)) (data-at x) (content-of x)) (vacate-steps x y (vacated N x y)) (some-behind (map erase (vacated N x y)) (forget-steps x (vacated N x y)) (program (y .at) 0)) e
+    some-append (clean-steps (length (content-of x)) (data-at x) (content-of x)) (vacate-steps x y (vacated N x y))
+    (some-behind (map erase (vacated N x y)) (forget-steps x (vacated N x y)) (program (y .at) 0)) e
 
 second-clean : (w : Work) (x y : Entry) (es : List Entry) → y .it .low ≡ 160 → repair-2 w (x ∷ y ∷ es) ≡ after w (close-steps (w .reading .place .length) x y) (y .at)
 unfolding repair-2

@@ -123,10 +123,12 @@ same-index [] i j e f d h k n = absurd (let z : _≡_ {A = ℕ} 0 1 = cc in omeg
 same-index (x ∷ fs) zero zero e f d h k n = refl
 same-index (x ∷ fs) zero (suc j) e f d h k n =
     let p : x ≡ e = cc in
-    absurd (not-both (same (name-of x) (name-of f)) (index-each (Distinct x) fs j f k (d .0)) (ap (λ (y : Entry). same (name-of y) (name-of f)) p ∙ ap (λ (m : List ℕ). same m (name-of f)) n ∙ same-refl (name-of f)))
+    absurd (not-both (same (name-of x) (name-of f)) (index-each (Distinct x) fs j f k (d .0))
+    (ap (λ (y : Entry). same (name-of y) (name-of f)) p ∙ ap (λ (m : List ℕ). same m (name-of f)) n ∙ same-refl (name-of f)))
 same-index (x ∷ fs) (suc i) zero e f d h k n =
     let p : x ≡ f = cc in
-    absurd (not-both (same (name-of x) (name-of e)) (index-each (Distinct x) fs i e h (d .0)) (ap (λ (y : Entry). same (name-of y) (name-of e)) p ∙ ap (λ (m : List ℕ). same m (name-of e)) (sym n) ∙ same-refl (name-of e)))
+    absurd (not-both (same (name-of x) (name-of e)) (index-each (Distinct x) fs i e h (d .0))
+    (ap (λ (y : Entry). same (name-of y) (name-of e)) p ∙ ap (λ (m : List ℕ). same m (name-of e)) (sym n) ∙ same-refl (name-of e)))
 same-index (x ∷ fs) (suc i) (suc j) e f d h k n = ap suc (same-index fs i j e f (d .1) h k n)
 
 -- a live entry is among those kept
@@ -268,7 +270,8 @@ module _ {l : Ledger} {im : Image} {r : Reading} (q : Rested l im r) where
       go : {o : Option Entry} → Old n (q .es) o → o ≡ none
       go (old-none a) = refl
       go (old-some xs ys e p a m) =
-          absurd (not-both (same (name-of e) n) (in-kept (λ d. same (name-of d) n ≡ false) xs ys e a (subst (λ (z : List Entry). Each (λ d. same (name-of d) n ≡ false) (keep alive z)) p absent)) (ap (λ (w : List ℕ). same w n) m ∙ same-refl n))
+          absurd (not-both (same (name-of e) n) (in-kept (λ d. same (name-of d) n ≡ false) xs ys e a (subst (λ (z : List Entry). Each (λ d. same (name-of d) n ≡ false) (keep alive z)) p absent))
+          (ap (λ (w : List ℕ). same w n) m ∙ same-refl n))
 
   get-none : (n : List ℕ) → name-ok n ≡ true → has n l ≡ false → get im n .numbers .answer ≡ 2
   get-none n ok h =

@@ -83,7 +83,8 @@ module _ {im : List ℕ} {a l : ℕ} {gap lost : List ℕ} {h : ℕ} {x : Rec} {
 
   not-clean : (h ≡ 0 → ⊥) → clean-here ((gap ++ lost) ++ lay (x ∷ ys) (seg-onto seg free)) ≡ false
   not-clean n =
-      second-clean ((gap ++ lost) ++ lay (x ∷ ys) (seg-onto seg free)) (λ e. s .front (sym (List·getD-append (gap ++ lost) (lay (x ∷ ys) (seg-onto seg free)) 0 1 (omega (arith, before-length, s .at))) ∙ e))
+      second-clean ((gap ++ lost) ++ lay (x ∷ ys) (seg-onto seg free)) (λ e. s .front
+      (sym (List·getD-append (gap ++ lost) (lay (x ∷ ys) (seg-onto seg free)) 0 1 (omega (arith, before-length, s .at))) ∙ e))
 
   -- CLEAN is found
   pub straight-clean : (h ≡ 0 → ⊥) → x .low ≡ 160 → head im ≡ give h
@@ -117,4 +118,5 @@ module _ {im : List ℕ} {a l : ℕ} {gap lost : List ℕ} {h : ℕ} {x : Rec} {
       reading-from im h ≡ read (length im) h t false (entries-of h (x ∷ ys) ++ es) Ending.Tail
   straight-reading t o es e =
       rw (s .is)
-      (shape-straight [] (x ∷ ys) gap lost (seg-onto seg free) h (zero-add (length gap) ∙ s .gap-length ∙ sym bottom) (omega (arith, bottom, s .at, s .lost-length)) tt (s .fine) (omega arith) es o t e)
+      (shape-straight [] (x ∷ ys) gap lost (seg-onto seg free) h (zero-add (length gap) ∙ s .gap-length ∙ sym bottom) (omega (arith, bottom, s .at, s .lost-length)) tt (s .fine)
+      (omega arith) es o t e)

@@ -65,7 +65,8 @@ module _ {im : List ℕ} {a l : ℕ} {gap lost : List ℕ} {h : ℕ} {x y : Rec}
 
     -- after at least one erase: the head is Y, the free run may hold remains, without marks
     pub to-m3 : (i : ℕ) → i ≤ k →
-        Straight (run im (take (suc i) (erases (4096 * a) (suc k)))) (a + suc k) r (gap ++ half-erased (suc i) (suc k) (old-head lost x)) (drop (4096 * suc k) (old-head lost x)) (h + rsize x) (y ∷ ys) seg-none free
+        Straight (run im (take (suc i) (erases (4096 * a) (suc k)))) (a + suc k) r (gap ++ half-erased (suc i) (suc k) (old-head lost x)) (drop (4096 * suc k) (old-head lost x)) (h + rsize x)
+        (y ∷ ys) seg-none free
     to-m3 i e =
         let D : List ℕ = half-erased (suc i) (suc k) q in
         let L : List ℕ = drop (4096 * suc k) q in
@@ -111,5 +112,6 @@ module _ {im : Image} {a l : ℕ} {gap lost : List ℕ} {h : ℕ} {x y : Rec} {y
   done =
       subst (λ (g : List ℕ). Straight (run im (erases A (suc k))) (a + suc k) r (gap ++ g) (drop (4096 * suc k) (old-head lost x)) (h + rsize x) (y ∷ ys) seg-none free)
       (all-erased (suc k) (old-head lost x))
-      (subst (λ (ss : List Step). Straight (run im ss) (a + suc k) r (gap ++ half-erased (suc k) (suc k) (old-head lost x)) (drop (4096 * suc k) (old-head lost x)) (h + rsize x) (y ∷ ys) seg-none free)
+      (subst (λ (ss : List Step). Straight (run im ss) (a + suc k) r (gap ++ half-erased (suc k) (suc k) (old-head lost x)) (drop (4096 * suc k) (old-head lost x)) (h + rsize x)
+      (y ∷ ys) seg-none free)
       (take-erases (suc k) (suc k) A (omega arith)) (to-m3 s c k r all short k (omega arith)))

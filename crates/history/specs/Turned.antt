@@ -105,7 +105,8 @@ module _ {im : List ℕ} {a l : ℕ} {lost : List ℕ} {h : ℕ} {low : List Rec
   reached : {b : ℕ} → x .low ≡ b → Head-low b → Reaches (sizes low) (seg-onto seg ((free ++ lost) ++ rest)) (b ∷ 90 ∷ drop 2 rest) (seg-size seg + 8 * (f + l))
   reached {b} e k =
       subst (λ (c : ℕ). Reaches (sizes low) (seg-onto seg ((free ++ lost) ++ (c ∷ 90 ∷ drop 2 rest))) (b ∷ 90 ∷ drop 2 rest) (seg-size seg + 8 * (f + l))) (sym e)
-      (seg-reaches (sizes low) (f + l) seg (free ++ lost) (drop 2 rest) word-count (quiet-append f l free lost (s .free-length) (s .free-quiet) (s .lost-quiet)) k (λ i. omega (arith, s .below, s .some-below)))
+      (seg-reaches (sizes low) (f + l) seg (free ++ lost) (drop 2 rest) word-count (quiet-append f l free lost (s .free-length) (s .free-quiet) (s .lost-quiet)) k
+      (λ i. omega (arith, s .below, s .some-below)))
 
   fronted : Front low (seg-onto seg ((free ++ lost) ++ rest))
   fronted = rw (append-assoc free lost rest) (front-seg low seg free (lost ++ rest) (s .opened) (s .opens) (omega (arith, s .below, s .free-length, s .some-below)))
@@ -149,8 +150,10 @@ module _ {im : List ℕ} {a l : ℕ} {lost : List ℕ} {h : ℕ} {low : List Rec
       go : (en : End) → im ≡ lay low (seg-onto seg free ++ (lost ++ lay (x ∷ ys) (end-bytes en))) →
           reading-from im h ≡ read (length im) h (sizes low + seg-size seg) true (entries-of h (x ∷ ys) ++ (entries-of 0 low ++ seg-entries (sizes low) seg)) Ending.Tail
       go exact e =
-          rw e (shape-turned low (x ∷ ys) (seg-onto seg free) lost [] h low-part high-part (s .fine-low) (s .fine-high) (omega arith) (seg-entries (sizes low) seg) (seg-open seg) (h + sizes (x ∷ ys)) (sizes low + seg-size seg)
+          rw e (shape-turned low (x ∷ ys) (seg-onto seg free) lost [] h low-part high-part (s .fine-low) (s .fine-high) (omega arith) (seg-entries (sizes low) seg) (seg-open seg)
+          (h + sizes (x ∷ ys)) (sizes low + seg-size seg)
           (λ z. omega (arith, bottom, s .some-below)) turns-over (λ k. stops-over (h + sizes (x ∷ ys)) false (suc k)) (opens-end (s .opens)) low-ends)
       go (marker k) e =
-          rw e (shape-turned low (x ∷ ys) (seg-onto seg free) lost (wrap (blanks k)) h low-part high-part (s .fine-low) (s .fine-high) (omega arith) (seg-entries (sizes low) seg) (seg-open seg) (h + sizes (x ∷ ys)) (sizes low + seg-size seg)
+          rw e (shape-turned low (x ∷ ys) (seg-onto seg free) lost (wrap (blanks k)) h low-part high-part (s .fine-low) (s .fine-high) (omega arith) (seg-entries (sizes low) seg) (seg-open seg)
+          (h + sizes (x ∷ ys)) (sizes low + seg-size seg)
           (λ z. omega (arith, bottom, s .some-below)) turns-wrap (ends-wrap (h + sizes (x ∷ ys)) (blanks k)) (opens-end (s .opens)) low-ends)

@@ -45,7 +45,8 @@ module _ {im : List ℕ} {a l : ℕ} {lost : List ℕ} {h : ℕ} {low : List Rec
   im-is : im ≡ lay low free ++ (q ++ rest)
   unfolding old-head rest
   im-is =
-      s .is ∙ ap (λ (l : List ℕ). lay low (free ++ l)) (ap (λ (l : List ℕ). lost ++ l) (lay-is (x ∷ []) (lay (y ∷ ys) (end-bytes end))) ∙ sym (append-assoc lost (onto x []) (lay (y ∷ ys) (end-bytes end))))
+      s .is ∙ ap (λ (l : List ℕ). lay low (free ++ l)) (ap (λ (l : List ℕ). lost ++ l) (lay-is (x ∷ []) (lay (y ∷ ys) (end-bytes end))) ∙ sym
+      (append-assoc lost (onto x []) (lay (y ∷ ys) (end-bytes end))))
       ∙ sym (lay-past low free ((lost ++ onto x []) ++ lay (y ∷ ys) (end-bytes end)))
 
   quiet-q : Quiet (512 * k + r) (drop 4096 q)
@@ -56,7 +57,8 @@ module _ {im : List ℕ} {a l : ℕ} {lost : List ℕ} {h : ℕ} {low : List Rec
 
   -- after at least one erase: the head is Y
   pub turned-m3 : (i : ℕ) → i ≤ k →
-      Turned (run im (take (suc i) (erases (4096 * a) (suc k)))) (a + suc k) r (drop (4096 * suc k) (old-head lost x)) (h + rsize x) low seg-none (f + 512 * suc k) (free ++ half-erased (suc i) (suc k) (old-head lost x)) (y ∷ ys) end
+      Turned (run im (take (suc i) (erases (4096 * a) (suc k)))) (a + suc k) r (drop (4096 * suc k) (old-head lost x)) (h + rsize x) low seg-none (f + 512 * suc k)
+      (free ++ half-erased (suc i) (suc k) (old-head lost x)) (y ∷ ys) end
   unfolding rest
   turned-m3 i e =
       let D : List ℕ = half-erased (suc i) (suc k) q in

@@ -136,7 +136,17 @@ module _ {im : List ℕ} {a l : ℕ} {lost : List ℕ} {h : ℕ} {low : List Rec
   unfolding high-front
   high-front-length xs =
       length-lay low (seg-onto seg (free ++ (lost ++ lay xs [])))
-      ∙ omega (arith, length-seg seg (free ++ (lost ++ lay xs [])), length-append free (lost ++ lay xs []), length-append lost (lay xs []), length-lay xs [], s .free-length, s .lost-length, s .below, s .at)
+      ∙ omega (
+        arith,
+        length-seg seg (free ++ (lost ++ lay xs [])),
+        length-append free (lost ++ lay xs []),
+        length-append lost (lay xs []),
+        length-lay xs [],
+        s .free-length,
+        s .lost-length,
+        s .below,
+        s .at,
+      )
 
   -- a record from the head on may be replaced
   pub high-inside : {xs zs : List Entry} {e : Entry} → Among h (x ∷ ys) xs e zs → Inside im h (sizes low) true xs e (zs ++ entries-of 0 low) seg [] free
@@ -152,7 +162,8 @@ module _ {im : List ℕ} {a l : ℕ} {lost : List ℕ} {h : ℕ} {low : List Rec
         swap = λ r z fine w.
             high-laid (q .before) r (q .after)
             (with-high (high-front (q .before) ++ onto r (lay (q .after) (end-bytes end))) s
-            (high-front-is (q .before) (lay (r ∷ q .after) (end-bytes end)) ∙ ap (λ (l : List ℕ). lay low (seg-onto seg (free ++ (lost ++ l)))) (sym (lay-append (q .before) (r ∷ q .after) (end-bytes end))))
+            (high-front-is (q .before) (lay (r ∷ q .after) (end-bytes end)) ∙ ap (λ (l : List ℕ). lay low (seg-onto seg (free ++ (lost ++ l))))
+            (sym (lay-append (q .before) (r ∷ q .after) (end-bytes end))))
             (fine-with q r z (s .fine-high) fine))
             (sym (append-assoc xs (record { at = e .at; it = r } ∷ zs) (entries-of 0 low)) ∙ ap (λ (l : List Entry). l ++ entries-of 0 low) (entries-with q r z));
       }

@@ -79,8 +79,11 @@ void-cut (seg-torn c x y z w t b m) s (suc (suc (suc (suc (suc zero))))) h = (se
 void-cut (seg-torn c x y z w t b m) s (suc (suc (suc (suc (suc (suc zero)))))) h = (seg-torn 90 0 0 0 0 0 begun-5a begun-end, refl, refl)
 void-cut (seg-torn c x y z w t b m) s (suc (suc (suc (suc (suc (suc (suc j))))))) h = absurd (omega arith)
 void-cut (seg-cut d n f) s zero h = (seg-cut d n f, refl, refl)
-void-cut (seg-cut d n f) s (suc zero) h =
-    (seg-held n (blanks d) (record { short = f .short; plain = f .plain; small = rw (length-replicate {A = ℕ} d 255) (f .small) }), end-name d n s, ap (size-of (length n)) (length-replicate {A = ℕ} d 255))
+void-cut (seg-cut d n f) s (suc zero) h = (
+  seg-held n (blanks d) (record { short = f .short; plain = f .plain; small = rw (length-replicate {A = ℕ} d 255) (f .small) }),
+  end-name d n s,
+  ap (size-of (length n)) (length-replicate {A = ℕ} d 255),
+)
 void-cut (seg-cut d n f) s (suc (suc j)) h = absurd (omega arith)
 void-cut (seg-held n c f) s zero h = (seg-held n c f, refl, refl)
 void-cut (seg-held n c f) s (suc j) h = absurd (omega arith)

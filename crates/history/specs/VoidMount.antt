@@ -121,7 +121,8 @@ module _ {l : Ledger} {im : Image} {h S T : ℕ} (B F : ℕ) {t u : Bool} {es : 
   unfolding rest
   left-good =
       ap good-length
-      (length-append (H .pre) (onto (v .rec) rest) ∙ ap (λ (n : ℕ). length (H .pre) + n) (length-lay (v .rec ∷ []) rest ∙ ap (λ (n : ℕ). n + length rest) (add-zero (rsize (v .rec)) ∙ v .size) ∙ sym (length-seg g rest))
+      (length-append (H .pre) (onto (v .rec) rest) ∙ ap (λ (n : ℕ). length (H .pre) + n)
+      (length-lay (v .rec ∷ []) rest ∙ ap (λ (n : ℕ). n + length rest) (add-zero (rsize (v .rec)) ∙ v .size) ∙ sym (length-seg g rest))
       ∙ sym (length-append (H .pre) (seg-onto g rest)) ∙ ap length (sym (H .is)))
       ∙ good
 

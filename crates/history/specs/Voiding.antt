@@ -89,7 +89,8 @@ voids (seg-cut d n f) S k =
       entries = refl;
       steps = λ pre s e.
           ap (λ (m : List Step). m ++ (program (S + 2) 0 ∷ []))
-          (missing-yes (pre ++ seg-onto (seg-cut d n f) s) (S + (8 + length n)) (byte-of pre (seg-onto (seg-cut d n f) s) S (8 + length n) e ∙ byte-behind d 255 n (blanks (pad (length n + 1)) ++ (blanks (up8 d) ++ s)) 254));
+          (missing-yes (pre ++ seg-onto (seg-cut d n f) s) (S + (8 + length n)) (byte-of pre (seg-onto (seg-cut d n f) s) S (8 + length n) e ∙ byte-behind d 255 n
+          (blanks (pad (length n + 1)) ++ (blanks (up8 d) ++ s)) 254));
       some = some-behind [] _ _;
       big = omega arith;
       sound = λ s. ((omega (arith, length-append n (255 ∷ (blanks (pad (length n + 1)) ++ (blanks (up8 d) ++ s)))), refl), ((omega (arith, length-set (begun d n s) (8 + length n) 0), refl), tt));
