@@ -30,6 +30,7 @@ pub record Refuses (p : Answer Plan) : Type 0 where
 
 -- ---- put
 
+-- a put: refused, or carried out on a rested image with room for it
 pub data Puts (l : Ledger) (im : Image) (n c : List ℕ) : Type 0 where
   put-no : Refuses (put-plan n c im) → Puts l im n c
   put-yes :
@@ -64,6 +65,7 @@ room-fits r s ss e = go (fits (r .place) s) refl
     go true k = k
     go false k = let z : false ≡ true = sym (room-no-fit r s ss k) ∙ e in cc
 
+-- every put is one of these
 pub puts-of : (l : Ledger) (im : Image) (n c : List ℕ) → Inv l im → Puts l im n c
 puts-of l im n c i = go (name-ok n) refl (settling l im i)
   where
@@ -96,6 +98,7 @@ good-file : (n : List ℕ) (f : Entry → Plan) (im : Image) (a : Answer Reading
 unfolding file-plan
 good-file n f im a e g s = rw (file-plan, g, e) (ap (λ (x : Answer Reading). onward x (file-of n f)) s)
 
+-- every call on the file of a name is one of these
 pub finds-of : (l : Ledger) (im : Image) (n : List ℕ) (f : Entry → Plan) → Inv l im → Finds l im n f
 finds-of l im n f i = go (name-ok n) refl (settling l im i)
   where
@@ -118,10 +121,12 @@ sweep-by : (im : Image) (r : Reading) (b : Bool) → no-room r (r .entries) ≡ 
 unfolding sweep-of
 sweep-by im r b e = ap (λ (b : Bool). checked (not b) 28 (give (sweeping (sweep-moves im r)))) e
 
+-- a sweep: refused, or carried out on a rested image
 pub data Swept (l : Ledger) (im : Image) : Type 0 where
   sweep-no : Refuses (sweep-plan im) → Swept l im
   sweep-yes : (r : Reading) → Rested l im r → sweep-plan im ≡ give (sweeping (sweep-moves im r)) → Swept l im
 
+-- every sweep is one of these
 pub swept-of : (l : Ledger) (im : Image) → Inv l im → Swept l im
 swept-of l im i = go (settling l im i)
   where
@@ -135,7 +140,7 @@ swept-of l im i = go (settling l im i)
 
 -- ---- get and list have no steps
 
-abbrev pub Stepless : Answer Plan → Type 0
+abbrev Stepless : Answer Plan → Type 0
 Stepless p = steps-of p ≡ []
 
 found-none : (f : Entry → Plan) (o : Option Entry) → ((e : Entry) → f e .steps ≡ []) → Stepless (found f o)
@@ -150,12 +155,14 @@ onward-none : (a : Answer Reading) (f : Reading → Answer Plan) → ((r : Readi
 onward-none (refuse n) f h = refl
 onward-none (give r) f h = h r
 
+-- get has no step
 pub get-none : (n : List ℕ) (im : Image) → Stepless (get-plan n im)
 unfolding get-plan file-plan
 get-none n im =
     checked-none (good-length (length im) && name-ok n) 22 (onward (settled-reading im) (file-of n getting))
     (onward-none (settled-reading im) (file-of n getting) (λ r. found-none getting (file-named n (r .entries)) (λ e. refl)))
 
+-- list has no step
 pub list-none : (i : ℕ) (im : Image) → Stepless (list-plan i im)
 unfolding list-plan
 list-none i im =

@@ -1,4 +1,4 @@
--- Step (c) of a move: the marks in X's data are cleared, word by word. Cut anywhere the data keeps its place and length; at the end it has no mark.
+-- Step (c) of a move: the marks in X's data are cleared, word by word; at the end the data has its place and length, and no mark.
 use Prim.Native.Nat.{ℕ, zero, suc, _+_, _*_, _≤_, _<_}
 use native.Mathlib.Omega.{arith}
 use native.Mathlib.Nat.{not-suc-le-zero}
@@ -6,7 +6,7 @@ use mathlib.Core.Path.{_≡_, refl, sym, ap, ap₂, _∙_, subst}
 use mathlib.Core.Bool.{Bool, true, false, _||_, and-false}
 use mathlib.Core.List.{List, [], _∷_, _++_, append-assoc}
 use lib.ListN.{length, take, drop, set, length-append, length-drop, length-set, take-append-drop, drop-of-length-le}
-use lib.Seq.{length-take-le, set-append-left, drop-at, take-nil, drop-set-lt}
+use lib.Seq.{length-take-le, set-append-left, drop-at, drop-set-lt}
 use lib.Dec.{ltb}
 use borrow.Author.Tests.{ltb-true, ltb-false}
 use Rattle.spec.specs.Step.{Step, program, run}
@@ -15,6 +15,7 @@ use Rattle.spec.specs.Move.{mark-here, mark-steps, clean-steps}
 use Rattle.history.specs.Walk.{Quiet, mark-append}
 use Rattle.history.specs.Quiet.{mark-second, calm-quiet}
 use Rattle.history.specs.Steps.{set-past}
+use Rattle.history.specs.Lists.{not-both}
 
 clean-nil : (k a : ℕ) → clean-steps k a [] ≡ []
 unfolding clean-steps is-high is-start
@@ -35,73 +36,14 @@ clean-miss : (k a : ℕ) (s : List ℕ) → mark-here s ≡ false → clean-step
 unfolding clean-steps
 clean-miss k a s e = ap (λ (ss : List Step). ss ++ clean-steps k (a + 8) (drop 8 s)) (mark-miss a s e)
 
--- a mark needs two bytes
-not-both : (b : Bool) → b ≡ false → b ≡ true → ⊥
-not-both b p q = let z : _≡_ {A = ℕ} 0 1 = cc in omega arith
-
-mark-long : (s : List ℕ) → mark-here s ≡ true → 2 ≤ length s
+pub mark-long : (s : List ℕ) → mark-here s ≡ true → 2 ≤ length s
 unfolding is-high
 mark-long [] e = absurd (not-both (mark-here []) (and-false (is-start 0 || is-clean 0 || is-record 0)) e)
 mark-long (x ∷ []) e = absurd (not-both (mark-here (x ∷ [])) (and-false (is-start x || is-clean x || is-record x)) e)
 mark-long (x ∷ y ∷ s) e = omega arith
 
--- data of the same length at the same place
-pub record Cleaning (p s q l : List ℕ) : Type 0 where
-  pub now : List ℕ
-  pub is : l ≡ p ++ (now ++ q)
-  pub same-length : length now ≡ length s
-
 set-in : (p s q : List ℕ) (a : ℕ) → length p ≡ a → 2 ≤ length s → set (p ++ (s ++ q)) (a + 1) 0 ≡ p ++ (set s 1 0 ++ q)
 set-in p s q a e l = ap (λ (n : ℕ). set (p ++ (s ++ q)) (n + 1) 0) (sym e) ∙ set-past p (s ++ q) 1 0 ∙ ap (λ (m : List ℕ). p ++ m) (set-append-left s q 1 0 l)
-
--- the first word done, the rest from there on
-further : (p s q l u v : List ℕ) → s ≡ u ++ v → (w : List ℕ) → length w ≡ length u → Cleaning (p ++ w) v q l → Cleaning p s q l
-further p s q l u v e w h c =
-    record {
-      now = w ++ c .now;
-      is = c .is ∙ append-assoc p w (c .now ++ q) ∙ ap (λ (m : List ℕ). p ++ m) (sym (append-assoc w (c .now) q));
-      same-length = length-append w (c .now) ∙ ap₂ _+_ h (c .same-length) ∙ sym (length-append u v) ∙ ap length (sym e);
-    }
-
-pub clean-cut : (k a : ℕ) (p s q : List ℕ) → length p ≡ a → (j : ℕ) → Cleaning p s q (run (p ++ (s ++ q)) (take j (clean-steps k a s)))
-unfolding clean-steps
-clean-cut zero a p s q e zero = record { now = s; is = refl; same-length = refl }
-clean-cut zero a p s q e (suc j) = record { now = s; is = refl; same-length = refl }
-clean-cut (suc k) a p s q e j =
-    go (mark-here s) (ltb (length s) 8) j refl refl (λ w i m. clean-cut k (a + 8) (p ++ w) (drop 8 s) q (length-append p w ∙ omega arith) m)
-  where
-    none-left : (i : length s < 8) → (n : ℕ) → clean-steps n (a + 8) (drop 8 s) ≡ []
-    none-left i n = ap (clean-steps n (a + 8)) (drop-of-length-le s {i = 8} (omega arith)) ∙ clean-nil n (a + 8)
-
-    go : (b c : Bool) (j : ℕ) → mark-here s ≡ b → ltb (length s) 8 ≡ c →
-        ((w : List ℕ) → length w ≡ 8 → (m : ℕ) → Cleaning (p ++ w) (drop 8 s) q (run ((p ++ w) ++ (drop 8 s ++ q)) (take m (clean-steps k (a + 8) (drop 8 s))))) →
-        Cleaning p s q (run (p ++ (s ++ q)) (take j (clean-steps (suc k) a s)))
-    go b c zero x y f = record { now = s; is = refl; same-length = refl }
-    go true true (suc j) x y f =
-        let i : length s < 8 = ltb-true (length s) 8 y in
-        subst (λ (ss : List Step). Cleaning p s q (run (p ++ (s ++ q)) (take (suc j) ss))) (sym (clean-hit k a s x ∙ ap (λ (m : List Step). program (a + 1) 0 ∷ m) (none-left i k)))
-        (record { now = set s 1 0; is = ap (run (set (p ++ (s ++ q)) (a + 1) 0)) (take-nil j) ∙ set-in p s q a e (mark-long s x); same-length = length-set s 1 0 })
-    go true false (suc j) x y f =
-        let i : 8 ≤ length s = ltb-false (length s) 8 y in
-        let U : List ℕ = take 8 (set s 1 0) in
-        let lu : length U ≡ 8 = length-take-le 8 (set s 1 0) (omega (arith, length-set s 1 0)) in
-        let m : set s 1 0 ≡ U ++ drop 8 s = sym (take-append-drop 8 (set s 1 0)) ∙ ap (λ (l : List ℕ). U ++ l) (drop-set-lt 8 s 1 0 (omega arith)) in
-        let n : set (p ++ (s ++ q)) (a + 1) 0 ≡ (p ++ U) ++ (drop 8 s ++ q) =
-        set-in p s q a e (mark-long s x) ∙ ap (λ (l : List ℕ). p ++ (l ++ q)) m ∙ ap (λ (l : List ℕ). p ++ l) (append-assoc U (drop 8 s) q) ∙ sym (append-assoc p U (drop 8 s ++ q)) in
-        subst (λ (ss : List Step). Cleaning p s q (run (p ++ (s ++ q)) (take (suc j) ss))) (sym (clean-hit k a s x))
-        (further p s q _ (take 8 s) (drop 8 s) (sym (take-append-drop 8 s)) U (lu ∙ sym (length-take-le 8 s i))
-        (subst (λ (l : List ℕ). Cleaning (p ++ U) (drop 8 s) q (run l (take j (clean-steps k (a + 8) (drop 8 s))))) (sym n) (f U lu j)))
-    go false true (suc j) x y f =
-        let i : length s < 8 = ltb-true (length s) 8 y in
-        subst (λ (ss : List Step). Cleaning p s q (run (p ++ (s ++ q)) (take (suc j) ss))) (sym (clean-miss k a s x ∙ none-left i k)) (record { now = s; is = refl; same-length = refl })
-    go false false (suc j) x y f =
-        let i : 8 ≤ length s = ltb-false (length s) 8 y in
-        let lu : length (take 8 s) ≡ 8 = length-take-le 8 s i in
-        let n : p ++ (s ++ q) ≡ (p ++ take 8 s) ++ (drop 8 s ++ q) =
-        ap (λ (l : List ℕ). p ++ (l ++ q)) (sym (take-append-drop 8 s)) ∙ ap (λ (l : List ℕ). p ++ l) (append-assoc (take 8 s) (drop 8 s) q) ∙ sym (append-assoc p (take 8 s) (drop 8 s ++ q)) in
-        subst (λ (ss : List Step). Cleaning p s q (run (p ++ (s ++ q)) (take (suc j) ss))) (sym (clean-miss k a s x))
-        (further p s q _ (take 8 s) (drop 8 s) (sym (take-append-drop 8 s)) (take 8 s) refl
-        (subst (λ (l : List ℕ). Cleaning (p ++ take 8 s) (drop 8 s) q (run l (take (suc j) (clean-steps k (a + 8) (drop 8 s))))) (sym n) (f (take 8 s) lu (suc j))))
 
 -- all of (c): no mark is left
 pub record Clean-now (k : ℕ) (p s q l : List ℕ) : Type 0 where
@@ -131,6 +73,7 @@ mark-set (x ∷ y ∷ s) h = mark-second x s
 mark-take : (s : List ℕ) → 8 ≤ length s → mark-here (take 8 s) ≡ mark-here s
 mark-take s h = sym (mark-append (take 8 s) (drop 8 s) (omega (arith, length-take-le 8 s h))) ∙ ap mark-here (take-append-drop 8 s)
 
+-- all of (c)
 pub clean-done : (k a : ℕ) (p s q : List ℕ) → length p ≡ a → length s ≤ 8 * k → Clean-now k p s q (run (p ++ (s ++ q)) (clean-steps k a s))
 unfolding clean-steps
 clean-done zero a p s q e l = record { now = s; is = refl; same-length = refl; quiet = tt }
@@ -163,7 +106,8 @@ clean-done (suc k) a p s q e l =
         (subst (λ (l : List ℕ). Clean-now k (p ++ U) (drop 8 s) q (run l (clean-steps k (a + 8) (drop 8 s)))) (sym n) (f U lu)))
     go false true x y f =
         let i : length s < 8 = ltb-true (length s) 8 y in
-        subst (λ (ss : List Step). Clean-now (suc k) p s q (run (p ++ (s ++ q)) ss)) (sym (clean-miss k a s x ∙ none-left i k)) (record { now = s; is = refl; same-length = refl; quiet = short-quiet s i x })
+        subst (λ (ss : List Step). Clean-now (suc k) p s q (run (p ++ (s ++ q)) ss)) (sym (clean-miss k a s x ∙ none-left i k))
+        (record { now = s; is = refl; same-length = refl; quiet = short-quiet s i x })
     go false false x y f =
         let i : 8 ≤ length s = ltb-false (length s) 8 y in
         let lu : length (take 8 s) ≡ 8 = length-take-le 8 s i in

@@ -5,7 +5,6 @@ use mathlib.Core.Path.{_≡_, refl, sym, ap, _∙_, subst, subst₂}
 use mathlib.Core.Bool.{Bool, true, false}
 use mathlib.Core.List.{List, [], _∷_, _++_, map}
 use lib.ListN.{length, take, set, length-set}
-use lib.Seq.{take-all}
 use Rattle.spec.specs.Step.{Image, Step, program, erase, run}
 use Rattle.spec.specs.Basics.{Each}
 use Rattle.spec.specs.Geometry.{good-length, floor}
@@ -20,7 +19,7 @@ use Rattle.history.specs.Seg.{seg-none}
 use Rattle.history.specs.StraightErase.{Cleaned}
 use Rattle.history.specs.StraightEdit.{relow}
 use Rattle.history.specs.Steps.{run-append}
-use Rattle.history.specs.Erase.{erases}
+use Rattle.history.specs.Erase.{erases, length-erases, take-erases}
 use Rattle.history.specs.Laid.{Laid, Tail, low-high}
 use Rattle.history.specs.Safe.{Safe, safe-append, safe-from, safe-map, safe-end}
 use Rattle.history.specs.Store.{alive, Unmarked}
@@ -30,7 +29,7 @@ use Rattle.history.specs.OkLaws.{ok-same, ok-behead}
 use Rattle.history.specs.Vacant.{Here, tail-here, tail-along, rested-of, first-is, relow-alive, vacant-inv, bare-safe, bare-rested, rested-inv}
 use Rattle.history.specs.LaidClean.{anew, Swept, sweep-data}
 use Rattle.history.specs.LaidForget.{forget-laid}
-use Rattle.history.specs.LaidErase.{Leaves, near, far, length-erases, erases-length, erases-sound, leaves}
+use Rattle.history.specs.LaidErase.{Leaves, near, far, erases-length, erases-sound, leaves}
 use Rattle.history.specs.LaidMend.{Vacates, Repaired, repair-laid}
 
 -- steps after which the image is rested, its head being h
@@ -39,7 +38,7 @@ pub record Rests (l : Ledger) (im : Image) (ss : List Step) (h : ℕ) : Type 0 w
   pub rested : Rested l (run im ss) (reading-from (run im ss) h)
 
 -- steps that keep the invariant, and such steps behind them
-pub rests-append : {l : Ledger} {im : Image} (ss ts : List Step) {h : ℕ} → Safe (Inv l) im ss → Rests l (run im ss) ts h → Rests l im (ss ++ ts) h
+rests-append : {l : Ledger} {im : Image} (ss ts : List Step) {h : ℕ} → Safe (Inv l) im ss → Rests l (run im ss) ts h → Rests l im (ss ++ ts) h
 rests-append {l} {im} ss ts {h} s r =
     record { safe = safe-append (Inv l) im ss ts s (r .safe); rested = subst (λ (i : Image). Rested l i (reading-from i h)) (sym (run-append im ss ts)) (r .rested) }
 
@@ -89,7 +88,7 @@ vacate-rests {l} {im} {h} {S} B F {t} {x} {y} {es} g d e a b c y₁ m o = go (le
         let cuts : (j : ℕ) → j ≤ length (erases A (suc k)) → Inv l (run im (take j (erases A (suc k)))) =
         λ j q. cut j (omega (arith, length-erases A (suc k))) (good-cut j) ok₁ in
         let g₁ : good-length (length (run im (erases A (suc k)))) ≡ true =
-        subst (λ (ss : List Step). good-length (length (run im ss)) ≡ true) (take-all (suc k) (erases A (suc k)) (omega (arith, length-erases A (suc k)))) (good-cut (suc k)) in
+        subst (λ (ss : List Step). good-length (length (run im ss)) ≡ true) (take-erases (suc k) (suc k) A (omega arith)) (good-cut (suc k)) in
         let r : Rested l (set (run im (erases A (suc k))) (y .at) 0) (reading-from (set (run im (erases A (suc k))) (y .at) 0) (y .at)) = bare-rested g₁ y₁ m ok₁ w in
         subst (λ (ss : List Step). Rests l im ss (y .at)) (sym (vacate-are x y A k (vacated (length im) x y) p))
         (rests-append (erases A (suc k)) (program (y .at) 0 ∷ []) (safe-from (Inv l) im (erases A (suc k)) cuts (erases-sound A (suc k) im z i))

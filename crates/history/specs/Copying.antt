@@ -25,11 +25,10 @@ use Rattle.history.specs.LaidRead.{laid-reads}
 use Rattle.history.specs.Safe.{Safe, safe-append, safe-end, safe-map}
 use Rattle.history.specs.Store.{alive}
 use Rattle.history.specs.Ledger.{as-file, Matches}
-use Rattle.history.specs.Lists.{keep-no}
+use Rattle.history.specs.Lists.{keep-no, some-behind}
 use Rattle.history.specs.OkLaws.{old-some, ok-perm, ok-again}
 use Rattle.history.specs.Kinds.{Ok, Kind, quiet, half, shadow, clean, both, vacated, Inv, Rested}
 use Rattle.history.specs.Puts.{Commits, put-commits}
-use Rattle.history.specs.Idle.{some-behind}
 use Rattle.history.specs.Vacant.{first-is}
 
 -- ---- the ledger in another order
@@ -37,22 +36,22 @@ use Rattle.history.specs.Vacant.{first-is}
 kind-perm : {k l : Ledger} → List·Permᴰ k l → (im : Image) → Kind im k → Kind im l
 kind-perm {k} {l} p im (quiet B F {es = es} d e s o) = quiet B F d e s (ok-perm es k l p o)
 kind-perm {k} {l} p im (half a m c j {h} {lost} {x} {ys} s b z st o) = half a m c j s b z st (ok-perm _ k l p o)
-kind-perm {k} {l} p im (shadow B F xs ys o d e s h b ok) = shadow B F xs ys o d e s h b (ok-perm (xs ++ ys) k l p ok)
+kind-perm {k} {l} p im (shadow B F xs ys o d e s h ok) = shadow B F xs ys o d e s h (ok-perm (xs ++ ys) k l p ok)
 kind-perm {k} {l} p im (clean B F {x = x} {y} {es} d e a b c m o) = clean B F d e a b c m (ok-perm (x ∷ y ∷ es) k l p o)
 kind-perm {k} {l} p im (both B F {x = x} {y} {es} d e a b c y0 f m o) = both B F d e a b c y0 f m (ok-perm (x ∷ y ∷ es) k l p o)
 kind-perm {k} {l} p im (vacated {x = x} {es} d e b a m o) = vacated d e b a m (ok-perm (x ∷ es) k l p o)
 
-pub inv-perm : {k l : Ledger} → List·Permᴰ k l → (im : Image) → Inv k im → Inv l im
+inv-perm : {k l : Ledger} → List·Permᴰ k l → (im : Image) → Inv k im → Inv l im
 inv-perm p im i = record { good = i .good; kind = kind-perm p im (i .kind) }
 
-pub rested-perm : {k l : Ledger} {im : Image} {r : Reading} → List·Permᴰ k l → Rested k im r → Rested l im r
+rested-perm : {k l : Ledger} {im : Image} {r : Reading} → List·Permᴰ k l → Rested k im r → Rested l im r
 rested-perm {k} {l} p q =
     record { good = q .good; h = q .h; S = q .S; B = q .B; F = q .F; t = q .t; es = q .es; laid = q .laid; tail = q .tail; starts = q .starts; ok = ok-perm (q .es) k l p (q .ok); is = q .is }
 
 -- ---- what put leaves
 
 -- as it is read from the head on
-pub head-read : {l : Ledger} {im : Image} {r : Reading} {h : ℕ} → Rested l im r → r .place .head ≡ h → r ≡ reading-from im h
+head-read : {l : Ledger} {im : Image} {r : Reading} {h : ℕ} → Rested l im r → r .place .head ≡ h → r ≡ reading-from im h
 head-read {l} {im} {r} {h} q e =
     let k : q .h ≡ h = sym (ap (λ (x : Reading). x .place .head) (q .is)) ∙ e in
     q .is ∙ sym (laid-reads (q .laid) (q .tail) ∙ ap (λ (fs : List Entry). read (length im) (q .h) (q .S) (q .t) fs Ending.Tail) (append-nil (q .es))) ∙ ap (reading-from im) k
@@ -72,7 +71,7 @@ pub record Dead-first (es : List Entry) : Type 0 where
   pub dead : alive x ≡ false
 
 -- a file is there, and not the first record
-pub dead-first : (x : Entry) (zs : List Entry) (f : File) (l : Ledger) → alive x ≡ false → Matches (x ∷ zs) (f ∷ l) → Dead-first (x ∷ zs)
+dead-first : (x : Entry) (zs : List Entry) (f : File) (l : Ledger) → alive x ≡ false → Matches (x ∷ zs) (f ∷ l) → Dead-first (x ∷ zs)
 dead-first x [] f l d m = absurd (let e : f ∷ l ≡ [] = none-left m (ap (map as-file) (keep-no alive x [] d)) in let z : _≡_ {A = ℕ} 0 1 = cc in omega arith)
 dead-first x (y ∷ zs) f l d m = record { x = x; y = y; rest = zs; is = refl; dead = d }
 
@@ -95,11 +94,13 @@ last-delete p x n c =
     )
 
 -- the first record of an image whose last step was that
-head-dead : {l : Ledger} {im : Image} {r : Reading} (q : Rested l im r) (h : ℕ) (before : Image) → q .h ≡ h → im ≡ set before (h + 2) 0 → (x : Rec) (rest : List Entry) → q .es ≡ record { at = q .h; it = x } ∷ rest →
+head-dead : {l : Ledger} {im : Image} {r : Reading} (q : Rested l im r) (h : ℕ) (before : Image) → q .h ≡ h → im ≡ set before (h + 2) 0 → (x : Rec) (rest : List Entry) →
+    q .es ≡ record { at = q .h; it = x } ∷ rest →
     alive (record { at = q .h; it = x }) ≡ false
 head-dead {l} {im} q h before e w x rest k =
     let f : Entry = record { at = q .h; it = x } in
-    let d : Laid im (q .h) (q .S) (q .t) (f ∷ rest) seg-none (blanks (q .B)) (blanks (q .F)) = subst (λ (fs : List Entry). Laid im (q .h) (q .S) (q .t) fs seg-none (blanks (q .B)) (blanks (q .F))) k (q .laid) in
+    let d : Laid im (q .h) (q .S) (q .t) (f ∷ rest) seg-none (blanks (q .B)) (blanks (q .F)) =
+    subst (λ (fs : List Entry). Laid im (q .h) (q .S) (q .t) fs seg-none (blanks (q .B)) (blanks (q .F))) k (q .laid) in
     dead-status f
     (sym (status-at [] rest f d) ∙ ap₂ (λ (i : Image) (a : ℕ). getD i (a + 2) 0) w e
     ∙ getD-set-same before (h + 2) 0 0 (omega (arith, entry-inside [] rest f d, ap length w, length-set before (h + 2) 0)))
@@ -126,6 +127,7 @@ module _ {l : Ledger} {im : Image} {r : Reading} (q : Rested l im r) (x : Entry)
   again : List·Permᴰ (with-file n c l) l
   again = ok-again [] es x l ok live
 
+  -- cut anywhere, the files are those of the ledger
   pub copy-safe : Safe (Inv l) im ss
   copy-safe =
       let k : Commits l (with-file n c l) im ss (length n + length c + 9 + one-if-fc (some x) + three-if (with-marker (r .place) (size-of (length n) (length c)))) (r .place .head) = commits in
@@ -136,6 +138,7 @@ module _ {l : Ledger} {im : Image} {r : Reading} (q : Rested l im r) (x : Entry)
         safe-map (Inv (with-file n c l)) (Inv l) (inv-perm again) (apply (run im (k .before)) (k .commit)) (k .behind) (k .safe-behind),
       ))
 
+  -- it has a step
   pub copy-some : ss ≡ [] → ⊥
   copy-some e = some-behind (last-delete (r .place) x n c .0) [] (program (x .at + 2) 0) (sym (last-delete (r .place) x n c .1) ∙ e)
 
@@ -159,6 +162,7 @@ module _ {l : Ledger} {im : Image} {r : Reading} (q : Rested l im r) (x : Entry)
           (dead-first f (w .1) (record { name = n; content = c }) (without n l) (head-dead (commits .rested) (x .at) (run im (last-delete (r .place) x n c .0)) same-head ends (w .0) (w .1) (w .2))
           (subst (λ (fs : List Entry). Matches fs (with-file n c l)) (w .2) (commits .rested .ok .matches)))
 
+  -- at the end: rested, and the head's record is dead
   pub copied : (p : Rested l (run im ss) (reading-from (run im ss) (r .place .head))) × Dead-first (p .es)
   unfolding rested-perm
   copied =

@@ -15,6 +15,7 @@ use Rattle.history.specs.Lay.{body, onto}
 use Rattle.history.specs.Walk.{Quiet}
 use Rattle.history.specs.Quiet.{blank-split, quiet-blanks, quiet-append, quiet-drop, quiet-take}
 
+-- the erases of k sectors from a on
 abbrev pub erases : ℕ → ℕ → List Step
 erases a zero = []
 erases a (suc j) = erase a ∷ erases (a + 4096) j
@@ -23,6 +24,7 @@ sector-more : (j : ℕ) → sector ++ blanks (4096 * j) ≡ blanks (4096 * suc j
 unfolding sector
 sector-more j = sym (blank-split 4096 (4096 * j) (4096 * suc j) (omega arith))
 
+-- a sector that is erased
 pub sector-is : sector ≡ blanks 4096
 unfolding sector
 sector-is = refl
@@ -31,6 +33,7 @@ pub length-sector : length sector ≡ 4096
 unfolding sector
 length-sector = refl
 
+-- one erase in the midst of the bytes
 pub erase-mid : (p q s : List ℕ) (a : ℕ) → length p ≡ a → length q ≡ 4096 → apply (p ++ (q ++ s)) (erase a) ≡ p ++ (sector ++ s)
 erase-mid p q s a e l = rw (take-at p (q ++ s) a e, drop-at p (q ++ s) a e, drop-at q s 4096 l)
 
@@ -57,23 +60,31 @@ sectors-more (suc n) zero a b e l = rw (sectors-by, lt-leb (a + 4096) b (omega a
 sectors-more zero (suc k) a b e l = absurd (not-suc-le-zero l)
 sectors-more (suc n) (suc k) a b e l = rw (sectors-by, le-leb (a + 4096) b (omega arith)) (ap (λ (m : List Step). erase a ∷ m) (sectors-more n k (a + 4096) b (omega arith) (omega arith)))
 
+-- from a to b, in sectors
 pub sectors-are : (k a b : ℕ) → a + 4096 * k ≡ b → map erase (sectors a b) ≡ erases a k
 sectors-are k a b e = sectors-more b k a b e (omega arith)
 
-take-erases : (i k a : ℕ) → i ≤ k → take i (erases a k) ≡ erases a i
+-- the first i of them
+pub take-erases : (i k a : ℕ) → i ≤ k → take i (erases a k) ≡ erases a i
 take-erases zero k a h = refl
 take-erases (suc i) zero a h = absurd (not-suc-le-zero h)
 take-erases (suc i) (suc k) a h = ap (λ (m : List Step). erase a ∷ m) (take-erases i k (a + 4096) (omega arith))
+
+pub length-erases : (a k : ℕ) → length (erases a k) ≡ k
+length-erases a zero = refl
+length-erases a (suc k) = ap suc (length-erases (a + 4096) k)
 
 -- k sectors of q, of which i are erased
 abbrev pub half-erased : ℕ → ℕ → List ℕ → List ℕ
 half-erased i k q = blanks (4096 * i) ++ take (4096 * (k - i)) (drop (4096 * i) q)
 
+-- the length stays
 pub half-erased-length : (i k : ℕ) (q : List ℕ) → i ≤ k → 4096 * k ≤ length q → length (half-erased i k q) ≡ 4096 * k
 half-erased-length i k q h l =
     length-append (blanks (4096 * i)) (take (4096 * (k - i)) (drop (4096 * i) q))
     ∙ ap₂ _+_ (length-replicate (4096 * i) 255) (length-take-le (4096 * (k - i)) (drop (4096 * i) q) (omega (arith, length-drop (4096 * i) q))) ∙ omega arith
 
+-- all k of them: FF
 pub all-erased : (k : ℕ) (q : List ℕ) → half-erased k k q ≡ blanks (4096 * k)
 all-erased k q =
     let z : 4096 * (k - k) ≡ 0 = omega arith in
@@ -101,9 +112,11 @@ module _ (k r : ℕ) (q : List ℕ) (long : length q ≡ 4096 * suc k + 8 * r) (
       subst (λ (n : ℕ). Quiet (512 * (k - i) + r) (drop n q)) d
       (rw (drop-drop (8 * (512 * i)) 4096 q) at (quiet-drop (512 * i) (512 * (k - i) + r) (drop 4096 q) (subst (λ (n : ℕ). Quiet n (drop 4096 q)) e quiet)))
 
+  -- what is left behind the sectors has no mark
   pub quiet-lost : Quiet r (drop (4096 * suc k) q)
   quiet-lost = let e : 512 * (k - k) + r ≡ r = omega arith in subst (λ (n : ℕ). Quiet n (drop (4096 * suc k) q)) e (later k (omega arith))
 
+  -- nor have the sectors, after the first erase
   pub half-erased-quiet : (i : ℕ) → i ≤ k → Quiet (512 * suc k) (half-erased (suc i) (suc k) q)
   half-erased-quiet i h =
       let d : List ℕ = drop (4096 * suc i) q in

@@ -1,7 +1,7 @@
 -- One erase in the free run of a vacant image leaves it vacant; so the erases of repair 1, cut anywhere.
 use Prim.Native.Nat.{ℕ, zero, suc, _+_, _-_, _*_, _/_, _%_, _≤_, _<_}
 use native.Mathlib.Omega.{arith}
-use native.Mathlib.Nat.{zero-add, not-suc-le-zero}
+use native.Mathlib.Nat.{zero-add}
 use mathlib.Core.Path.{_≡_, refl, sym, ap, _∙_, subst}
 use mathlib.Core.Bool.{Bool, true, false}
 use mathlib.Core.List.{List, [], _∷_, _++_, append-assoc, map}
@@ -18,21 +18,20 @@ use Rattle.spec.specs.Reading.{limit}
 use Rattle.spec.specs.Mount.{free-sectors, dirty, erase-steps}
 use Rattle.history.specs.Lay.{blanks, lay}
 use Rattle.history.specs.Walk.{Quiet}
-use Rattle.history.specs.Quiet.{quiet-blanks, quiet-append, quiet-drop, quiet-take}
-use Rattle.history.specs.Seg.{Seg, seg-none, seg-onto}
+use Rattle.history.specs.Quiet.{quiet-append, quiet-drop, quiet-take, quiet-ff}
+use Rattle.history.specs.Seg.{seg-none, seg-onto}
 use Rattle.history.specs.Erase.{erase-mid, length-sector, sector-is}
-use Rattle.history.specs.Lists.{keep-yes, keep-no, each-map}
+use Rattle.history.specs.Lists.{keep-yes, keep-no, each-map, each-append}
 use Rattle.history.specs.Safe.{Safe}
 use Rattle.history.specs.Laid.{Laid, laid-straight, laid-turned, Hole}
 use Rattle.history.specs.Kinds.{place}
-use Rattle.history.specs.LaidEdit.{laid-below, laid-head, laid-length, hole-of}
+use Rattle.history.specs.LaidEdit.{laid-below, laid-head, laid-length, hole-of, free-quiet}
 use Rattle.history.specs.Vacant.{laid-eight, take-blanks, good-mod, Vacant, vacant-long}
-use Rattle.history.specs.LaidErase.{erase-length, open-ff}
+use Rattle.history.specs.LaidErase.{erase-length}
+use Rattle.history.specs.StraightErase.{second-ff}
+use Rattle.history.specs.Turned.{open-ff}
 
 -- ---- one sector of a part without marks
-
-pub quiet-ff : (n : ℕ) (s : List ℕ) → s ≡ blanks (8 * n) → Quiet n s
-quiet-ff n s e = subst (λ (l : List ℕ). Quiet n l) (sym e) (quiet-blanks n)
 
 quiet-swap : (j n r : ℕ) (u q w s : List ℕ) → length u ≡ 8 * j → length q ≡ 8 * n → length s ≡ 8 * n → Quiet n s → Quiet (j + (n + r)) (u ++ (q ++ w)) → Quiet (j + (n + r)) (u ++ (s ++ w))
 quiet-swap j n r u q w s lu lq ls qs h =
@@ -69,7 +68,8 @@ module _ {s : List ℕ} {j : ℕ} (c : Cut s j) where
 
   blanked-length : length blanked ≡ length s
   blanked-length =
-      length-append (c .u) (sector ++ c .w) ∙ ap (λ (n : ℕ). length (c .u) + n) (length-append sector (c .w) ∙ ap (λ (n : ℕ). n + length (c .w)) (length-sector ∙ sym (c .lq)) ∙ sym (length-append (c .q) (c .w)))
+      length-append (c .u) (sector ++ c .w)
+      ∙ ap (λ (n : ℕ). length (c .u) + n) (length-append sector (c .w) ∙ ap (λ (n : ℕ). n + length (c .w)) (length-sector ∙ sym (c .lq)) ∙ sym (length-append (c .q) (c .w)))
       ∙ sym (length-append (c .u) (c .q ++ c .w)) ∙ ap length (sym (c .is))
 
   blanked-quiet : (f : ℕ) → length s ≡ 8 * f → j % 8 ≡ 0 → Quiet f s → Quiet f blanked
@@ -97,26 +97,19 @@ data Erasable (h S lim : ℕ) (t : Bool) (z : ℕ) : Type 0 where
   low-sector : t ≡ false → z % 4096 ≡ 0 → z + 4096 ≤ floor h → Erasable h S lim t z
   high-sector : z % 4096 ≡ 0 → ceiling S ≤ z → z + 4096 ≤ lim → Erasable h S lim t z
 
+-- a vacant image on the way: its length and the end of its free run stay
 pub record Mid (N h S lim : ℕ) (t : Bool) (es : List Entry) (im : Image) : Type 0 where
   pub len : length im ≡ N
   pub vac : Vacant h S t es im
   pub ends : S + length (vac .free) ≡ lim
-
-pub free-quiet : {im : Image} {h S : ℕ} {t : Bool} {es : List Entry} {seg : Seg} {below free : List ℕ} → Laid im h S t es seg below free → (f : ℕ) × (length free ≡ 8 * f) × Quiet f free
-free-quiet (laid-straight f s t₁ S₁ e₁ lf qf) = (f, lf, qf)
-free-quiet (laid-turned {f = f} s t₁ S₁ e₁ b) = (f, s .free-length, s .free-quiet)
-
-second-ff : (n : ℕ) (p q : List ℕ) → 2 ≤ n → getD ((blanks n ++ p) ++ q) 1 0 ≡ 90 → ⊥
-second-ff zero p q h e = not-suc-le-zero h
-second-ff (suc zero) p q h e = omega arith
-second-ff (suc (suc n)) p q h e = omega arith
 
 front-blanked : (u q w lost : List ℕ) (j : ℕ) → length u ≡ j → j % 4096 ≡ 0 → (getD ((u ++ (q ++ w)) ++ lost) 1 0 ≡ 90 → ⊥) → getD ((u ++ (sector ++ w)) ++ lost) 1 0 ≡ 90 → ⊥
 front-blanked [] q w lost j e z f = subst (λ (s : List ℕ). getD ((s ++ w) ++ lost) 1 0 ≡ 90 → ⊥) (sym sector-is) (second-ff 4096 w lost (omega arith))
 front-blanked (x ∷ []) q w lost j e z f = absurd (omega arith)
 front-blanked (x ∷ y ∷ u) q w lost j e z f = f
 
-low-erase : {im : Image} {h S z : ℕ} {es : List Entry} {below free : List ℕ} → Laid im h S false es seg-none below free → (c : Cut below z) → z % 4096 ≡ 0 → Laid (apply im (erase z)) h S false es seg-none (blanked c) free
+low-erase : {im : Image} {h S z : ℕ} {es : List Entry} {below free : List ℕ} → Laid im h S false es seg-none below free → (c : Cut below z) → z % 4096 ≡ 0 →
+    Laid (apply im (erase z)) h S false es seg-none (blanked c) free
 low-erase {im} {h} {S} {z} {es} {below} {free} (laid-straight {a} {l} {lost} {x} {ys} f s t₁ S₁ e₁ lf qf) c m =
     laid-straight {x = x} {ys = ys} f
     (record {
@@ -177,7 +170,8 @@ mid-erase {N} {h} {S} {lim} {t} {es} {im} {z} d (high-sector m g l) =
         m = v .m;
         laid = subst (λ (x : Image). Laid x h S t es seg-none (v .below) (blanked c)) (sym i)
             (k .plug seg-none (f .0) (blanked c) Next.Clear (e ∙ f .1) (blanked-quiet c (f .0) (f .1) (omega (arith, laid-eight (v .laid))) (f .2))
-            (open-ff (v .m) (drop (v .m) (blanked c)) (blanked c) (sym (take-append-drop (v .m) (blanked c)) ∙ ap (λ (x : List ℕ). x ++ drop (v .m) (blanked c)) own) (vacant-long v)) (ap (λ (n : ℕ). 0 + n) e));
+            (open-ff (v .m) (drop (v .m) (blanked c)) (blanked c) (sym (take-append-drop (v .m) (blanked c)) ∙ ap (λ (x : List ℕ). x ++ drop (v .m) (blanked c)) own) (vacant-long v))
+            (ap (λ (n : ℕ). 0 + n) e));
         own = v .own;
         whole = omega (arith, v .whole);
         ff = own;
@@ -199,10 +193,6 @@ sectors-between (suc n) a b = go (leb (a + 4096) b) refl (sectors-between n (a +
     go true e i = rw (sectors-by, e) ((omega arith, leb-true (a + 4096) b e, refl), each-map (sectors-by n (a + 4096) b) (λ z p. (omega (arith, p .0), p .1, p .2 ∙ omega arith)) i)
     go false e i = rw (sectors-by, e) tt
 
-each-join : {A : Type 0} (P : A → Type 0) (xs ys : List A) → Each P xs → Each P ys → Each P (xs ++ ys)
-each-join P [] ys p q = q
-each-join P (x ∷ xs) ys p q = (p .0, each-join P xs ys (p .1) q)
-
 each-keep : {A : Type 0} (P : A → Type 0) (f : A → Bool) (xs : List A) → Each P xs → Each P (keep f xs)
 each-keep P f [] p = tt
 each-keep P f (x ∷ xs) p = go (f x) refl (each-keep P f xs (p .1))
@@ -216,7 +206,7 @@ unfolding free-sectors Between
 free-erasable im h S true n =
     each-map (sectors (ceiling S) (floor h)) (λ z p. high-sector (p .2 ∙ omega arith) (p .0) (p .1)) (sectors-between (floor h) (ceiling S) (floor h))
 free-erasable im h S false n =
-    each-join (Erasable h S (length im) false) (sectors 0 (floor h)) (sectors (ceiling S) (length im))
+    each-append (Erasable h S (length im) false) (sectors 0 (floor h)) (sectors (ceiling S) (length im))
     (each-map (sectors 0 (floor h)) (λ z p. low-sector refl (p .2 ∙ omega arith) (p .1)) (sectors-between (floor h) 0 (floor h)))
     (each-map (sectors (ceiling S) (length im)) (λ z p. high-sector (p .2 ∙ omega arith) (p .0) (p .1)) (sectors-between (length im) (ceiling S) (length im)))
 
@@ -228,6 +218,7 @@ mid-safe {N} {h} {S} {lim} {t} {es} (z ∷ zs) im e d = (d, sound (e .0), mid-sa
     sound (low-sector f m l) = (m, omega (arith, laid-head (d .vac .laid)))
     sound (high-sector m g l) = (m, omega (arith, laid-length (d .vac .laid), d .ends))
 
+-- erases in the free run, cut anywhere
 pub erase-safe : {im : Image} {h S : ℕ} {t : Bool} {es : List Entry} → good-length (length im) ≡ true → Mid (length im) h S (limit (place im h S t)) t es im →
     Safe (Mid (length im) h S (limit (place im h S t)) t es) im (erase-steps im (place im h S t))
 unfolding erase-steps

@@ -22,11 +22,10 @@ use Rattle.history.specs.Steps.{run-append}
 use Rattle.history.specs.Erase.{erase-run, sectors-are}
 use Rattle.history.specs.Straight.{Straight}
 use Rattle.history.specs.Laid.{laid-straight, tail-clear}
-use Rattle.history.specs.Carry.{carried-done, carried-cut}
-use Rattle.history.specs.Lists.{and-left}
-use Rattle.history.specs.PutSound.{and-right}
+use Rattle.history.specs.Lists.{and-left, and-right}
 use Rattle.history.specs.Store.{alive}
 use Rattle.history.specs.Kinds.{Ok, quiet, Inv}
+use Rattle.history.specs.Top.{carried-done, carried-cut}
 
 -- ---- the bytes
 
@@ -78,7 +77,8 @@ head-dead = refl
 
 fresh-ok : Ok (head ∷ []) []
 unfolding alive named
-fresh-ok = record { unique = (tt, tt); well-named = ((λ k. let z : false ≡ true = sym head-dead ∙ k in cc), tt); bytes = ((λ k. let z : false ≡ true = sym head-dead ∙ k in tt), tt); matches = List·Permᴰ·nil }
+fresh-ok =
+    record { unique = (tt, tt); well-named = ((λ k. let z : false ≡ true = sym head-dead ∙ k in cc), tt); bytes = ((λ k. let z : false ≡ true = sym head-dead ∙ k in tt), tt); matches = List·Permᴰ·nil }
 
 fresh-inv : (f : ℕ) → 1 ≤ f → good-length (16 + 8 * f) ≡ true → Inv [] (fresh f)
 fresh-inv f one g =
@@ -125,6 +125,7 @@ plan-is : (raw : Image) (b : Bool) → good-length (length raw) ≡ b → format
 unfolding format-plan
 plan-is raw b e = ap (λ (c : Bool). checked c 22 (give (doing (format-steps (length raw)) 0 0 0))) e
 
+-- the start of every history
 pub formatted : (raw : Image) (k : ℕ) → format raw k .numbers .answer ≡ 0 → Inv [] (format raw k .image)
 formatted raw k e = go (good-length (length raw)) refl
   where

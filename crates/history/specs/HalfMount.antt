@@ -1,11 +1,10 @@
 -- Mount on a wrap marker that was begun: it is finished, and the chain has turned.
-use Prim.Native.Nat.{ℕ, _+_, _-_, _*_, _≤_}
+use Prim.Native.Nat.{ℕ, _+_, _*_, _≤_}
 use native.Mathlib.Omega.{arith}
 use mathlib.Core.Path.{_≡_, refl, sym, ap, ap₂, _∙_, subst}
 use mathlib.Core.Bool.{true}
 use mathlib.Core.List.{List, [], _∷_, _++_, append-nil}
-use lib.ListN.{length, set, length-set, length-replicate}
-use Rattle.spec.specs.declared.Next.{Next}
+use lib.ListN.{length, set, length-set}
 use Rattle.spec.specs.declared.Ending.{Ending}
 use Rattle.spec.specs.Step.{Image, Step, program, run, moved}
 use Rattle.spec.specs.Basics.{Each}
@@ -18,23 +17,23 @@ use Rattle.spec.specs.Demand.{Steps-sound}
 use Rattle.spec.specs.History.{Ledger}
 use Rattle.history.specs.Lay.{blanks, sizes, entries-of, Fine, rsize}
 use Rattle.history.specs.Last.{Begun, begun-ff, begun-5a, torn-wrap}
-use Rattle.history.specs.Quiet.{blank-split}
 use Rattle.history.specs.Seg.{seg-none}
 use Rattle.history.specs.Straight.{Straight}
 use Rattle.history.specs.StraightEdit.{other, front-part, front-length, split-at, run-behind}
 use Rattle.history.specs.Turned.{Turned, marker}
-use Rattle.history.specs.Marker.{opens-blanks}
 use Rattle.history.specs.Whole.{torn-wrap-whole}
-use Rattle.history.specs.Laid.{laid-turned, tail-clear}
+use Rattle.history.specs.Laid.{laid-turned, clear-ff}
 use Rattle.history.specs.Safe.{sound-past}
 use Rattle.history.specs.Store.{calm-ruled, Finished}
 use Rattle.history.specs.Settled.{one-none, last-none}
 use Rattle.history.specs.Kinds.{Ok, Starts, half, Inv, Rested}
 use Rattle.history.specs.Closes.{Rests}
 use Rattle.history.specs.Rules.{calm-of, fine-finished}
-use Rattle.history.specs.Idle.{some-behind, Mends, mends-3, starts-clean, two-plain}
+use Rattle.history.specs.Idle.{Mends, mends-3, starts-clean, two-plain}
 use Rattle.history.specs.Vacant.{rested-of, rested-inv}
 use Rattle.history.specs.Entries.{entries-fine}
+use Rattle.history.specs.Lists.{some-behind}
+use Rattle.history.specs.Marker.{turned-gap}
 
 -- from its second byte on
 abbrev finish : List Step
@@ -44,7 +43,8 @@ finish-sound : {c : ℕ} (k : ℕ) → Begun c → Steps-sound (torn-wrap c k) f
 finish-sound k begun-ff = ((omega arith, refl), ((omega arith, refl), tt))
 finish-sound k begun-5a = ((omega arith, refl), ((omega arith, refl), tt))
 
-module _ {l : Ledger} {im : Image} (a m c k : ℕ) {h : ℕ} {lost : List ℕ} {x : Rec} {ys : List Rec} (s : Straight im a m (blanks (4096 * a)) lost h (x ∷ ys) seg-none (torn-wrap c k)) (b : Begun c) (z : 1 ≤ a)
+module _ {l : Ledger} {im : Image} (a m c k : ℕ) {h : ℕ} {lost : List ℕ} {x : Rec} {ys : List Rec} (s : Straight im a m (blanks (4096 * a)) lost h (x ∷ ys) seg-none (torn-wrap c k))
+    (b : Begun c) (z : 1 ≤ a)
     (st : Starts (entries-of h (x ∷ ys))) (ok : Ok (entries-of h (x ∷ ys)) l) (good : good-length (length im) ≡ true) where
   abbrev at : ℕ
   at = h + sizes (x ∷ ys)
@@ -69,35 +69,21 @@ module _ {l : Ledger} {im : Image} (a m c k : ℕ) {h : ℕ} {lost : List ℕ} {
 
   -- F0 written
   turned : Turned (run im (moved at finish)) a m lost h [] seg-none (512 * a) (blanks (4096 * a)) (x ∷ ys) (marker k)
-  turned =
-      record {
-        is = run-behind (x ∷ ys) [] (sym (append-nil (x ∷ ys))) s finish tt;
-        at = s .at;
-        some-below = z;
-        below = omega arith;
-        free-length = length-replicate {A = ℕ} (4096 * a) 255 ∙ omega arith;
-        free-quiet = s .gap-quiet;
-        opened = Next.Clear;
-        opens = opens-blanks (4096 * a) (omega arith);
-        lost-length = s .lost-length;
-        lost-small = s .lost-small;
-        lost-quiet = s .lost-quiet;
-        fine-low = tt;
-        walked = tt;
-        fine-high = s .fine;
-      }
+  turned = turned-gap s (run im (moved at finish)) (marker k) (run-behind (x ∷ ys) [] (sym (append-nil (x ∷ ys))) s finish tt) refl z
 
   rested : Rested l (run im (moved at finish)) (reading-from (run im (moved at finish)) h)
   rested =
       rested-of 0 (4096 * a) (ap good-length (length-set (set im (at + 1) 90) (at + 2) 240 ∙ length-set im (at + 1) 90) ∙ good)
-      (laid-turned turned refl refl (sym (append-nil es)) refl) (tail-clear (blanks (4096 * a - 8)) (blank-split 8 (4096 * a - 8) (4096 * a) (omega arith)) refl refl) st ok
+      (laid-turned turned refl refl (sym (append-nil es)) refl) (clear-ff (4096 * a) (omega arith)) st ok
 
 third : (w : Work) (a : ℕ) → Each Finished (w .reading .entries) → w .reading .ending ≡ Ending.TornWrap a → repair-3 w ≡ after w (moved a finish) (w .reading .place .head)
 unfolding repair-3
 third w a f e = ap₂ (λ (x : List Step) (y : Ending). after w (x ++ torn-wrap-steps y) (w .reading .place .head)) (last-none (w .image) (w .reading .entries) f) e
 
+-- the kind half: mount finishes the marker
 pub mends-half :
-    {l : Ledger} {im : Image} (a m c k : ℕ) {h : ℕ} {lost : List ℕ} {x : Rec} {ys : List Rec} → Inv l im → Straight im a m (blanks (4096 * a)) lost h (x ∷ ys) seg-none (torn-wrap c k) → Begun c → 1 ≤ a →
+    {l : Ledger} {im : Image} (a m c k : ℕ) {h : ℕ} {lost : List ℕ} {x : Rec} {ys : List Rec} → Inv l im → Straight im a m (blanks (4096 * a)) lost h (x ∷ ys) seg-none (torn-wrap c k) →
+    Begun c → 1 ≤ a →
     Starts (entries-of h (x ∷ ys)) → Ok (entries-of h (x ∷ ys)) l → Mends l im
 mends-half {l} {im} a m c k {h} {lost} {x} {ys} i s b z st ok =
     let es : List Entry = entries-of h (x ∷ ys) in
@@ -108,6 +94,7 @@ mends-half {l} {im} a m c k {h} {lost} {x} {ys} i s b z st ok =
     let d : Steps-sound im (moved at finish) = sound a m c k s b z st ok (i .good) in
     let q : Rested l (run im (moved at finish)) (reading-from (run im (moved at finish)) h) = rested a m c k s b z st ok (i .good) in
     let p : Rests l im (moved at finish) h = record { safe = (i, d .0, (half-inv a m c k s b z st ok (i .good), d .1 .0, rested-inv q)); rested = q } in
-    mends-3 {r = r} (torn-wrap-whole k s b z refl (st .0) (calm-ruled (record { at = h; it = x }) (entries-of (h + rsize x) ys) (calm-of (record { at = h; it = x }) (entries-of (h + rsize x) ys) l f (st .1) ok)))
+    mends-3 {r = r} (torn-wrap-whole k s b z refl (st .0) (calm-ruled (record { at = h; it = x }) (entries-of (h + rsize x) ys)
+    (calm-of (record { at = h; it = x }) (entries-of (h + rsize x) ys) l f (st .1) ok)))
     p (some-behind [] (program (at + 2) 240 ∷ []) (program (at + 1) 90))
     (one-none (begin im r) (starts-clean es st)) (two-plain (begin im r) es st) (third (begin im r) at (fine-finished es f) refl)

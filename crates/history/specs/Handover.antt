@@ -63,5 +63,6 @@ module _ {l : Ledger} {im : Image} {r : Reading} (q : Rested l im r) (x y : Entr
       (close-rests (q .B) (q .F) (ap good-length (length-set im (y .at) 160) ∙ q .good) (relow-laid (x ∷ []) es y d 160 low-clean (second-low d)) (q .tail) (st .0) dead refl (st .1 .1)
       (ok-same (x ∷ []) es y cleaned l (subst (λ (fs : List Entry). Ok fs l) i (q .ok)) (relow-alive y 160) refl refl))
 
+  -- steps (b) to (f)
   pub hands-over : Rests l im (program (y .at) 160 ∷ close-steps (length im) x y) (y .at)
   hands-over = record { safe = (rested-inv q, sound, rests .safe); rested = rests .rested }

@@ -16,11 +16,12 @@ use Rattle.spec.specs.Move.{mark-here}
 use Rattle.history.specs.Lay.{blanks, onto, lay, sizes, Fit, All-fine, drop-onto, length-lay, drop-lay, lots}
 use Rattle.history.specs.Last.{Begun, begun-ff, begun-5a, Name-begun, begun-none, begun-end, torn, held, begun, drop-begun}
 use Rattle.history.specs.Walk.{Quiet, Walks, walks-record, walks-clean, Walked, walk-lay, walk-begun, walk-held, Lands, Lands₁, lands-more, lands-quiet, lands-torn-like, lands-head, Head-low, is-START, is-CLEAN, no-start, no-clean, mark-append, search-found, search-none}
+use Rattle.history.specs.Quiet.{mark-nil}
 
 -- ---- the choice
 
 -- where the search that follows the walk ends
-abbrev pub sought-at : List ℕ → ℕ
+abbrev sought-at : List ℕ → ℕ
 sought-at image = sought image (walk (suc (length image)) 0 image)
 
 head-by : (image : List ℕ) (a : ℕ) (h : Answer ℕ) → start-here image ≡ false → wrap-here image ≡ false → sought-at image ≡ a → chosen image a ≡ h → head image ≡ h
@@ -56,30 +57,29 @@ module _ (low : List Rec) (by : ℕ) (s g : List ℕ) (f : All-fine low) (w : Wa
 
 -- ---- from the records' end to the head
 
--- the walk from at and the search after it come to t, m bytes on
-pub record Reaches₁ (at : ℕ) (s t : List ℕ) (m : ℕ) : Type 0 where
+-- the walk from at and the search after it come to t, m bytes on; L says how the walk ends
+pub record Reaching (L : ℕ → ℕ → List ℕ → List ℕ → Type 0) (at : ℕ) (s t : List ℕ) (m : ℕ) : Type 0 where
   pub by : ℕ
   pub g : List ℕ
   pub j : ℕ
-  pub land : Lands₁ at by s (g ++ t)
+  pub land : L at by s (g ++ t)
   pub whole : length g ≡ 8 * j
   pub quiet : Quiet j g
   pub far : by + 8 * j ≡ m
 
-pub record Reaches (at : ℕ) (s t : List ℕ) (m : ℕ) : Type 0 where
-  pub by : ℕ
-  pub g : List ℕ
-  pub j : ℕ
-  pub land : Lands at by s (g ++ t)
-  pub whole : length g ≡ 8 * j
-  pub quiet : Quiet j g
-  pub far : by + 8 * j ≡ m
+-- with fuel for one step of the walk
+abbrev pub Reaches₁ : ℕ → List ℕ → List ℕ → ℕ → Type 0
+Reaches₁ at s t m = Reaching Lands₁ at s t m
+
+-- with fuel for two
+abbrev pub Reaches : ℕ → List ℕ → List ℕ → ℕ → Type 0
+Reaches at s t m = Reaching Lands at s t m
 
 pub reaches-more : {at m : ℕ} {s t : List ℕ} → Reaches₁ at s t m → Reaches at s t m
 reaches-more r = record { by = r .by; g = r .g; j = r .j; land = lands-more (r .land); whole = r .whole; quiet = r .quiet; far = r .far }
 
 -- the head stands right there
-pub reaches-head : {b : ℕ} (at : ℕ) (t : List ℕ) → Head-low b → (at ≡ 0 → ⊥) → Reaches₁ at (b ∷ 90 ∷ t) (b ∷ 90 ∷ t) 0
+reaches-head : {b : ℕ} (at : ℕ) (t : List ℕ) → Head-low b → (at ≡ 0 → ⊥) → Reaches₁ at (b ∷ 90 ∷ t) (b ∷ 90 ∷ t) 0
 reaches-head at t b h = record { by = 0; g = []; j = 0; land = lands-head at t b h; whole = refl; quiet = tt; far = refl }
 
 -- a region without marks, at least a word
@@ -116,6 +116,7 @@ unfolding is-start is-clean is-record is-high
 quiet-name-begun s begun-none = refl
 quiet-name-begun s begun-end = refl
 
+-- behind a torn record
 pub reaches-torn : {c t : ℕ} (at x y z w j : ℕ) (g s : List ℕ) → Begun c → Name-begun t → length g ≡ 8 * j → Quiet j g → Reaches₁ at (torn c (x ∷ y ∷ z ∷ w ∷ []) t (g ++ s)) s (16 + 8 * j)
 reaches-torn {c} {t} at x y z w j g s b n e q =
     record {
@@ -128,6 +129,7 @@ reaches-torn {c} {t} at x y z w j g s b n e q =
       far = omega arith;
     }
 
+-- behind a record whose name was not ended
 pub reaches-begun : {m : ℕ} (at d : ℕ) (n s t : List ℕ) → Fit d n → Reaches₁ (at + size-of (length n) d) s t m → Reaches at (begun d n s) t (size-of (length n) d + m)
 reaches-begun at d n s t f r =
     record {
@@ -143,6 +145,7 @@ reaches-begun at d n s t f r =
       far = omega (arith, r .far);
     }
 
+-- behind a record that was not committed
 pub reaches-held : {m : ℕ} (at : ℕ) (n c s t : List ℕ) → Fit (length c) n → Reaches₁ (at + size-of (length n) (length c)) s t m → Reaches at (onto (held n c) s) t (size-of (length n) (length c) + m)
 reaches-held at n c s t f z =
     record {
@@ -200,7 +203,7 @@ front-wrap (front-gap {x} {y} h) w = rw (not-high y h) (and-false (is-wrap x))
 front-wrap (front-begun {s}) w = low-wrap (getD s 0 0)
 
 -- what the search gives, on an image whose records at the front end at s
-pub found : {b : ℕ} (low : List Rec) (s t : List ℕ) (m : ℕ) → All-fine low → Walked 0 low → Head-low b → Reaches (sizes low) s (b ∷ 90 ∷ t) m →
+found : {b : ℕ} (low : List Rec) (s t : List ℕ) (m : ℕ) → All-fine low → Walked 0 low → Head-low b → Reaches (sizes low) s (b ∷ 90 ∷ t) m →
     sought-at (lay low s) ≡ sizes low + m
 found {b} low s t m f w h r =
     let e : length s - r .by ≡ length (r .g) + length (b ∷ 90 ∷ t) = sym (length-drop (r .by) s) ∙ ap length (r .land .there) ∙ length-append (r .g) (b ∷ 90 ∷ t) in
@@ -221,7 +224,7 @@ clean-no-start : (t : List ℕ) → start-here (160 ∷ 90 ∷ t) ≡ false
 unfolding is-start is-high
 clean-no-start t = refl
 
-clean-is : (t : List ℕ) → clean-here (160 ∷ 90 ∷ t) ≡ true
+pub clean-is : (t : List ℕ) → clean-here (160 ∷ 90 ∷ t) ≡ true
 unfolding is-clean is-high
 clean-is t = refl
 
@@ -232,7 +235,8 @@ head-start low s t m f w p r =
     (chosen-start (lay low s) (sizes low + m) (ap start-here (there-is low s t m r) ∙ start-is t))
 
 -- CLEAN is found, if the image doesn't begin with CLEAN
-pub head-clean : (low : List Rec) (s t : List ℕ) (m : ℕ) → All-fine low → Walked 0 low → Front low s → clean-here (lay low s) ≡ false → Reaches (sizes low) s (160 ∷ 90 ∷ t) m → head (lay low s) ≡ give (sizes low + m)
+pub head-clean : (low : List Rec) (s t : List ℕ) (m : ℕ) → All-fine low → Walked 0 low → Front low s → clean-here (lay low s) ≡ false → Reaches (sizes low) s (160 ∷ 90 ∷ t) m →
+    head (lay low s) ≡ give (sizes low + m)
 head-clean low s t m f w p c r =
     head-by (lay low s) (sizes low + m) (give (sizes low + m)) (front-start p w) (front-wrap p w) (found low s t m f w is-CLEAN r)
     (chosen-clean (lay low s) (sizes low + m) (ap start-here (there-is low s t m r) ∙ clean-no-start t) (ap clean-here (there-is low s t m r) ∙ clean-is t) c)
@@ -242,17 +246,13 @@ pub head-zero : (t : List ℕ) → head (0 ∷ 90 ∷ t) ≡ give 0
 unfolding head
 head-zero t = rw (head, start-is t)
 
--- CLEAN at 0 and no mark from the records' end on
-nil-no-mark : mark-here [] ≡ false
-unfolding is-high is-start
-nil-no-mark = refl
-
 nil-no-torn : torn-here [] ≡ false
 unfolding is-erased
 nil-no-torn = refl
 
+-- nothing but what has no mark
 pub reaches-end : (at j : ℕ) (g : List ℕ) → length g ≡ 8 * j → Quiet j g → Reaches₁ at g [] (8 * j)
-reaches-end at zero [] e q = record { by = 0; g = []; j = 0; land = lands-quiet at [] nil-no-mark nil-no-torn; whole = refl; quiet = tt; far = refl }
+reaches-end at zero [] e q = record { by = 0; g = []; j = 0; land = lands-quiet at [] mark-nil nil-no-torn; whole = refl; quiet = tt; far = refl }
 reaches-end at zero (x ∷ g) e q = absurd (omega arith)
 reaches-end at (suc j) g e q = subst (λ (l : List ℕ). Reaches₁ at l [] (8 * suc j)) (append-nil g) (reaches-quiet at j g [] e q)
 
@@ -269,7 +269,9 @@ none-there low s m r =
     drop-lay low s m ∙ ap (λ (k : ℕ). drop k s) (sym (r .far)) ∙ sym (drop-drop (8 * r .j) (r .by) s) ∙ ap (drop (8 * r .j)) (r .land .there)
     ∙ drop-at (r .g) [] (8 * r .j) (r .whole)
 
-pub head-none : (low : List Rec) (s : List ℕ) (m : ℕ) → All-fine low → Walked 0 low → Front low s → clean-here (lay low s) ≡ true → 1 ≤ length (lay low s) → Reaches (sizes low) s [] m → head (lay low s) ≡ give 0
+-- no head is found, and CLEAN stands at 0: 0 is the head
+pub head-none : (low : List Rec) (s : List ℕ) (m : ℕ) → All-fine low → Walked 0 low → Front low s → clean-here (lay low s) ≡ true → 1 ≤ length (lay low s) → Reaches (sizes low) s [] m →
+    head (lay low s) ≡ give 0
 head-none low s m f w p c l r =
     head-by (lay low s) (sizes low + m) (give 0) (front-start p w) (front-wrap p w) (nothing low s m f w l r)
-    (chosen-none (lay low s) (sizes low + m) (ap start-here (none-there low s m r) ∙ no-start [] nil-no-mark) (ap clean-here (none-there low s m r) ∙ no-clean [] nil-no-mark) c)
+    (chosen-none (lay low s) (sizes low + m) (ap start-here (none-there low s m r) ∙ no-start [] mark-nil) (ap clean-here (none-there low s m r) ∙ no-clean [] mark-nil) c)

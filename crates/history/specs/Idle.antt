@@ -1,9 +1,8 @@
 -- On a rested image no repair has a step to do; so mount is the one repair that has some, if it leaves a rested image.
 use Prim.Native.Nat.{ℕ}
-use native.Mathlib.Omega.{arith}
 use mathlib.Core.Path.{_≡_, refl, sym, ap, _∙_, subst}
 use mathlib.Core.Bool.{false}
-use mathlib.Core.List.{List, [], _∷_, _++_}
+use mathlib.Core.List.{List, [], _∷_}
 use Rattle.spec.specs.Step.{Image, Step, run}
 use Rattle.spec.specs.Basics.{give, Each}
 use Rattle.spec.specs.Record.{Entry}
@@ -21,19 +20,12 @@ use Rattle.history.specs.LaidEdit.{laid-fine}
 use Rattle.history.specs.Closes.{Rests}
 use Rattle.history.specs.Rules.{fine-finished}
 
--- steps that are there
-pub some-behind : {A : Type 0} (xs ys : List A) (y : A) → xs ++ (y ∷ ys) ≡ [] → ⊥
-some-behind [] ys y e = let z : _≡_ {A = ℕ} 0 1 = cc in omega arith
-some-behind (x ∷ xs) ys y e = let z : _≡_ {A = ℕ} 0 1 = cc in omega arith
-
-pub some-append : {A : Type 0} (xs ys : List A) → (ys ≡ [] → ⊥) → xs ++ ys ≡ [] → ⊥
-some-append [] ys n e = n e
-some-append (x ∷ xs) ys n e = let z : _≡_ {A = ℕ} 0 1 = cc in omega arith
-
+-- the head is START, so it is not CLEAN
 pub starts-clean : (es : List Entry) → Starts es → head-clean es ≡ false
 starts-clean [] s = absurd s
 starts-clean (x ∷ es) s = is-clean-0 (x .it .low) (s .0)
 
+-- repair 2 has nothing to do
 pub two-plain : (w : Work) (es : List Entry) → Starts es → repair-2 w es ≡ w
 two-plain w [] s = absurd s
 two-plain w (x ∷ es) s = two-none w x es (s .1)
@@ -42,18 +34,19 @@ module _ {l : Ledger} (w : Work) (q : Rested l (w .image) (w .reading)) where
   entries-is : w .reading .entries ≡ q .es
   entries-is = ap (λ (r : Reading). r .entries) (q .is)
 
-  pub idle-1 : repair-1 w ≡ w
+  idle-1 : repair-1 w ≡ w
   idle-1 = one-none w (ap head-clean entries-is ∙ starts-clean (q .es) (q .starts))
 
-  pub idle-2 : repair-2-on w ≡ w
+  idle-2 : repair-2-on w ≡ w
   idle-2 = ap (repair-2 w) entries-is ∙ two-plain w (q .es) (q .starts)
 
-  pub idle-3 : repair-3 w ≡ w
+  idle-3 : repair-3 w ≡ w
   idle-3 = three-none w (subst (Each Finished) (sym entries-is) (fine-finished (q .es) (laid-fine (q .laid)))) (ap (λ (r : Reading). r .ending) (q .is))
 
-  pub idle-4 : repair-4 w ≡ w
+  idle-4 : repair-4 w ≡ w
   idle-4 = four-none w (subst Unique (sym entries-is) (q .ok .unique))
 
+-- steps that are some: they are run, and the image is read again
 pub after-some : (w : Work) (ss : List Step) (h : ℕ) → (ss ≡ [] → ⊥) → after w ss h ≡ reread w ss (run (w .image) ss) h
 unfolding after
 after-some w [] h n = absurd (n refl)
@@ -66,6 +59,7 @@ pub data Needs (l : Ledger) (im : Image) (r : Reading) : Type 0 where
   needs-none : Rested l im r → Needs l im r
   needs-some : (mended im r .steps ≡ [] → ⊥) → Needs l im r
 
+-- what mount does: the image is read, cut anywhere the files stay, and at the end it is rested
 pub record Mends (l : Ledger) (im : Image) : Type 0 where
   pub r : Reading
   pub reads : reading im ≡ give r
@@ -74,6 +68,7 @@ pub record Mends (l : Ledger) (im : Image) : Type 0 where
   pub rested : Rested l (run im (mended im r .steps)) (mended im r .reading)
 
 module _ {l : Ledger} {im : Image} {r : Reading} (reads : reading im ≡ give r) where
+  -- nothing to do
   pub mends-none : Inv l im → Rested l im r → Mends l im
   unfolding mended
   mends-none i q =
@@ -114,20 +109,24 @@ module _ {l : Ledger} {im : Image} {r : Reading} (reads : reading im ≡ give r)
     unfolding left
     done w e = e ∙ after-some (begin im r) ss h some
 
+    -- repair 1 alone has steps
     pub mends-1 : repair-1 (begin im r) ≡ after (begin im r) ss h → Mends l im
     unfolding mended
     mends-1 e = mends-by (ap (λ (v : Work). repair-4 (repair-3 (repair-2-on v))) (done (repair-1 (begin im r)) e) ∙ ap (λ (v : Work). repair-4 (repair-3 v)) then-2 ∙ ap repair-4 then-3 ∙ then-4)
 
+    -- repair 2 alone
     pub mends-2 : repair-1 (begin im r) ≡ begin im r → repair-2-on (begin im r) ≡ after (begin im r) ss h → Mends l im
     unfolding mended
     mends-2 a e =
         mends-by (ap (λ (v : Work). repair-4 (repair-3 (repair-2-on v))) a ∙ ap (λ (v : Work). repair-4 (repair-3 v)) (done (repair-2-on (begin im r)) e) ∙ ap repair-4 then-3 ∙ then-4)
 
+    -- repair 3 alone
     pub mends-3 : repair-1 (begin im r) ≡ begin im r → repair-2-on (begin im r) ≡ begin im r → repair-3 (begin im r) ≡ after (begin im r) ss h → Mends l im
     unfolding mended
     mends-3 a b e =
         mends-by (ap (λ (v : Work). repair-4 (repair-3 (repair-2-on v))) a ∙ ap (λ (v : Work). repair-4 (repair-3 v)) b ∙ ap repair-4 (done (repair-3 (begin im r)) e) ∙ then-4)
 
+    -- repair 4 alone
     pub mends-4 : repair-1 (begin im r) ≡ begin im r → repair-2-on (begin im r) ≡ begin im r → repair-3 (begin im r) ≡ begin im r → repair-4 (begin im r) ≡ after (begin im r) ss h → Mends l im
     unfolding mended
     mends-4 a b c e =

@@ -10,7 +10,7 @@
 --   vacated   the head is Y, CLEAN; sectors of X are erased or still hold remains without a mark. Mount erases them and makes Y START.
 -- In each kind the live files are those of the ledger. A step of any call leads from one of these images to another with the same files, but for
 -- a put's commit and a remove's one step, which change the files as the ledger does. And each of them is read, judged legal and mended.
-use Prim.Native.Nat.{ℕ, _+_, _*_, _≤_, _<_}
+use Prim.Native.Nat.{ℕ, _*_, _≤_, _<_}
 use mathlib.Core.Path.{_≡_}
 use mathlib.Core.Bool.{Bool, true, false}
 use mathlib.Core.List.{List, [], _∷_, _++_}
@@ -34,6 +34,7 @@ use Rattle.history.specs.Store.{alive, Unique, Well-named, Unmarked}
 use Rattle.history.specs.Shadow.{Shadowed}
 use Rattle.history.specs.Ledger.{Matches}
 
+-- each is a byte
 abbrev pub Bytes : List ℕ → Type 0
 Bytes c = Each (λ b. b < 256) c
 
@@ -57,6 +58,7 @@ Starts (x ∷ es) = (x .it .low ≡ 0) × Each Unmarked es
 abbrev pub place : Image → ℕ → ℕ → Bool → Place
 place im h T t = record { head = h; tail = T; turned = t; length = length im }
 
+-- the six kinds
 pub data Kind (im : Image) (l : Ledger) : Type 0 where
   quiet :
       {h S T : ℕ} (B F : ℕ) {t u : Bool} {es : List Entry} {seg : Seg} → Laid im h S t es seg (blanks B) (blanks F) → Tail h S t seg (blanks B) (blanks F) T u →
@@ -66,7 +68,7 @@ pub data Kind (im : Image) (l : Ledger) : Type 0 where
       Starts (entries-of h (x ∷ ys)) → Ok (entries-of h (x ∷ ys)) l → Kind im l
   shadow :
       {h S T : ℕ} (B F : ℕ) {t u : Bool} (xs ys : List Entry) (o : Entry) → Laid im h S t (xs ++ (o ∷ ys)) seg-none (blanks B) (blanks F) →
-      Tail h S t seg-none (blanks B) (blanks F) T u → Starts (xs ++ (o ∷ ys)) → Shadowed xs ys o → Bytes (content-of o) → Ok (xs ++ ys) l → Kind im l
+      Tail h S t seg-none (blanks B) (blanks F) T u → Starts (xs ++ (o ∷ ys)) → Shadowed xs ys o → Ok (xs ++ ys) l → Kind im l
   clean :
       {h S T : ℕ} (B F : ℕ) {t u : Bool} {x y : Entry} {es : List Entry} → Laid im h S t (x ∷ y ∷ es) seg-none (blanks B) (blanks F) →
       Tail h S t seg-none (blanks B) (blanks F) T u → x .it .low ≡ 0 → alive x ≡ false → y .it .low ≡ 160 → Each Unmarked es → Ok (x ∷ y ∷ es) l → Kind im l

@@ -1,6 +1,6 @@
 -- Where the bytes of an image are, whether its chain has turned or not: the one description that every kind of image goes by.
-use Prim.Native.Nat.{ℕ, _+_, _*_, _≤_}
-use mathlib.Core.Path.{_≡_}
+use Prim.Native.Nat.{ℕ, _+_, _*_, _≤_, _-_}
+use mathlib.Core.Path.{_≡_, refl, sym}
 use mathlib.Core.Bool.{Bool, true, false}
 use mathlib.Core.List.{List, [], _∷_, _++_}
 use lib.ListN.{length}
@@ -8,11 +8,14 @@ use Rattle.spec.specs.declared.Next.{Next}
 use Rattle.spec.specs.Step.{Image}
 use Rattle.spec.specs.Geometry.{floor}
 use Rattle.spec.specs.Record.{Rec, Entry}
+use native.Mathlib.Omega.{arith}
+use native.Mathlib.Nat.{add-zero}
 use Rattle.history.specs.Lay.{blanks, onto, rsize, sizes, entries-of, Fine}
 use Rattle.history.specs.Walk.{Quiet}
 use Rattle.history.specs.Seg.{Seg, seg-none, seg-onto, seg-size}
 use Rattle.history.specs.Straight.{Straight}
 use Rattle.history.specs.Turned.{Turned, End, Opens}
+use Rattle.history.specs.Quiet.{blank-split}
 
 -- An image with head h. es are its finished records in chain order; the next thing stands at S: seg, what is unfinished there, and behind it
 -- free, up to N before the turn (t false) and up to floor(h) after it. below are the bytes of [0, floor(h)) before the turn.
@@ -65,3 +68,16 @@ pub data Tail (h S : ℕ) (t : Bool) (seg : Seg) (below free : List ℕ) (T : �
   tail-floor : free ≡ [] → t ≡ true → T ≡ S + seg-size seg → u ≡ true → Tail h S t seg below free T u
   tail-N : free ≡ [] → t ≡ false → floor h ≡ 0 → T ≡ S + seg-size seg → u ≡ false → Tail h S t seg below free T u
   tail-turn : (s : List ℕ) → free ≡ [] → t ≡ false → (seg ≡ seg-none → ⊥) → below ≡ blanks 8 ++ s → T ≡ 0 → u ≡ true → Tail h S t seg below free T u
+
+-- An image with nothing unfinished and all its free bytes FF, with the tail as it is read.
+pub record Bare (h : ℕ) (es : List Entry) (im : Image) : Type 0 where
+  pub S : ℕ
+  pub B : ℕ
+  pub F : ℕ
+  pub t : Bool
+  pub laid : Laid im h S t es seg-none (blanks B) (blanks F)
+  pub tail : Tail h S t seg-none (blanks B) (blanks F) S t
+
+-- nothing unfinished and eight FF: the tail is S
+pub clear-ff : {h S : ℕ} {t : Bool} {below : List ℕ} (n : ℕ) → 8 ≤ n → Tail h S t seg-none below (blanks n) S t
+clear-ff {S = S} n h = tail-clear (blanks (n - 8)) (blank-split 8 (n - 8) n (omega arith)) (sym (add-zero S)) refl

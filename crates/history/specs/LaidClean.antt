@@ -20,15 +20,15 @@ use Rattle.history.specs.Walk.{Quiet}
 use Rattle.history.specs.Quiet.{quiet-body}
 use Rattle.history.specs.Seg.{Seg, seg-none}
 use Rattle.history.specs.Steps.{set-past}
-use Rattle.history.specs.Clean.{Clean-now, clean-done}
+use Rattle.history.specs.Clean.{Clean-now, clean-done, mark-long}
 use Rattle.history.specs.StraightErase.{Cleaned}
-use Rattle.history.specs.StraightClean.{recontent}
 use Rattle.history.specs.Safe.{Safe, safe-map, safe-end}
 use Rattle.history.specs.Store.{alive, Unmarked}
 use Rattle.history.specs.Laid.{Laid, Inside, Tail, low-same}
 use Rattle.history.specs.Kinds.{Ok, clean, Inv}
 use Rattle.history.specs.LaidEdit.{inside-of}
 use Rattle.history.specs.OkLaws.{ok-dead}
+use Rattle.history.specs.StraightEdit.{recontent}
 
 -- ---- the steps: each programs 00 in the data, d bytes from a on
 
@@ -37,22 +37,12 @@ Zero a d (program b zero) = (a ≤ b) × (b < a + d)
 Zero a d (program b (suc v)) = ⊥
 Zero a d (erase b) = ⊥
 
-not-both : (b : Bool) → b ≡ false → b ≡ true → ⊥
-not-both b p q = let z : _≡_ {A = ℕ} 0 1 = cc in omega arith
-
--- a mark needs two bytes
-mark-two : (s : List ℕ) → mark-here s ≡ true → 2 ≤ length s
-unfolding is-high
-mark-two [] e = absurd (not-both (mark-here []) (and-false (is-start 0 || is-clean 0 || is-record 0)) e)
-mark-two (x ∷ []) e = absurd (not-both (mark-here (x ∷ [])) (and-false (is-start x || is-clean x || is-record x)) e)
-mark-two (x ∷ y ∷ s) e = omega arith
-
 mark-zeros : (a b d : ℕ) (s : List ℕ) (rest : List Step) → b ≤ a → (1 ≤ length s → a + length s ≤ b + d) → Each (Zero b d) rest → Each (Zero b d) (mark-steps a s ++ rest)
 mark-zeros a b d s rest l h r = go (mark-here s) refl
   where
     go : (m : Bool) → mark-here s ≡ m → Each (Zero b d) (mark-steps a s ++ rest)
     go true e =
-        let two : 2 ≤ length s = mark-two s e in
+        let two : 2 ≤ length s = mark-long s e in
         let i : a + length s ≤ b + d = h (omega arith) in
         rw (e, mark-steps) ((omega arith, omega arith), r)
     go false e = rw (e, mark-steps) r
@@ -153,6 +143,7 @@ front-split : (x : Rec) (s : List ℕ) → onto x s ≡ data-front x (length (x 
 unfolding data-front
 front-split x s = simp append-assoc
 
+-- the entry with other data
 abbrev pub anew : Entry → List ℕ → Entry
 anew x c = record { at = x .at; it = recontent c (x .it) }
 
@@ -214,6 +205,7 @@ module _ {im : Image} {h S : ℕ} {t : Bool} {x : Entry} {ys : List Entry} {seg 
 
 -- ---- step (c) on a laid image
 
+-- what (c) leaves, cut anywhere and at the end
 pub record Swept (l : Ledger) (im : Image) (ss : List Step) (h S B F : ℕ) (t : Bool) (x y : Entry) (es : List Entry) : Type 0 where
   pub safe : Safe (Inv l) im ss
   pub same : length (run im ss) ≡ length im
@@ -223,6 +215,7 @@ pub record Swept (l : Ledger) (im : Image) (ss : List Step) (h S B F : ℕ) (t :
   pub dead : alive (anew x now) ≡ false
   pub ok : Ok (anew x now ∷ y ∷ es) l
 
+-- step (c) on a laid image
 pub sweep-data :
     {l : Ledger} {im : Image} {h S : ℕ} (B F : ℕ) {t : Bool} {x y : Entry} {es : List Entry} → good-length (length im) ≡ true →
     Laid im h S t (x ∷ y ∷ es) seg-none (blanks B) (blanks F) → Tail h S t seg-none (blanks B) (blanks F) S t → x .it .low ≡ 0 → alive x ≡ false → y .it .low ≡ 160 → Each Unmarked es →

@@ -24,11 +24,10 @@ use Rattle.history.specs.Laid.{Laid, laid-straight, laid-turned, Hole, I
 use Rattle.history.specs.StraightLaid.{straight-hole, straight-inside}
 use Rattle.history.specs.TurnedLaid.{turned-hole, high-inside, low-inside, turned-length}
 use Rattle.history.specs.Kinds.{place}
+use Rattle.history.specs.Lists.{not-both}
+use Rattle.history.specs.Walk.{Quiet}
 
 -- ---- measures
-
-not-both : {t : Bool} {A : Type 0} → t ≡ true → t ≡ false → A
-not-both p q = absurd (let z : _≡_ {A = ℕ} 0 1 = cc in omega arith)
 
 -- where the stretch of S ends: each case of the turn on its own
 limit-is : (im : Image) (h S n : ℕ) (t : Bool) → (t ≡ true → floor h ≡ n) → (t ≡ false → length im ≡ n) → limit (place im h S t) ≡ n
@@ -36,6 +35,7 @@ limit-is im h S n true p q = p refl
 limit-is im h S n false p q = q refl
 
 module _ {im : Image} {h S : ℕ} {t : Bool} {es : List Entry} {seg : Seg} {below free : List ℕ} (d : Laid im h S t es seg below free) where
+  -- there is a first record, and it stands at the head
   pub laid-first : (x : Rec) × (rest : List Entry) × (es ≡ record { at = h; it = x } ∷ rest)
   laid-first = go d
     where
@@ -43,6 +43,7 @@ module _ {im : Image} {h S : ℕ} {t : Bool} {es : List Entry} {seg : Seg} {belo
       go (laid-straight {x = x} {ys = ys} f s p q r m n) = (x, entries-of (h + rsize x) ys, r)
       go (laid-turned {low = low} {x = x} {ys = ys} s p q r b) = (x, entries-of (h + rsize x) ys ++ entries-of 0 low, r)
 
+  -- every record is fine
   pub laid-fine : Each (λ e. Fine (e .it)) es
   laid-fine = go d
     where
@@ -58,17 +59,19 @@ module _ {im : Image} {h S : ℕ} {t : Bool} {es : List Entry} {seg : Seg} {belo
     where
       go : Laid im h S t es seg below free → limit (place im h (S + seg-size seg) t) ≡ S + seg-size seg + length free
       go (laid-straight f s p q r m n) =
-          limit-is im h (S + seg-size seg) (S + seg-size seg + length free) t (λ u. not-both u p) (λ u. straight-length s ∙ omega arith)
+          limit-is im h (S + seg-size seg) (S + seg-size seg + length free) t (λ u. absurd (not-both t p u)) (λ u. straight-length s ∙ omega arith)
       go (laid-turned s p q r b) =
-          limit-is im h (S + seg-size seg) (S + seg-size seg + length free) t (λ u. omega (arith, s .at, s .lost-small, s .below, s .free-length)) (λ u. not-both p u)
+          limit-is im h (S + seg-size seg) (S + seg-size seg + length free) t (λ u. omega (arith, s .at, s .lost-small, s .below, s .free-length)) (λ u. absurd (not-both t u p))
 
+  -- before the turn: the bytes below the head's sector
   pub laid-below : t ≡ false → length below ≡ floor h
   laid-below e = go d
     where
       go : Laid im h S t es seg below free → length below ≡ floor h
       go (laid-straight f s p q r m n) = s .gap-length ∙ sym (bottom s)
-      go (laid-turned s p q r b) = not-both p e
+      go (laid-turned s p q r b) = absurd (not-both t e p)
 
+  -- all of it is inside the image
   pub laid-length : S + seg-size seg + length free ≤ length im
   laid-length = go d
     where
@@ -76,6 +79,7 @@ module _ {im : Image} {h S : ℕ} {t : Bool} {es : List Entry} {seg : Seg} {belo
       go (laid-straight f s p q r m n) = omega (arith, straight-length s)
       go (laid-turned s p q r b) = omega (arith, turned-length s, s .below, s .free-length, s .at)
 
+  -- and so is the head's header
   pub laid-head : h + 16 ≤ length im
   laid-head = go d
     where
@@ -83,6 +87,7 @@ module _ {im : Image} {h S : ℕ} {t : Bool} {es : List Entry} {seg : Seg} {belo
       go (laid-straight f s p q r m n) = omega (arith, straight-length s)
       go (laid-turned s p q r b) = omega (arith, turned-length s)
 
+  -- what stands at S may be replaced
   pub hole-of : Hole im h S t es seg below free
   hole-of = go d
     where
@@ -92,6 +97,7 @@ module _ {im : Image} {h S : ℕ} {t : Bool} {es : List Entry} {seg : Seg} {belo
           subst (λ (g : List ℕ). Hole im h S t es seg g free) (sym b)
           (subst₃ (λ (n : ℕ) (u : Bool) (fs : List Entry). Hole im h n u fs seg [] free) (sym q) (sym p) (sym r) (turned-hole s))
 
+  -- and any record by one of its size
   pub inside-of : (xs ys : List Entry) (e : Entry) → es ≡ xs ++ (e ∷ ys) → Inside im h S t xs e ys seg below free
   inside-of xs zs e k = go d
     where
@@ -124,35 +130,41 @@ module _ {im : Image} {h S : ℕ} {t : Bool} {seg : Seg} {below free : List ℕ}
       ap (λ (l : List ℕ). getD l (e .at + k) 0) (here .is) ∙ ap (λ (n : ℕ). getD (here .pre ++ onto (e .it) (here .post)) (n + k) 0) (sym (here .at))
       ∙ getD-append-add (here .pre) (onto (e .it) (here .post)) k 0
 
+  -- a status byte is set
   pub restatus-laid : (b : ℕ) → Stat b → Laid (set im (e .at + 2) b) h S t (xs ++ (record { at = e .at; it = restatus b (e .it) } ∷ ys)) seg below free
   restatus-laid b s =
       subst (λ (l : List ℕ). Laid l h S t (xs ++ (record { at = e .at; it = restatus b (e .it) } ∷ ys)) seg below free) (sym (set-here 2 b))
       (here .swap (restatus b (e .it)) refl (record { low-ok = here .fine .low-ok; status-ok = s; fit = here .fine .fit }) (low-same refl))
 
+  -- a low byte is set
   pub relow-laid : (b : ℕ) → Low b → Lowered h e b → Laid (set im (e .at) b) h S t (xs ++ (record { at = e .at; it = relow b (e .it) } ∷ ys)) seg below free
   relow-laid b s l =
       subst (λ (l : List ℕ). Laid l h S t (xs ++ (record { at = e .at; it = relow b (e .it) } ∷ ys)) seg below free) (sym (set-here 0 b) ∙ ap (λ (n : ℕ). set im n b) (add-zero (e .at)))
       (here .swap (relow b (e .it)) refl (record { low-ok = s; status-ok = here .fine .status-ok; fit = here .fine .fit }) l)
 
+  -- the status byte as it is on the image
   pub status-at : getD im (e .at + 2) 0 ≡ e .it .status
   status-at = get-here 2
 
+  -- the low byte as it is on the image
   pub low-at : getD im (e .at) 0 ≡ e .it .low
   low-at = ap (λ (n : ℕ). getD im n 0) (sym (add-zero (e .at))) ∙ get-here 0
 
+  -- a record ends inside the image
   pub entry-inside : e .at + rsize (e .it) ≤ length im
   entry-inside = omega (arith, ap length (here .is), length-append (here .pre) (onto (e .it) (here .post)), here .at, length-lay (e .it ∷ []) (here .post))
 
 -- ---- the turn
 
 -- by a marker
-pub turn-laid : {im : Image} {h S B F : ℕ} {es : List Entry} → Laid im h S false es seg-none (blanks B) (blanks F) → 8 ≤ F → 1 ≤ B → Laid (run im (moved S marker-steps)) h 0 true es seg-none [] (blanks B)
+pub turn-laid : {im : Image} {h S B F : ℕ} {es : List Entry} → Laid im h S false es seg-none (blanks B) (blanks F) → 8 ≤ F → 1 ≤ B →
+    Laid (run im (moved S marker-steps)) h 0 true es seg-none [] (blanks B)
 turn-laid {im} {h} {S} {B} {F} {es} (laid-straight {a = a} {lost = lost} {x = x} {ys = ys} g s p q r m n) f b =
     let k : B ≡ 4096 * a = sym (length-replicate {A = ℕ} B 255) ∙ s .gap-length in
     subst (λ (i : ℕ). Laid (run im (moved i marker-steps)) h 0 true es seg-none [] (blanks B)) (sym q)
     (subst (λ (i : ℕ). Laid (run im (moved (h + sizes (x ∷ ys)) marker-steps)) h 0 true es seg-none [] (blanks i)) (sym k)
     (laid-turned {low = []} (turned-by s f (ap blanks k) (omega arith)) refl refl (r ∙ sym (append-nil (entries-of h (x ∷ ys)))) refl))
-turn-laid (laid-turned s p q r e) f b = not-both p refl
+turn-laid (laid-turned s p q r e) f b = absurd (not-both false refl p)
 
 -- at N exactly
 pub turn-exact : {im : Image} {h S B : ℕ} {es : List Entry} → Laid im h S false es seg-none (blanks B) [] → 1 ≤ B → Laid im h 0 true es seg-none [] (blanks B)
@@ -160,4 +172,9 @@ turn-exact {im} {h} {S} {B} {es} (laid-straight {a = a} {lost = lost} {x = x} {y
     let k : B ≡ 4096 * a = sym (length-replicate {A = ℕ} B 255) ∙ s .gap-length in
     subst (λ (i : ℕ). Laid im h 0 true es seg-none [] (blanks i)) (sym k)
     (laid-turned {low = []} (turned-exact s (ap blanks k) (omega arith)) refl refl (r ∙ sym (append-nil (entries-of h (x ∷ ys)))) refl)
-turn-exact (laid-turned s p q r e) b = not-both p refl
+turn-exact (laid-turned s p q r e) b = absurd (not-both false refl p)
+
+-- the free run is words and has no mark
+pub free-quiet : {im : Image} {h S : ℕ} {t : Bool} {es : List Entry} {seg : Seg} {below free : List ℕ} → Laid im h S t es seg below free → (f : ℕ) × (length free ≡ 8 * f) × Quiet f free
+free-quiet (laid-straight f s t₁ S₁ e₁ lf qf) = (f, lf, qf)
+free-quiet (laid-turned {f = f} s t₁ S₁ e₁ b) = (f, s .free-length, s .free-quiet)

@@ -1,12 +1,11 @@
 -- Step (d) of a move on a laid image, cut anywhere: after the first erase the head is Y and the image is vacant; at the end it is bare.
 use Prim.Native.Nat.{ℕ, zero, suc, _+_, _-_, _*_, _/_, _%_, _≤_, _<_}
 use native.Mathlib.Omega.{arith}
-use native.Mathlib.Nat.{add-zero}
 use mathlib.Core.Path.{_≡_, refl, sym, ap, _∙_, subst}
 use mathlib.Core.Bool.{Bool, true, false}
 use mathlib.Core.List.{List, [], _∷_, _++_, append-assoc, append-nil, map}
 use lib.ListN.{length, take, drop, length-append, length-replicate, length-drop, replicate-append-replicate}
-use lib.Seq.{take-all, length-take-le}
+use lib.Seq.{length-take-le}
 use lib.Dec.{ltb}
 use borrow.Author.Tests.{ne-eqb, eq-eqb, ltb-true, ltb-false}
 use Rattle.spec.specs.declared.Next.{Next}
@@ -18,18 +17,17 @@ use Rattle.spec.specs.Move.{vacated-end, vacated}
 use Rattle.spec.specs.Bytes.{is-start, is-clean, is-record, is-high}
 use Rattle.history.specs.Lay.{blanks, body, onto, rsize, sizes, entries-of, length-lay, length-body}
 use Rattle.history.specs.Walk.{Quiet}
-use Rattle.history.specs.Quiet.{blank-split, quiet-append, quiet-blanks}
+use Rattle.history.specs.Quiet.{quiet-append, quiet-blanks}
 use Rattle.history.specs.Seg.{seg-none}
-use Rattle.history.specs.Erase.{erases, length-sector, sectors-are, half-erased, half-erased-length, all-erased}
+use Rattle.history.specs.Erase.{erases, length-sector, sectors-are, half-erased, half-erased-length, all-erased, take-erases}
 use Rattle.history.specs.Straight.{Straight}
 use Rattle.history.specs.StraightEdit.{straight-length}
-use Rattle.history.specs.StraightErase.{Cleaned, rsize-words, old-head, to-m3}
-use Rattle.history.specs.StraightClose.{vacated-are, done}
-use Rattle.history.specs.Turned.{Turned, End, exact, marker, end-bytes, Opens, opens-ff}
+use Rattle.history.specs.StraightErase.{Cleaned, rsize-words, old-head, to-m3, vacated-are, done}
+use Rattle.history.specs.Turned.{Turned, End, exact, marker, end-bytes, Opens, open-ff, opens-blanks}
 use Rattle.history.specs.TurnedErase.{turned-m3, last-head, zero-m3, zero-quiet}
-use Rattle.history.specs.Laid.{Laid, laid-straight, laid-turned, Tail, tail-clear, tail-floor, tail-N, tail-turn}
-use Rattle.history.specs.Vacant.{Vacant, vacant-at, Bare, good-mod}
-use Rattle.history.specs.LaidForget.{turned-length}
+use Rattle.history.specs.Laid.{Laid, laid-straight, laid-turned, Tail, tail-clear, tail-floor, tail-N, tail-turn, Bare, clear-ff}
+use Rattle.history.specs.Vacant.{Vacant, vacant-at, good-mod}
+use Rattle.history.specs.TurnedLaid.{turned-length}
 
 -- X is left behind: with no erase, or with k + 1 of them
 pub data Leaves (im : Image) (x y : Entry) (es : List Entry) : Type 0 where
@@ -40,19 +38,13 @@ pub data Leaves (im : Image) (x y : Entry) (es : List Entry) : Type 0 where
 
 -- ---- the sectors
 
-pub length-erases : (a k : ℕ) → length (erases a k) ≡ k
-length-erases a zero = refl
-length-erases a (suc k) = ap suc (length-erases (a + 4096) k)
-
-take-erases : (a k : ℕ) → take k (erases a k) ≡ erases a k
-take-erases a k = take-all k (erases a k) (omega (arith, length-erases a k))
-
 -- an erase inside the image
 pub erase-length : (im : Image) (a : ℕ) → a + 4096 ≤ length im → length (apply im (erase a)) ≡ length im
 erase-length im a h =
     length-append (take a im) (sector ++ drop 4096 (drop a im)) ∙ ap (λ (n : ℕ). length (take a im) + n) (length-append sector (drop 4096 (drop a im)))
     ∙ omega (arith, length-take-le a im (omega arith), length-sector, length-drop 4096 (drop a im), length-drop a im)
 
+-- erases keep the length
 pub erases-length : (j a k : ℕ) (im : Image) → a + 4096 * k ≤ length im → length (run im (take j (erases a k))) ≡ length im
 erases-length zero a k im h = refl
 erases-length (suc j) a zero im h = refl
@@ -60,15 +52,25 @@ erases-length (suc j) a (suc k) im h =
     let e : length (apply im (erase a)) ≡ length im = erase-length im a (omega arith) in
     erases-length j (a + 4096) k (apply im (erase a)) (omega arith) ∙ e
 
+-- erases of whole sectors are sound
 pub erases-sound : (a k : ℕ) (im : Image) → a % 4096 ≡ 0 → a + 4096 * k ≤ length im → Steps-sound im (erases a k)
 erases-sound a zero im z h = tt
 erases-sound a (suc k) im z h =
     let e : length (apply im (erase a)) ≡ length im = erase-length im a (omega arith) in
     ((z, omega arith), erases-sound (a + 4096) k (apply im (erase a)) (omega arith) (omega arith))
 
+-- no erase: no sector
 pub no-map : (zs : List ℕ) → map erase zs ≡ [] → zs ≡ []
 no-map [] e = refl
 no-map (z ∷ zs) e = let n : _≡_ {A = ℕ} 0 1 = cc in absurd (omega arith)
+
+-- w words: less than a sector, or some sectors and r words more
+by-sectors : {A : Type 0} (w : ℕ) → (w < 512 → A) → ((k r : ℕ) → 512 * suc k + r ≡ w → r < 512 → A) → A
+by-sectors {A} w f g = go (ltb w 512) refl
+  where
+    go : (b : Bool) → ltb w 512 ≡ b → A
+    go true e = f (ltb-true w 512 e)
+    go false e = let n : 512 ≤ w = ltb-false w 512 e in g (w / 512 - 1) (w % 512) (omega arith) (omega arith)
 
 vacated-none : (N : ℕ) (x y : Entry) → (y .at ≡ 0 → ⊥) → floor (y .at) ≡ floor (x .at) → vacated N x y ≡ []
 unfolding vacated-end
@@ -83,14 +85,6 @@ vacated-all N x y a k z e n = rw (vacated-end, eq-eqb (y .at) 0 z) (ap (λ (b : 
 -- FF, and FF with remains behind
 pub join-ff : (B n : ℕ) (s : List ℕ) → blanks B ++ (blanks n ++ s) ≡ blanks (B + n) ++ s
 join-ff B n s = sym (append-assoc (blanks B) (blanks n) s) ∙ ap (λ (l : List ℕ). l ++ s) (replicate-append-replicate B n 255)
-
-pub open-ff : (n : ℕ) (s free : List ℕ) → free ≡ blanks n ++ s → 8 ≤ n → Opens free Next.Clear
-open-ff n s free e h =
-    subst (λ (l : List ℕ). Opens l Next.Clear)
-    (sym (e ∙ ap (λ (l : List ℕ). l ++ s) (blank-split 8 (n - 8) n (omega arith)) ∙ append-assoc (blanks 8) (blanks (n - 8)) s)) opens-ff
-
-pub clear-ff : {h S : ℕ} {t : Bool} {below : List ℕ} (n : ℕ) → 8 ≤ n → Tail h S t seg-none below (blanks n) S t
-clear-ff {S = S} n h = tail-clear (blanks (n - 8)) (blank-split 8 (n - 8) n (omega arith)) (sym (add-zero S)) refl
 
 -- a chain that ends at N has turned once there are sectors below the head
 turn-open : {im : List ℕ} {a l : ℕ} {gap lost : List ℕ} {h : ℕ} {high : List Rec} → Straight im a l gap lost h high seg-none [] → Opens gap Next.Clear → 1 ≤ a →
@@ -157,10 +151,12 @@ module _ {im : Image} {a l : ℕ} {lost : List ℕ} {h : ℕ} {x y : Rec} {ys : 
     straight-full z =
         let u : Turned (run im (erases A (suc k))) (a + suc k) r (drop (4096 * suc k) q) (h + rsize x) [] seg-none (512 * (a + suc k)) (blanks (B + 4096 * suc k)) (y ∷ ys) exact =
         turn-open (subst (λ (m : List ℕ). Straight (run im (erases A (suc k))) (a + suc k) r (blanks (B + 4096 * suc k)) (drop (4096 * suc k) q) (h + rsize x) (y ∷ ys) seg-none m) z all-ff)
-        (open-ff (B + 4096 * suc k) [] (blanks (B + 4096 * suc k)) (sym (append-nil (blanks (B + 4096 * suc k)))) (omega arith)) (omega arith) in
+        (opens-blanks (B + 4096 * suc k) (omega arith)) (omega arith) in
         let v : (i : ℕ) → i ≤ k →
-        Turned (run im (take (suc i) (erases A (suc k)))) (a + suc k) r (drop (4096 * suc k) q) (h + rsize x) [] seg-none (512 * (a + suc k)) (blanks B ++ half-erased (suc i) (suc k) q) (y ∷ ys) exact =
-        λ i p. turn-open (subst (λ (m : List ℕ). Straight (run im (take (suc i) (erases A (suc k)))) (a + suc k) r (blanks B ++ half-erased (suc i) (suc k) q) (drop (4096 * suc k) q) (h + rsize x) (y ∷ ys) seg-none m) z (to-m3 s c k r all short i p))
+        Turned (run im (take (suc i) (erases A (suc k)))) (a + suc k) r (drop (4096 * suc k) q) (h + rsize x) [] seg-none (512 * (a + suc k)) (blanks B ++ half-erased (suc i) (suc k) q)
+        (y ∷ ys) exact =
+        λ i p. turn-open (subst (λ (m : List ℕ). Straight (run im (take (suc i) (erases A (suc k)))) (a + suc k) r (blanks B ++ half-erased (suc i) (suc k) q) (drop (4096 * suc k) q)
+        (h + rsize x) (y ∷ ys) seg-none m) z (to-m3 s c k r all short i p))
         (open-ff (B + 4096 * suc i) (rest i) (blanks B ++ half-erased (suc i) (suc k) q) (join-ff B (4096 * suc i) (rest i)) (omega arith)) (omega arith) in
         far A k 0 true (vacated-are (length im) h x y a l k r (s .at) (s .lost-small) all short) (omega arith) sectors-in
         (λ i p. vacant-at (laid-turned (v i p) refl refl (sym (append-nil (entries-of (h + rsize x) (y ∷ ys)))) refl) (B + 4096 * suc i) (rest i) (join-ff B (4096 * suc i) (rest i)) (omega arith))
@@ -173,20 +169,17 @@ module _ {im : Image} {a l : ℕ} {lost : List ℕ} {h : ℕ} {x y : Rec} {ys : 
     straight-far S e (tail-turn s₈ p i j m n o) = absurd (j refl)
 
   straight-leaves : (f : ℕ) → length (blanks F) ≡ 8 * f → Quiet f (blanks F) → (S : ℕ) → S ≡ h + sizes (x ∷ y ∷ ys) → Tail h S false seg-none (blanks B) (blanks F) S false → Leaves im X Y E
-  straight-leaves f lf qf S e t = go (ltb (l + rsize x / 8) 512) refl
-    where
-      go : (b : Bool) → ltb (l + rsize x / 8) 512 ≡ b → Leaves im X Y E
-      go true w =
-          let n : l + rsize x / 8 < 512 = ltb-true (l + rsize x / 8) 512 w in
-          let p : floor (h + rsize x) ≡ floor h = omega (arith, s .at, s .lost-small, rsize-words x) in
-          near (vacated-none (length im) X Y (λ z. omega arith) p) p (omega arith)
-      go false w =
-          let n : 512 ≤ l + rsize x / 8 = ltb-false (l + rsize x / 8) 512 w in
-          straight-far ((l + rsize x / 8) / 512 - 1) ((l + rsize x / 8) % 512) (omega arith) (omega arith) f lf qf S e t
+  straight-leaves f lf qf S e t =
+      by-sectors (l + rsize x / 8)
+      (λ n.
+      let p : floor (h + rsize x) ≡ floor h = omega (arith, s .at, s .lost-small, rsize-words x) in
+      near (vacated-none (length im) X Y (λ z. omega arith) p) p (omega arith))
+      (λ k r u v. straight-far k r u v f lf qf S e t)
 
 -- ---- turned, Y behind X
 
-module _ {im : Image} {a l : ℕ} {lost : List ℕ} {h : ℕ} {low : List Rec} {f : ℕ} {x y : Rec} {ys : List Rec} {end : End} (F : ℕ) (s : Turned im a l lost h low seg-none f (blanks F) (x ∷ y ∷ ys) end) (c : Cleaned x) where
+module _ {im : Image} {a l : ℕ} {lost : List ℕ} {h : ℕ} {low : List Rec} {f : ℕ} {x y : Rec} {ys : List Rec} {end : End} (F : ℕ)
+    (s : Turned im a l lost h low seg-none f (blanks F) (x ∷ y ∷ ys) end) (c : Cleaned x) where
   abbrev X₁ : Entry
   X₁ = record { at = h; it = x }
 
@@ -208,22 +201,18 @@ module _ {im : Image} {a l : ℕ} {lost : List ℕ} {h : ℕ} {low : List Rec} {
       subst (λ (m : List ℕ). Turned (run im (erases A (suc k))) (a + suc k) r (drop (4096 * suc k) q) (h + rsize x) low seg-none (f + 512 * suc k) m (y ∷ ys) end)
       (ap (λ (m : List ℕ). blanks F ++ m) (all-erased (suc k) q) ∙ replicate-append-replicate F (4096 * suc k) 255)
       (subst (λ (ss : List Step). Turned (run im ss) (a + suc k) r (drop (4096 * suc k) q) (h + rsize x) low seg-none (f + 512 * suc k) (blanks F ++ half-erased (suc k) (suc k) q) (y ∷ ys) end)
-      (take-erases A (suc k)) (turned-m3 s c k r all short k (omega arith))) in
+      (take-erases (suc k) (suc k) A (omega arith)) (turned-m3 s c k r all short k (omega arith))) in
       far A k (sizes low) true (vacated-are (length im) h x y a l k r (s .at) (s .lost-small) all short) (omega arith) (omega (arith, s .at, rsize-words x, turned-length s))
       (λ i e. vacant-at (laid-turned (turned-m3 s c k r all short i e) refl refl refl refl) (F + 4096 * suc i) (rest i) (join-ff F (4096 * suc i) (rest i)) (omega (arith, s .below, F-is)))
       (record { S = sizes low; B = 0; F = F + 4096 * suc k; t = true; laid = laid-turned last refl refl refl refl; tail = clear-ff (F + 4096 * suc k) (omega arith) })
 
   turned-leaves : Leaves im X₁ Y₁ E₁
-  turned-leaves = go (ltb (l + rsize x / 8) 512) refl
-    where
-      go : (b : Bool) → ltb (l + rsize x / 8) 512 ≡ b → Leaves im X₁ Y₁ E₁
-      go true e =
-          let n : l + rsize x / 8 < 512 = ltb-true (l + rsize x / 8) 512 e in
-          let p : floor (h + rsize x) ≡ floor h = omega (arith, s .at, s .lost-small, rsize-words x) in
-          near (vacated-none (length im) X₁ Y₁ (λ z. omega arith) p) p (omega arith)
-      go false e =
-          let n : 512 ≤ l + rsize x / 8 = ltb-false (l + rsize x / 8) 512 e in
-          turned-far ((l + rsize x / 8) / 512 - 1) ((l + rsize x / 8) % 512) (omega arith) (omega arith)
+  turned-leaves =
+      by-sectors (l + rsize x / 8)
+      (λ n.
+      let p : floor (h + rsize x) ≡ floor h = omega (arith, s .at, s .lost-small, rsize-words x) in
+      near (vacated-none (length im) X₁ Y₁ (λ z. omega arith) p) p (omega arith))
+      turned-far
 
 -- ---- turned, Y at 0
 
@@ -238,7 +227,8 @@ end-quiet (marker k) (suc e) p = let n : 8 * e ≡ k = omega (arith, length-repl
 body-is : (n c t : List ℕ) → body n c t ≡ body n c [] ++ t
 body-is n c t = simp append-assoc
 
-module _ {im : Image} {a l : ℕ} {lost : List ℕ} {h : ℕ} {y : Rec} {low : List Rec} {f : ℕ} {x : Rec} {end : End} (F : ℕ) (s : Turned im a l lost h (y ∷ low) seg-none f (blanks F) (x ∷ []) end) (c : Cleaned x)
+module _ {im : Image} {a l : ℕ} {lost : List ℕ} {h : ℕ} {y : Rec} {low : List Rec} {f : ℕ} {x : Rec} {end : End} (F : ℕ) (s : Turned im a l lost h (y ∷ low) seg-none f (blanks F) (x ∷ []) end)
+    (c : Cleaned x)
     (g : good-length (length im) ≡ true) where
   abbrev X₂ : Entry
   X₂ = record { at = h; it = x }
@@ -273,7 +263,8 @@ module _ {im : Image} {a l : ℕ} {lost : List ℕ} {h : ℕ} {y : Rec} {low : L
       let S : ℕ = 0 + sizes (y ∷ low) in
       let rest : ℕ → List ℕ = λ i. take (4096 * (suc k - suc i)) (drop (4096 * suc i) q) in
       let long : (i : ℕ) → i ≤ k → length (blanks F ++ half-erased (suc i) (suc k) q) ≡ 8 * (f + 512 * suc k) =
-      λ i p. length-append (blanks F) (half-erased (suc i) (suc k) q) ∙ omega (arith, half-erased-length (suc i) (suc k) q (omega arith) (omega (arith, behind-length k n)), length-replicate {A = ℕ} F 255, F₂) in
+      λ i p. length-append (blanks F) (half-erased (suc i) (suc k) q)
+      ∙ omega (arith, half-erased-length (suc i) (suc k) q (omega arith) (omega (arith, behind-length k n)), length-replicate {A = ℕ} F 255, F₂) in
       let laid : (i : ℕ) → i ≤ k → Laid (run im (take (suc i) (erases A (suc k)))) 0 S false (Y₂ ∷ E₂) seg-none [] (blanks F ++ half-erased (suc i) (suc k) q) =
       λ i p. laid-straight (f + 512 * suc k) (zero-m3 s k n b i p) refl refl refl (long i p) (zero-quiet s k n b i p) in
       far A k S false (vacated-all (length im) X₂ Y₂ a k refl (omega (arith, s .at, s .lost-small)) n) (omega arith) (omega arith)
@@ -283,8 +274,11 @@ module _ {im : Image} {a l : ℕ} {lost : List ℕ} {h : ℕ} {y : Rec} {low : L
         B = 0;
         F = F + 4096 * suc k;
         t = false;
-        laid = subst (λ (m : List ℕ). Laid (run im (erases A (suc k))) 0 S false (Y₂ ∷ E₂) seg-none [] m) (ap (λ (m : List ℕ). blanks F ++ m) (all-erased (suc k) q) ∙ replicate-append-replicate F (4096 * suc k) 255)
-            (subst (λ (ss : List Step). Laid (run im ss) 0 S false (Y₂ ∷ E₂) seg-none [] (blanks F ++ half-erased (suc k) (suc k) q)) (take-erases A (suc k)) (laid k (omega arith)));
+        laid =
+            subst (λ (m : List ℕ). Laid (run im (erases A (suc k))) 0 S false (Y₂ ∷ E₂) seg-none [] m)
+            (ap (λ (m : List ℕ). blanks F ++ m) (all-erased (suc k) q) ∙ replicate-append-replicate F (4096 * suc k) 255)
+            (subst (λ (ss : List Step). Laid (run im ss) 0 S false (Y₂ ∷ E₂) seg-none [] (blanks F ++ half-erased (suc k) (suc k) q)) (take-erases (suc k) (suc k) A (omega arith))
+            (laid k (omega arith)));
         tail = clear-ff (F + 4096 * suc k) (omega arith);
       })
 
@@ -298,6 +292,7 @@ Leaving im [] = Unit {0}
 Leaving im (x ∷ []) = Unit {0}
 Leaving im (x ∷ (y ∷ es)) = Cleaned (x .it) → Leaves im x y es
 
+-- every laid image with a cleaned head X and Y behind it
 pub leaves : {im : Image} {h S : ℕ} (B F : ℕ) {t : Bool} {x y : Entry} {es : List Entry} → good-length (length im) ≡ true → Laid im h S t (x ∷ y ∷ es) seg-none (blanks B) (blanks F) →
     Tail h S t seg-none (blanks B) (blanks F) S t → Cleaned (x .it) → Leaves im x y es
 leaves {im} {h} {S} B F {t} {x} {y} {es} g (laid-straight {a} {l} {lost} {x = x₀} {ys} f s t₁ S₁ e₁ lf qf) tl = go ys s S₁ e₁

@@ -1,58 +1,80 @@
 -- Step (f) of a move on a laid image: X is forgotten in its own sector, and the head is Y.
-use Prim.Native.Nat.{ℕ, suc, _+_, _-_, _*_, _/_, _<_}
+use Prim.Native.Nat.{ℕ, _+_, _*_, _/_, _<_, suc, _-_}
 use native.Mathlib.Omega.{arith}
 use mathlib.Core.Path.{_≡_, refl, sym, ap, _∙_, subst}
 use mathlib.Core.Bool.{Bool}
 use mathlib.Core.List.{List, [], _∷_, _++_, append-assoc}
-use lib.ListN.{length, drop, set, length-append}
+use lib.ListN.{length, set, length-append, drop, getD}
 use Rattle.spec.specs.Step.{Image}
 use Rattle.spec.specs.Geometry.{floor}
 use Rattle.spec.specs.Record.{Rec, Entry}
-use Rattle.history.specs.Lay.{onto, lay, rsize, sizes, entries-of, lay-is, length-lay, length-body}
-use Rattle.history.specs.Walk.{Quiet}
+use native.Mathlib.Nat.{add-zero}
+use Rattle.history.specs.Lay.{onto, lay, rsize, sizes, entries-of, lay-is, length-body, body, lens}
 use Rattle.history.specs.Quiet.{quiet-append, mark-second}
 use Rattle.history.specs.Steps.{set-past}
-use Rattle.history.specs.Seg.{Seg, seg-onto, seg-append, length-seg}
+use Rattle.history.specs.Seg.{Seg, seg-onto}
 use Rattle.history.specs.Straight.{Straight}
 use Rattle.history.specs.StraightErase.{Cleaned, rsize-words}
 use Rattle.history.specs.Turned.{Turned, End, end-bytes}
-use Rattle.history.specs.Forget.{forgotten, forget}
 use Rattle.history.specs.Laid.{Laid, laid-straight, laid-turned}
+use Rattle.history.specs.Walk.{Quiet}
+use Rattle.history.specs.TurnedLaid.{high-front, high-front-is, high-front-length}
 
-left-quiet : (x : Rec) → Cleaned x → Quiet (rsize x / 8) (forgotten x)
-left-quiet x c =
+-- X with its second byte 00
+abbrev forgotten : Rec → List ℕ
+forgotten x = x .low ∷ 0 ∷ x .status ∷ 255 ∷ lens (length (x .content)) (body (x .name) (x .content) [])
+
+forgotten-quiet : (x : Rec) → Cleaned x → Quiet (rsize x / 8) (forgotten x)
+forgotten-quiet x c =
     let n : suc (rsize x / 8 - 1) ≡ rsize x / 8 = omega arith in
     subst (λ (m : ℕ). Quiet m (forgotten x)) n (mark-second (x .low) (drop 2 (forgotten x)), c)
 
--- all that stands before the head, and something behind it
-pub before-head : (low : List Rec) (seg : Seg) (free lost t : List ℕ) → lay low (seg-onto seg (free ++ lost)) ++ t ≡ lay low (seg-onto seg (free ++ (lost ++ t)))
-before-head low seg free lost t =
-    ap (λ (m : List ℕ). m ++ t) (lay-is low (seg-onto seg (free ++ lost))) ∙ append-assoc (lay low []) (seg-onto seg (free ++ lost)) t ∙ sym (lay-is low (seg-onto seg (free ++ lost) ++ t))
-    ∙ ap (lay low) (sym (seg-append seg (free ++ lost) t) ∙ ap (seg-onto seg) (append-assoc free lost t))
+-- (f): the head's second byte to 00, Y in the head's sector
+module _ {im : List ℕ} {a l : ℕ} {gap lost : List ℕ} {h : ℕ} {x y : Rec} {ys : List Rec} {seg : Seg} {free : List ℕ} (s : Straight im a l gap lost h (x ∷ y ∷ ys) seg free) (c : Cleaned x)
+    (near : l + rsize x / 8 < 512) where
+  forget : Straight (set im (h + 1) 0) a (l + rsize x / 8) gap (lost ++ forgotten x) (h + rsize x) (y ∷ ys) seg free
+  forget =
+      let R : List ℕ = lay (y ∷ ys) (seg-onto seg free) in
+      let G : List ℕ = gap ++ lost in
+      let lg : length G ≡ h = length-append gap lost ∙ omega (arith, s .gap-length, s .lost-length, s .at) in
+      let e₁ : im ≡ G ++ onto x R = s .is ∙ sym (append-assoc gap lost (onto x R)) in
+      let e₂ : set (G ++ onto x R) (h + 1) 0 ≡ G ++ set (onto x R) 1 0 = ap (λ (n : ℕ). set (G ++ onto x R) (n + 1) 0) (sym lg) ∙ set-past G (onto x R) 1 0 in
+      let e₃ : set (onto x R) 1 0 ≡ forgotten x ++ R = ap (λ (l : List ℕ). set l 1 0) (lay-is (x ∷ []) R) in
+      let lf : length (forgotten x) ≡ 8 * (rsize x / 8) = omega (arith, length-body (x .name) (x .content) [], rsize-words x) in
+      record {
+        is = ap (λ (l : List ℕ). set l (h + 1) 0) e₁ ∙ e₂ ∙ ap (λ (l : List ℕ). G ++ l) e₃ ∙ append-assoc gap lost (forgotten x ++ R)
+            ∙ ap (λ (l : List ℕ). gap ++ l) (sym (append-assoc lost (forgotten x) R));
+        at = omega (arith, s .at, rsize-words x);
+        gap-length = s .gap-length;
+        gap-quiet = s .gap-quiet;
+        lost-length = length-append lost (forgotten x) ∙ omega (arith, s .lost-length, lf);
+        lost-small = near;
+        lost-quiet = quiet-append l (rsize x / 8) lost (forgotten x) (s .lost-length) (s .lost-quiet) (forgotten-quiet x c);
+        front = fronted gap lost a l (s .gap-length) (s .lost-length) (s .front);
+        fine = s .fine .1;
+      }
+    where
+      fronted : (gap lost : List ℕ) (a l : ℕ) → length gap ≡ 4096 * a → length lost ≡ 8 * l → (getD (gap ++ lost) 1 0 ≡ 90 → ⊥) → getD (gap ++ (lost ++ forgotten x)) 1 0 ≡ 90 → ⊥
+      fronted [] [] a l p q f = f
+      fronted [] (u ∷ []) a l p q f = absurd (omega arith)
+      fronted [] (u ∷ v ∷ w) a l p q f = f
+      fronted (u ∷ []) lost a l p q f = absurd (omega arith)
+      fronted (u ∷ v ∷ w) lost a l p q f = f
 
-pub before-length : {im : List ℕ} {a l : ℕ} {lost : List ℕ} {h : ℕ} {low : List Rec} {seg : Seg} {f : ℕ} {free : List ℕ} {high : List Rec} {end : End} → Turned im a l lost h low seg f free high end →
-    length (lay low (seg-onto seg (free ++ lost))) ≡ h
-before-length {lost = lost} {low = low} {seg} {free = free} s =
-    length-lay low (seg-onto seg (free ++ lost)) ∙ omega (arith, length-seg seg (free ++ lost), length-append free lost, s .free-length, s .lost-length, s .below, s .at)
-
-pub turned-length : {im : List ℕ} {a l : ℕ} {lost : List ℕ} {h : ℕ} {low : List Rec} {seg : Seg} {f : ℕ} {free : List ℕ} {high : List Rec} {end : End} → Turned im a l lost h low seg f free high end →
-    length im ≡ h + (sizes high + length (end-bytes end))
-turned-length {lost = lost} {low = low} {seg} {free = free} {high} {end} s =
-    ap length (s .is ∙ sym (before-head low seg free lost (lay high (end-bytes end)))) ∙ length-append (lay low (seg-onto seg (free ++ lost))) (lay high (end-bytes end))
-    ∙ omega (arith, before-length s, length-lay high (end-bytes end))
-
-module _ {im : List ℕ} {a l : ℕ} {lost : List ℕ} {h : ℕ} {low : List Rec} {seg : Seg} {f : ℕ} {free : List ℕ} {x y : Rec} {ys : List Rec} {end : End} (s : Turned im a l lost h low seg f free (x ∷ y ∷ ys) end)
+module _ {im : List ℕ} {a l : ℕ} {lost : List ℕ} {h : ℕ} {low : List Rec} {seg : Seg} {f : ℕ} {free : List ℕ} {x y : Rec} {ys : List Rec} {end : End}
+    (s : Turned im a l lost h low seg f free (x ∷ y ∷ ys) end)
     (c : Cleaned x) (near : l + rsize x / 8 < 512) where
   forget-turned : Turned (set im (h + 1) 0) a (l + rsize x / 8) (lost ++ forgotten x) (h + rsize x) low seg f free (y ∷ ys) end
   forget-turned =
       let R : List ℕ = lay (y ∷ ys) (end-bytes end) in
-      let G : List ℕ = lay low (seg-onto seg (free ++ lost)) in
-      let e₁ : im ≡ G ++ onto x R = s .is ∙ sym (before-head low seg free lost (onto x R)) in
-      let e₂ : set (G ++ onto x R) (h + 1) 0 ≡ G ++ set (onto x R) 1 0 = ap (λ (n : ℕ). set (G ++ onto x R) (n + 1) 0) (sym (before-length s)) ∙ set-past G (onto x R) 1 0 in
+      let G : List ℕ = high-front s [] in
+      let lg : length G ≡ h = high-front-length s [] ∙ add-zero h in
+      let e₁ : im ≡ G ++ onto x R = s .is ∙ sym (high-front-is s [] (onto x R)) in
+      let e₂ : set (G ++ onto x R) (h + 1) 0 ≡ G ++ set (onto x R) 1 0 = ap (λ (n : ℕ). set (G ++ onto x R) (n + 1) 0) (sym lg) ∙ set-past G (onto x R) 1 0 in
       let e₃ : set (onto x R) 1 0 ≡ forgotten x ++ R = ap (λ (l : List ℕ). set l 1 0) (lay-is (x ∷ []) R) in
       let lf : length (forgotten x) ≡ 8 * (rsize x / 8) = omega (arith, length-body (x .name) (x .content) [], rsize-words x) in
       record {
-        is = ap (λ (l : List ℕ). set l (h + 1) 0) e₁ ∙ e₂ ∙ ap (λ (l : List ℕ). G ++ l) e₃ ∙ before-head low seg free lost (forgotten x ++ R)
+        is = ap (λ (l : List ℕ). set l (h + 1) 0) e₁ ∙ e₂ ∙ ap (λ (l : List ℕ). G ++ l) e₃ ∙ high-front-is s [] (forgotten x ++ R)
             ∙ ap (λ (l : List ℕ). lay low (seg-onto seg (free ++ l))) (sym (append-assoc lost (forgotten x) R));
         at = omega (arith, s .at, rsize-words x);
         some-below = s .some-below;
@@ -63,7 +85,7 @@ module _ {im : List ℕ} {a l : ℕ} {lost : List ℕ} {h : ℕ} {low : List Rec
         opens = s .opens;
         lost-length = length-append lost (forgotten x) ∙ omega (arith, s .lost-length, lf);
         lost-small = near;
-        lost-quiet = quiet-append l (rsize x / 8) lost (forgotten x) (s .lost-length) (s .lost-quiet) (left-quiet x c);
+        lost-quiet = quiet-append l (rsize x / 8) lost (forgotten x) (s .lost-length) (s .lost-quiet) (forgotten-quiet x c);
         fine-low = s .fine-low;
         walked = s .walked;
         fine-high = s .fine-high .1;
@@ -75,6 +97,7 @@ Forgets im h S t seg below free [] = Unit {0}
 Forgets im h S t seg below free (x ∷ []) = Unit {0}
 Forgets im h S t seg below free (x ∷ (y ∷ es)) = Cleaned (x .it) → floor (y .at) ≡ floor h → Laid (set im (x .at + 1) 0) (y .at) S t (y ∷ es) seg below free
 
+-- step (f) on a laid image
 pub forget-laid : {im : Image} {h S : ℕ} {t : Bool} {x y : Entry} {es : List Entry} {seg : Seg} {below free : List ℕ} → Laid im h S t (x ∷ y ∷ es) seg below free → Cleaned (x .it) →
     floor (y .at) ≡ floor h → Laid (set im (x .at + 1) 0) (y .at) S t (y ∷ es) seg below free
 forget-laid {im} {h} {S} {t} {x} {y} {es} {seg} {below} {free} (laid-straight {a} {l} {lost} {x = x₀} {ys} f s t₁ S₁ es₁ lf qf) = go ys s S₁ es₁
@@ -85,7 +108,8 @@ forget-laid {im} {h} {S} {t} {x} {y} {es} {seg} {below} {free} (laid-straight {a
         subst (Forgets im h S t seg below free) (sym e) (λ c n. laid-straight f (forget s c (omega (arith, n, s .at, s .lost-small, rsize-words x₀))) t₁ (omega arith) refl lf qf)
 forget-laid {im} {h} {S} {t} {x} {y} {es} {seg} {below} {free} (laid-turned {a} {l} {f} {lost} {low} {x = x₀} {ys} {end} s t₁ S₁ es₁ b) = go ys low s S₁ es₁
   where
-    go : (ys low : List Rec) → Turned im a l lost h low seg f free (x₀ ∷ ys) end → S ≡ sizes low → x ∷ y ∷ es ≡ entries-of h (x₀ ∷ ys) ++ entries-of 0 low → Forgets im h S t seg below free (x ∷ y ∷ es)
+    go : (ys low : List Rec) → Turned im a l lost h low seg f free (x₀ ∷ ys) end → S ≡ sizes low → x ∷ y ∷ es ≡ entries-of h (x₀ ∷ ys) ++ entries-of 0 low →
+        Forgets im h S t seg below free (x ∷ y ∷ es)
     go [] [] s S₁ e = let z : _≡_ {A = ℕ} 0 1 = cc in absurd (omega arith)
     go [] (r ∷ low) s S₁ e = subst (Forgets im h S t seg below free) (sym e) (λ c n. absurd (omega (arith, n, s .at, s .lost-small, s .some-below)))
     go (y₀ ∷ ys) low s S₁ e =

@@ -3,7 +3,7 @@ use Prim.Native.Nat.{ℕ, zero, suc, _+_, _-_, _*_, _/_, _%_, _≤_}
 use native.Mathlib.Omega.{arith}
 use mathlib.Core.Path.{_≡_, refl, sym, ap, ap₂, _∙_, subst, subst₂}
 use mathlib.Core.Bool.{Bool, true, false}
-use mathlib.Core.List.{List, [], _∷_, _++_, append-assoc, append-nil, map, map-append}
+use mathlib.Core.List.{List, [], _∷_, _++_, append-assoc, map, map-append}
 use lib.ListN.{length, take, drop, getD, length-append, length-drop, length-replicate, take-append-drop}
 use lib.Seq.{take-take}
 use Rattle.spec.specs.declared.Next.{Next}
@@ -18,15 +18,17 @@ use Rattle.history.specs.Walk.{Quiet}
 use Rattle.history.specs.Seg.{seg-none, seg-onto}
 use Rattle.history.specs.Erase.{sectors-are}
 use Rattle.history.specs.Steps.{run-append}
-use Rattle.history.specs.Lists.{keep-append}
+use Rattle.history.specs.Lists.{keep-append, none-at}
 use Rattle.history.specs.Repair.{mend-steps, mend-done}
 use Rattle.history.specs.Safe.{Safe, safe-map}
-use Rattle.history.specs.Laid.{Laid, laid-straight, laid-turned, Hole, Tail, tail-clear, tail-floor, tail-N, tail-turn}
+use Rattle.history.specs.Laid.{Laid, laid-straight, laid-turned, Hole, Tail, tail-clear, tail-floor, tail-N, tail-turn, Bare, clear-ff}
 use Rattle.history.specs.Kinds.{place}
-use Rattle.history.specs.LaidEdit.{laid-below, hole-of}
-use Rattle.history.specs.Vacant.{take-blanks, good-mod, limit-is, Vacant, vacant-long, vacant-of, vacant-tail, vacant-blank, Bare}
-use Rattle.history.specs.LaidErase.{no-map, join-ff, open-ff, clear-ff}
-use Rattle.history.specs.EraseFree.{quiet-ff, Mid, free-quiet, erase-safe}
+use Rattle.history.specs.LaidEdit.{laid-below, hole-of, free-quiet}
+use Rattle.history.specs.Vacant.{take-blanks, good-mod, limit-is, Vacant, vacant-long, vacant-of, vacant-tail, vacant-blank}
+use Rattle.history.specs.LaidErase.{no-map, join-ff}
+use Rattle.history.specs.EraseFree.{Mid, erase-safe}
+use Rattle.history.specs.Quiet.{quiet-ff}
+use Rattle.history.specs.Turned.{opens-blanks}
 
 -- ---- all the erases: FF
 
@@ -45,7 +47,8 @@ low-done {im} {h} {S} {es} {below} {free} (laid-straight {a} {l} {lost} {x} {ys}
     let w : B ≡ 8 * (512 * a) = omega arith in
     laid-straight {x = x} {ys = ys} f
     (record {
-      is = ap (λ (i : Image). run i (mend-steps im B 0 B)) (s .is) ∙ mend-done a B 0 B [] [] below Z refl refl (s .gap-length) (omega arith) (omega arith) im (s .is) ∙ ap (λ (m : ℕ). blanks m ++ Z) (sym b);
+      is = ap (λ (i : Image). run i (mend-steps im B 0 B)) (s .is) ∙ mend-done a B 0 B [] [] below Z refl refl (s .gap-length) (omega arith) (omega arith) im (s .is)
+          ∙ ap (λ (m : ℕ). blanks m ++ Z) (sym b);
       at = s .at;
       gap-length = length-replicate {A = ℕ} B 255 ∙ b;
       gap-quiet = quiet-ff (512 * a) (blanks B) (ap blanks w);
@@ -76,20 +79,17 @@ high-done {im} {h} {S} {t} {es} {below} {free} d im₀ pre₀ i₀ l₀ c k lim 
     let n : c + 4096 * k ≡ F = omega arith in
     let e : run im (mend-steps im₀ lim (ceiling S) lim) ≡ K .pre ++ (blanks F ++ K .post) =
     ap (λ (i : Image). run i (mend-steps im₀ lim (ceiling S) lim)) (K .is ∙ opened-up (K .pre) (K .post) free c cb)
-    ∙ mend-done k lim (ceiling S) lim (pre₀ ++ blanks c) (K .pre ++ blanks c) (drop c free) (K .post) (length-append pre₀ (blanks c) ∙ omega arith) (length-append (K .pre) (blanks c) ∙ omega (arith, K .at))
+    ∙ mend-done k lim (ceiling S) lim (pre₀ ++ blanks c) (K .pre ++ blanks c) (drop c free) (K .post) (length-append pre₀ (blanks c) ∙ omega arith)
+    (length-append (K .pre) (blanks c) ∙ omega (arith, K .at))
     (length-drop c free ∙ omega arith) kl (omega arith) im₀ (i₀ ∙ opened-up pre₀ (K .post) free c cb)
     ∙ append-assoc (K .pre) (blanks c) (blanks (4096 * k) ++ K .post) ∙ ap (λ (l : List ℕ). K .pre ++ l) (join-ff c (4096 * k) (K .post) ∙ ap (λ (m : ℕ). blanks m ++ K .post) n) in
     let lF : length (blanks F) ≡ F = length-replicate {A = ℕ} F 255 in
     subst (λ (i : Image). Laid i h S t es seg-none below (blanks F)) (sym e)
-    (K .plug seg-none (f .0) (blanks F) Next.Clear (lF ∙ f .1) (quiet-ff (f .0) (blanks F) (ap blanks (f .1))) (open-ff F [] (blanks F) (sym (append-nil (blanks F))) e₈) (ap (λ (m : ℕ). 0 + m) lF))
+    (K .plug seg-none (f .0) (blanks F) Next.Clear (lF ∙ f .1) (quiet-ff (f .0) (blanks F) (ap blanks (f .1))) (opens-blanks F e₈) (ap (λ (m : ℕ). 0 + m) lF))
 
 turned-below : {im : Image} {h S : ℕ} {es : List Entry} {below free : List ℕ} → Laid im h S true es seg-none below free → below ≡ []
 turned-below (laid-straight f s t₁ S₁ e₁ lf qf) = let n : _≡_ {A = ℕ} 0 1 = cc in absurd (omega arith)
 turned-below (laid-turned s t₁ S₁ e₁ b) = b
-
-none-at : (s : List ℕ) → length s ≡ 0 → s ≡ []
-none-at [] e = refl
-none-at (x ∷ s) e = absurd (omega arith)
 
 post-none : {im : Image} {h S : ℕ} {es : List Entry} {below free : List ℕ} (d : Laid im h S false es seg-none below free) → hole-of d .post ≡ []
 post-none {im} {h} {S} {es} {below} {free} d =
@@ -98,7 +98,7 @@ post-none {im} {h} {S} {es} {below} {free} d =
     none-at (K .post) (omega (arith, ap length (K .is), length-append (K .pre) (free ++ K .post), length-append free (K .post), K .at))
 
 module _ {im : Image} {h S : ℕ} {es : List Entry} (g : length im % 4096 ≡ 0) where
-  pub vacant-bare : (t : Bool) → Vacant h S t es im → Bare h es (run im (erase-steps im (place im h S t)))
+  vacant-bare : (t : Bool) → Vacant h S t es im → Bare h es (run im (erase-steps im (place im h S t)))
   unfolding erase-steps free-sectors
   vacant-bare true v =
       let L : floor h ≡ S + length (v .free) = limit-is (v .laid) in
@@ -112,7 +112,8 @@ module _ {im : Image} {h S : ℕ} {es : List Entry} (g : length im % 4096 ≡ 0)
         F = length (v .free);
         t = true;
         laid = subst (λ (b : List ℕ). Laid (run im (mend-steps im (floor h) (ceiling S) (floor h))) h S true es seg-none b (blanks (length (v .free)))) (turned-below (v .laid))
-            (high-done (v .laid) im (K .pre) (K .is) (K .at) c k (floor h) (omega arith) (omega (arith, v .own, v .whole)) e (omega (arith, v .own, v .whole)) (sym L) (omega (arith, vacant-long v, v .whole)));
+            (high-done (v .laid) im (K .pre) (K .is) (K .at) c k (floor h) (omega arith) (omega (arith, v .own, v .whole)) e (omega (arith, v .own, v .whole)) (sym L)
+            (omega (arith, vacant-long v, v .whole)));
         tail = clear-ff (length (v .free)) (omega (arith, vacant-long v, v .whole));
       }
   vacant-bare false v =
@@ -162,6 +163,7 @@ full-below {below = below} false d z = none-at below (laid-below d refl ∙ z re
 
 -- ---- repair 1
 
+-- the image on the way: the head CLEAN, the sector of T FF
 pub record Vacates (N h S : ℕ) (t : Bool) (es : List Entry) (im : Image) : Type 0 where
   pub len : length im ≡ N
   pub below : List ℕ
@@ -170,11 +172,14 @@ pub record Vacates (N h S : ℕ) (t : Bool) (es : List Entry) (im : Image) : Typ
   pub tail : Tail h S t seg-none below free S t
   pub blank : tail-blank im (place im h S t) ≡ true
 
+-- repair 1, cut anywhere and at the end
 pub record Repaired (im : Image) (h S : ℕ) (t : Bool) (es : List Entry) : Type 0 where
   pub safe : Safe (Vacates (length im) h S t es) im (erase-steps im (place im h S t))
   pub bare : Bare h es (run im (erase-steps im (place im h S t)))
 
-pub repair-laid : {im : Image} {h S : ℕ} {t : Bool} {es : List Entry} {below free : List ℕ} → good-length (length im) ≡ true → Laid im h S t es seg-none below free → Tail h S t seg-none below free S t →
+-- repair 1 on a laid image
+pub repair-laid : {im : Image} {h S : ℕ} {t : Bool} {es : List Entry} {below free : List ℕ} → good-length (length im) ≡ true → Laid im h S t es seg-none below free →
+    Tail h S t seg-none below free S t →
     tail-blank im (place im h S t) ≡ true → Repaired im h S t es
 repair-laid {im} {h} {S} {t} {es} {below} {free} g d e b = go e
   where
@@ -192,7 +197,8 @@ repair-laid {im} {h} {S} {t} {es} {below} {free} g d e b = go e
         let lim : ℕ = limit (place im h S t) in
         record {
           safe = safe-map (Mid (length im) h S lim t es) (Vacates (length im) h S t es)
-              (λ i w. record { len = w .len; below = w .vac .below; free = w .vac .free; laid = w .vac .laid; tail = vacant-tail (w .vac); blank = vacant-blank (w .vac) }) im (erase-steps im (place im h S t))
+              (λ i w. record { len = w .len; below = w .vac .below; free = w .vac .free; laid = w .vac .laid; tail = vacant-tail (w .vac); blank = vacant-blank (w .vac) }) im
+              (erase-steps im (place im h S t))
               (erase-safe g (record { len = refl; vac = v; ends = sym (limit-is (v .laid)) }));
           bare = vacant-bare (good-mod (length im) g) t v;
         }

@@ -1,34 +1,33 @@
 -- Every laid image is read: the head is found, and the chain from it gives the records.
-use Prim.Native.Nat.{ℕ, zero, suc, _+_, _*_, _≤_, _<_}
+use Prim.Native.Nat.{ℕ, suc, _+_, _≤_}
 use native.Mathlib.Omega.{arith}
 use mathlib.Core.Path.{_≡_, refl, sym, ap, ap₂, _∙_, subst}
 use mathlib.Core.Bool.{Bool, true, false, _||_}
 use mathlib.Core.List.{List, [], _∷_, _++_, append-assoc, append-nil}
-use lib.ListN.{length, length-replicate, length-append}
+use lib.ListN.{length}
 use lib.Dec.{eqb}
 use borrow.Author.Tests.{eqb-true, eqb-false}
 use Rattle.spec.specs.declared.Next.{Next}
 use Rattle.spec.specs.declared.Ending.{Ending}
 use Rattle.spec.specs.Step.{Image}
-use Rattle.spec.specs.Basics.{Answer, refuse, give, blank, part, Each}
+use Rattle.spec.specs.Basics.{give, blank, part, Each}
 use Rattle.spec.specs.Geometry.{floor}
 use Rattle.spec.specs.Bytes.{is-start, is-clean}
 use Rattle.spec.specs.Record.{Rec, Entry, clean-here}
 use Rattle.spec.specs.Head.{head}
-use Rattle.spec.specs.Chain.{Reading, chain, read, reading-from}
-use Rattle.spec.specs.Reading.{blank-part, free-blank, tail-blank, free-ok, head-clean, marked, reading}
-use Rattle.history.specs.Lay.{blanks, onto, lay, rsize, sizes, entries-of, Low, low-record, low-start, low-clean, Fine, All-fine}
+use Rattle.spec.specs.Chain.{chain, read, reading-from}
+use Rattle.spec.specs.Reading.{blank-part, free-blank, tail-blank, free-ok, reading}
+use Rattle.history.specs.Lay.{blanks, lay, rsize, sizes, entries-of, Low, low-record, low-start, low-clean, All-fine}
 use Rattle.history.specs.Last.{Ends, stops-clear, stops-over, blank-blanks}
-use Rattle.history.specs.Walk.{Quiet, Walks, walks-record, walks-clean, Walked}
+use Rattle.history.specs.Walk.{Walks, walks-record, walks-clean, Walked}
 use Rattle.history.specs.Shape.{chain-of, shape-full, shape-last, low-clear}
-use Rattle.history.specs.Quiet.{blank-split}
 use Rattle.history.specs.Seg.{Seg, seg-none, seg-torn, seg-cut, seg-held, seg-onto, seg-size, seg-entries, seg-open, seg-ends}
-use Rattle.history.specs.Straight.{Straight, bottom, straight-start, straight-clean, straight-zero, straight-none, straight-reading}
-use Rattle.history.specs.Turned.{Turned, Opens, opens-ff, opens-none, End, end-bytes, turned-start, turned-clean, turned-reading}
+use Rattle.history.specs.Straight.{Straight, bottom, straight-clean, straight-none, straight-reading}
+use Rattle.history.specs.Turned.{Opens, opens-ff, opens-none, turned-start, turned-clean, turned-reading}
 use Rattle.history.specs.Legal.{Ruled, reading-by}
 use Rattle.history.specs.Whole.{started, gap-part, free-part, free₁, below, here, is-clean-0, is-clean-A0}
 use Rattle.history.specs.Laid.{Laid, laid-straight, laid-turned, Tail, tail-clear, tail-floor, tail-N, tail-turn}
-use Rattle.history.specs.Lists.{each-right}
+use Rattle.history.specs.Lists.{each-right, not-both, cons-rest, cons-first}
 use Rattle.history.specs.Store.{Unmarked}
 use Rattle.history.specs.Kinds.{place}
 
@@ -37,15 +36,8 @@ use Rattle.history.specs.Kinds.{place}
 read-same : {N h T T₁ : ℕ} {u u₁ : Bool} {es es₁ : List Entry} → T ≡ T₁ → u ≡ u₁ → es ≡ es₁ → read N h T u es Ending.Tail ≡ read N h T₁ u₁ es₁ Ending.Tail
 read-same p q r = cc
 
-never : (b : Bool) → b ≡ true → b ≡ false → ⊥
-never b p q = let z : _≡_ {A = ℕ} 0 1 = cc in omega arith
-
-blanks-empty : (F : ℕ) → blanks F ≡ [] → F ≡ 0
-blanks-empty zero e = refl
-blanks-empty (suc F) e = absurd (let z : _≡_ {A = ℕ} 0 1 = cc in omega arith)
-
 -- something is open at S, unless nothing is
-pub open-or : (g : Seg) → (g ≡ seg-none → ⊥) → seg-open g ≡ true
+open-or : (g : Seg) → (g ≡ seg-none → ⊥) → seg-open g ≡ true
 open-or seg-none n = absurd (n refl)
 open-or (seg-torn c x y z w t b m) n = refl
 open-or (seg-cut d n f) m = refl
@@ -58,22 +50,19 @@ low-plain low-record h = refl
 low-plain low-start h = absurd (let z : _≡_ {A = ℕ} 0 1 = cc in omega arith)
 low-plain low-clean h = absurd (let z : _≡_ {A = ℕ} 0 1 = cc in omega arith)
 
-pub walked-plain : (rs : List Rec) (at : ℕ) → All-fine rs → Each Unmarked (entries-of at rs) → Walked at rs
+walked-plain : (rs : List Rec) (at : ℕ) → All-fine rs → Each Unmarked (entries-of at rs) → Walked at rs
 walked-plain [] at f m = tt
 walked-plain (r ∷ rs) at f m = (subst (Walks at) (sym (low-plain (f .0 .low-ok) (m .0))) walks-record, walked-plain rs (at + rsize r) (f .1) (m .1))
 
 -- the first entry's low byte is its record's
 first-low : {h b : ℕ} {x : Entry} {es fs : List Entry} {r : Rec} → x ∷ es ≡ record { at = h; it = r } ∷ fs → x .it .low ≡ b → r .low ≡ b
-first-low {h} {x = x} {r = r} e l = let p : x ≡ record { at = h; it = r } = cc in sym (ap (λ (y : Entry). y .it .low) p) ∙ l
-
-rest-same : {x y : Entry} {es fs : List Entry} → x ∷ es ≡ y ∷ fs → es ≡ fs
-rest-same e = cc
+first-low e l = sym (ap (λ (y : Entry). y .it .low) (cons-first e)) ∙ l
 
 tail-turned : {h S : ℕ} {t : Bool} {seg : Seg} {under free : List ℕ} {T : ℕ} {u : Bool} → t ≡ true → Tail h S t seg under free T u → (T ≡ S + seg-size seg) × (u ≡ true)
 tail-turned e (tail-clear w ef eT eu) = (eT, eu ∙ e)
 tail-turned e (tail-floor ef e₁ eT eu) = (eT, eu)
-tail-turned {t = t} e (tail-N ef e₁ z eT eu) = absurd (never t e e₁)
-tail-turned {t = t} e (tail-turn w ef e₁ n eb eT eu) = absurd (never t e e₁)
+tail-turned {t = t} e (tail-N ef e₁ z eT eu) = absurd (not-both t e₁ e)
+tail-turned {t = t} e (tail-turn w ef e₁ n eb eT eu) = absurd (not-both t e₁ e)
 
 -- ---- the chain from the head
 
@@ -86,7 +75,7 @@ module _ {im : Image} {h S : ℕ} {t : Bool} {es : List Entry} {seg : Seg} {unde
       (seg-ends Next.Clear (h + sizes (x ∷ ys)) seg free
       (λ o k. ap (chain (suc k) o (h + sizes (x ∷ ys) + seg-size seg)) ef ∙ stops-clear (h + sizes (x ∷ ys) + seg-size seg) w o k))
       ∙ read-same (sym (eT ∙ ap (λ (n : ℕ). n + seg-size seg) eS)) (sym (eu ∙ et)) (sym (ap₂ (λ (m : List Entry) (n : ℕ). m ++ seg-entries n seg) ee eS))
-  straight-reads s et eS ee (tail-floor ef e₁ eT eu) = absurd (never t e₁ et)
+  straight-reads s et eS ee (tail-floor ef e₁ eT eu) = absurd (not-both t et e₁)
   straight-reads {a} {l} {lost} {x} {ys} {T} {u} s et eS ee (tail-N ef e₁ z eT eu) =
       rw (s .is)
       (shape-full [] (x ∷ ys) under lost (seg-onto seg free) h (below s) (here s) tt (s .fine) (omega arith) (seg-entries (h + sizes (x ∷ ys)) seg) (seg-open seg)
@@ -104,6 +93,7 @@ module _ {im : Image} {h S : ℕ} {t : Bool} {es : List Entry} {seg : Seg} {unde
       low-clear (λ o k. ap (chain (suc k) o 0) eb ∙ stops-clear 0 w o k))
       ∙ read-same (sym eT) (sym eu) (sym (ap₂ (λ (m : List Entry) (n : ℕ). m ++ seg-entries n seg) ee eS))
 
+  -- what is read from the head on
   pub laid-reads : Laid im h S t es seg under free → {T : ℕ} {u : Bool} → Tail h S t seg under free T u → reading-from im h ≡ read (length im) h T u (es ++ seg-entries S seg) Ending.Tail
   laid-reads (laid-straight f s et eS ee lf qf) e = straight-reads s et eS ee e
   laid-reads (laid-turned {low = low} {x = x} {ys = ys} s et eS ee eb) e =
@@ -115,12 +105,13 @@ module _ {im : Image} {h S : ℕ} {t : Bool} {es : List Entry} {seg : Seg} {unde
 -- ---- the head is found
 
 -- START
-pub start-found : {im : Image} {h S : ℕ} {t : Bool} {x : Entry} {es : List Entry} {seg : Seg} {under free : List ℕ} → Laid im h S t (x ∷ es) seg under free → x .it .low ≡ 0 → head im ≡ give h
+start-found : {im : Image} {h S : ℕ} {t : Bool} {x : Entry} {es : List Entry} {seg : Seg} {under free : List ℕ} → Laid im h S t (x ∷ es) seg under free → x .it .low ≡ 0 → head im ≡ give h
 start-found (laid-straight f s et eS ee lf qf) l = started s (first-low ee l)
 start-found (laid-turned s et eS ee eb) l = turned-start s (first-low ee l)
 
 -- CLEAN
-clean-first : (low : List Rec) (free rest : List ℕ) (x : Next) → Opens free x → 1 ≤ sizes low + length free → All-fine low → Each Unmarked (entries-of 0 low) → clean-here (lay low (free ++ rest)) ≡ false
+clean-first : (low : List Rec) (free rest : List ℕ) (x : Next) → Opens free x → 1 ≤ sizes low + length free → All-fine low → Each Unmarked (entries-of 0 low) →
+    clean-here (lay low (free ++ rest)) ≡ false
 unfolding is-clean
 clean-first (r ∷ rs) free rest x o n f m = rw (low-plain (f .0 .low-ok) (m .0))
 clean-first [] free rest x o n f m = go o n
@@ -129,7 +120,7 @@ clean-first [] free rest x o n f m = go o n
     go opens-ff n = refl
     go opens-none n = absurd (omega arith)
 
-pub clean-found :
+clean-found :
     {im : Image} {h S : ℕ} {t : Bool} {x : Entry} {es : List Entry} {under free : List ℕ} → Laid im h S t (x ∷ es) seg-none under free → x .it .low ≡ 160 → Each Unmarked es → head im ≡ give h
 clean-found {im = im} {h = h} (laid-straight {x = y} {ys = ys} f s et eS ee lf qf) l m = go (eqb h 0) refl
   where
@@ -140,14 +131,14 @@ clean-found {im = im} {h = h} (laid-straight {x = y} {ys = ys} f s et eS ee lf q
     go true k =
         let z : h ≡ 0 = eqb-true h 0 k in
         straight-none s f z low
-        (subst (Walks 0) (sym low) walks-clean, walked-plain ys (0 + rsize y) (s .fine .1) (subst (λ (n : ℕ). Each Unmarked (entries-of (n + rsize y) ys)) z (subst (Each Unmarked) (rest-same ee) m)))
+        (subst (Walks 0) (sym low) walks-clean, walked-plain ys (0 + rsize y) (s .fine .1) (subst (λ (n : ℕ). Each Unmarked (entries-of (n + rsize y) ys)) z (subst (Each Unmarked) (cons-rest ee) m)))
         refl lf qf
     go false k = straight-clean s (eqb-false h 0 k) low
 clean-found {h = h} (laid-turned {f = f} {low = low} {x = y} {ys = ys} {end = end} s et eS ee eb) l m =
     turned-clean s (first-low ee l)
     (ap clean-here (s .is)
     ∙ clean-first low _ _ (s .opened) (s .opens) (omega (arith, s .below, s .some-below, s .free-length)) (s .fine-low)
-    (each-right Unmarked (entries-of (h + rsize y) ys) (entries-of 0 low) (subst (Each Unmarked) (rest-same ee) m)))
+    (each-right Unmarked (entries-of (h + rsize y) ys) (entries-of 0 low) (subst (Each Unmarked) (cons-rest ee) m)))
 
 -- ---- the whole reading
 
@@ -167,7 +158,8 @@ placed : (im : Image) (h : ℕ) {T T₁ : ℕ} {u u₁ : Bool} → T ≡ T₁ �
 placed im h p q e = ap₂ (λ (T : ℕ) (u : Bool). free-blank im (place im h T u)) p q ∙ e
 
 -- the free run is FF
-free-is : {im : Image} {h S T : ℕ} (B F : ℕ) {t u : Bool} {es : List Entry} {seg : Seg} → Laid im h S t es seg (blanks B) (blanks F) → Tail h S t seg (blanks B) (blanks F) T u → free-blank im (place im h T u) ≡ true
+free-is : {im : Image} {h S T : ℕ} (B F : ℕ) {t u : Bool} {es : List Entry} {seg : Seg} → Laid im h S t es seg (blanks B) (blanks F) → Tail h S t seg (blanks B) (blanks F) T u →
+    free-blank im (place im h T u) ≡ true
 free-is {im} {h} {S} {T} B F {t} {u} {es} {seg} (laid-straight {x = x} {ys = ys} f s et eS ee lf qf) e = go e
   where
     at : ℕ
@@ -184,7 +176,7 @@ free-is {im} {h} {S} {T} B F {t} {u} {es} {seg} (laid-straight {x = x} {ys = ys}
 
     go : Tail h S t seg (blanks B) (blanks F) T u → free-blank im (place im h T u) ≡ true
     go (tail-clear w ef eT eu) = placed im h (moved eT) (eu ∙ et) (ahead-blank im h at gap rest)
-    go (tail-floor ef e₁ eT eu) = absurd (never t e₁ et)
+    go (tail-floor ef e₁ eT eu) = absurd (not-both t et e₁)
     go (tail-N ef e₁ z eT eu) = placed im h (moved eT) eu (ahead-blank im h at gap rest)
     go (tail-turn w ef e₁ n eb eT eu) = placed im h eT eu (round-blank im h 0 gap)
 free-is {im} {h} {S} {T} B F {t} {u} {es} {seg} (laid-turned {low = low} s et eS ee eb) e =

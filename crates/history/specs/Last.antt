@@ -26,23 +26,28 @@ Ends at s c = (k : ℕ) → chain (suc (suc k)) false at s ≡ c
 abbrev pub Stops : ℕ → List ℕ → Next → Type 0
 Stops at s x = (held : Bool) (k : ℕ) → chain (suc k) held at s ≡ stop held at x
 
+-- eight FF
 pub stops-clear : (at : ℕ) (s : List ℕ) → Stops at (blanks 8 ++ s) Next.Clear
 unfolding chain next next-at long kind clear-at blank is-record is-wrap is-high is-high-begun is-erased is-spare
 stops-clear at s true k = refl
 stops-clear at s false k = refl
 
+-- nothing more
 pub stops-over : (at : ℕ) → Stops at [] Next.Over
 unfolding chain next long
 stops-over at true k = refl
 stops-over at false k = refl
 
+-- a wrap marker
 abbrev pub wrap : List ℕ → List ℕ
 wrap s = 250 ∷ 90 ∷ 240 ∷ 255 ∷ 255 ∷ 255 ∷ 255 ∷ 255 ∷ s
 
+-- the chain ends at a wrap marker
 pub ends-wrap : (at : ℕ) (s : List ℕ) → Ends at (wrap s) (stop false at Next.Wrap)
 unfolding chain next next-at long kind is-record is-wrap is-start is-clean is-high is-high-begun is-erased is-wrapped is-spare
 ends-wrap at s k = refl
 
+-- FF is blank
 pub blank-blanks : (k : ℕ) → blank (blanks k) ≡ true
 unfolding blank
 blank-blanks zero = refl
@@ -53,6 +58,7 @@ pub data Begun : ℕ → Type 0 where
   begun-ff : Begun 255
   begun-5a : Begun 90
 
+-- a wrap marker that was begun, c its second byte
 abbrev pub torn-wrap : ℕ → ℕ → List ℕ
 torn-wrap c k = 250 ∷ c ∷ 255 ∷ 255 ∷ 255 ∷ 255 ∷ 255 ∷ 255 ∷ blanks k
 
@@ -69,6 +75,7 @@ chain-torn-wrap : (k at : ℕ) (s : List ℕ) → next s ≡ Next.TornWrap → c
 unfolding chain
 chain-torn-wrap k at s e = rw (e, chain)
 
+-- the chain ends at it
 pub ends-torn-wrap : {c : ℕ} (at j : ℕ) → Begun c → Ends at (torn-wrap c j) (stop false at Next.TornWrap)
 ends-torn-wrap {c} at j b k = chain-torn-wrap (suc k) at (torn-wrap c j) (next-torn-wrap j b)
 
@@ -87,6 +94,7 @@ pub data Name-begun : ℕ → Type 0 where
 abbrev pub torn : ℕ → List ℕ → ℕ → List ℕ → List ℕ
 torn c l t s = 165 ∷ c ∷ 255 ∷ 255 ∷ (l ++ (t ∷ (blanks 7 ++ s)))
 
+-- as it is read
 abbrev pub torn-rec : Rec
 torn-rec = record { low = 165; status = 255; name = []; content = [] }
 
@@ -101,6 +109,7 @@ unfinished-ff : is-unfinished 255 ≡ true
 unfolding is-unfinished is-erased
 unfinished-ff = refl
 
+-- the chain over a torn record
 pub ends-torn : {c t : ℕ} {d : Chain} (at x y z w : ℕ) (s : List ℕ) → Begun c → Name-begun t → ((k : ℕ) → chain (suc k) true (at + 16) s ≡ d) →
     Ends at (torn c (x ∷ y ∷ z ∷ w ∷ []) t s) (add (record { at = at; it = torn-rec }) d)
 ends-torn {c} {t} at x y z w s b n e =
@@ -119,10 +128,12 @@ unfinished-fe = refl
 abbrev pub held : List ℕ → List ℕ → Rec
 held n c = record { low = 165; status = 254; name = n; content = c }
 
+-- the chain over a record that was not committed
 pub ends-whole : {d : Chain} (at : ℕ) (n c s : List ℕ) → Fit (length c) n → ((k : ℕ) → chain (suc k) true (at + size-of (length n) (length c)) s ≡ d) →
     Ends at (onto (held n c) s) (add (record { at = at; it = held n c }) d)
 ends-whole at n c s f e =
-    ends-held at (length n) (length c) (onto (held n c) s) s (held n c) (next-reserved _ _ _ _ _ ∙ record-at-onto true (held n c) s f) unfinished-fe (rec-of-onto (held n c) s) (drop-onto (held n c) s) e
+    ends-held at (length n) (length c) (onto (held n c) s) s (held n c) (next-reserved _ _ _ _ _ ∙ record-at-onto true (held n c) s f) unfinished-fe (rec-of-onto (held n c) s)
+    (drop-onto (held n c) s) e
 
 -- reserved, with a cut name, and as many FF as make its size
 abbrev pub begun : ℕ → List ℕ → List ℕ → List ℕ
@@ -132,14 +143,17 @@ ends-ff : ends-name true 255 ≡ true
 unfolding ends-name
 ends-ff = refl
 
+-- a record whose name was not ended, read as the last one
 pub record-at-begun : (d : ℕ) (n s : List ℕ) → Fit d n → record-at true (begun d n s) ≡ Next.Record (length n) d
 record-at-begun d n s f =
     record-at-laid true 165 90 254 255 255 d n (blanks (pad (length n + 1)) ++ (blanks (up8 d) ++ s)) f ends-ff
     (simp (length-append, length-replicate) (omega arith))
 
+-- as it is read
 abbrev pub cut-rec : ℕ → List ℕ → Rec
 cut-rec d n = record { low = 165; status = 254; name = n; content = blanks d }
 
+-- what follows it
 pub drop-begun : (d : ℕ) (n s : List ℕ) → drop (size-of (length n) d) (begun d n s) ≡ s
 drop-begun d n s =
     sym (drop-drop (up8 d) (8 + up8 (length n + 1)) (begun d n s))
@@ -163,6 +177,8 @@ rec-of-begun d n s =
       take-fill d (up8 d) 255 s (omega arith),
     )
 
-pub ends-begun : {c : Chain} (at d : ℕ) (n s : List ℕ) → Fit d n → ((k : ℕ) → chain (suc k) true (at + size-of (length n) d) s ≡ c) → Ends at (begun d n s) (add (record { at = at; it = cut-rec d n }) c)
+-- the chain over it
+pub ends-begun : {c : Chain} (at d : ℕ) (n s : List ℕ) → Fit d n → ((k : ℕ) → chain (suc k) true (at + size-of (length n) d) s ≡ c) →
+    Ends at (begun d n s) (add (record { at = at; it = cut-rec d n }) c)
 ends-begun at d n s f e =
     ends-held at (length n) d (begun d n s) s (cut-rec d n) (next-reserved _ _ _ _ _ ∙ record-at-begun d n s f) unfinished-fe (rec-of-begun d n s) (drop-begun d n s) e

@@ -18,15 +18,23 @@ use Rattle.spec.specs.Chain.{Chain, add, chain}
 
 -- ---- the printer
 
+-- FF
 abbrev pub blanks : ℕ → List ℕ
 blanks k = replicate k 255
 
+-- the bytes up to the next multiple of 8
 abbrev pub pad : ℕ → ℕ
 pad n = up8 n - n
 
+-- a length in four bytes, low byte first
 abbrev pub lens : ℕ → List ℕ → List ℕ
 lens d s = d % 256 ∷ d / 256 % 256 ∷ d / 65536 % 256 ∷ d / 16777216 % 256 ∷ s
 
+-- the header of a record that is not committed, for d bytes of data, in front of t
+abbrev pub header : ℕ → List ℕ → List ℕ
+header d t = 165 ∷ 90 ∷ 254 ∷ 255 ∷ lens d t
+
+-- w and its padding
 abbrev pub padded : List ℕ → List ℕ → List ℕ
 padded w s = w ++ (blanks (pad (length w)) ++ s)
 
@@ -34,30 +42,37 @@ padded w s = w ++ (blanks (pad (length w)) ++ s)
 abbrev pub body : List ℕ → List ℕ → List ℕ → List ℕ
 body name content s = name ++ (0 ∷ (blanks (pad (length name + 1)) ++ padded content s))
 
+-- a record's bytes in front of s
 abbrev pub onto : Rec → List ℕ → List ℕ
 onto r s = r .low ∷ 90 ∷ r .status ∷ 255 ∷ lens (length (r .content)) (body (r .name) (r .content) s)
 
+-- records, one after another, in front of s
 abbrev pub lay : List Rec → List ℕ → List ℕ
 lay [] s = s
 lay (r ∷ rs) s = onto r (lay rs s)
 
+-- a record's size
 abbrev pub rsize : Rec → ℕ
 rsize r = size-of (length (r .name)) (length (r .content))
 
+-- the size of all
 abbrev pub sizes : List Rec → ℕ
 sizes [] = 0
 sizes (r ∷ rs) = rsize r + sizes rs
 
+-- records with their addresses, from at on
 abbrev pub entries-of : ℕ → List Rec → List Entry
 entries-of at [] = []
 entries-of at (r ∷ rs) = record { at = at; it = r } ∷ entries-of (at + rsize r) rs
 
+-- a chain with entries in front
 abbrev pub before : List Entry → Chain → Chain
 before [] c = c
 before (e ∷ es) c = add e (before es c)
 
 -- ---- what a record may be
 
+-- a record's low byte: plain, START or CLEAN
 pub data Low : ℕ → Type 0 where
   low-record : Low 0xA5
   low-start : Low 0x00
@@ -69,6 +84,7 @@ pub data Stat : ℕ → Type 0 where
   st-f8 : Stat 0xF8
   st-00 : Stat 0x00
 
+-- a name's characters
 abbrev pub Plain : List ℕ → Type 0
 Plain [] = Unit {0}
 Plain (x ∷ w) = ((33 ≤ x) × (x ≤ 126)) × Plain w
@@ -79,6 +95,7 @@ pub record Fit (d : ℕ) (n : List ℕ) : Type 0 where
   pub plain : Plain n
   pub small : d < 4294967296
 
+-- a record that can be written
 pub record Fine (r : Rec) : Type 0 where
   pub low-ok : Low (r .low)
   pub status-ok : Stat (r .status)
@@ -97,18 +114,21 @@ ends-plain : (held : Bool) (x : ℕ) → 33 ≤ x → x ≤ 126 → ends-name he
 unfolding ends-name
 ends-plain held x h l = rw (ends-name, ne-eqb x 0 (λ e. omega arith), ne-eqb x 255 (λ e. omega arith)) (and-false held)
 
-pub name-length-at : (k : ℕ) (held : Bool) (w : List ℕ) (t : ℕ) (s : List ℕ) → length w < k → Plain w → ends-name held t ≡ true → name-length k held (w ++ (t ∷ s)) ≡ length w
+name-length-at : (k : ℕ) (held : Bool) (w : List ℕ) (t : ℕ) (s : List ℕ) → length w < k → Plain w → ends-name held t ≡ true → name-length k held (w ++ (t ∷ s)) ≡ length w
 unfolding name-length
 name-length-at zero held w t s h p e = absurd (not-suc-le-zero h)
 name-length-at (suc k) held [] t s h p e = rw (e, name-length)
 name-length-at (suc k) held (x ∷ w) t s h p e = rw (ends-plain held x (p .0 .0) (p .0 .1), name-length) (ap suc (name-length-at k held w t s (omega arith) (p .1) e))
 
+-- a record's length is its size
 pub length-body : (n c s : List ℕ) → 8 + length (body n c s) ≡ size-of (length n) (length c) + length s
 length-body n c s = simp (length-append, length-replicate) (omega arith)
 
+-- past p
 pub drop-past : (p q : List ℕ) (k m : ℕ) → k ≡ length p + m → drop k (p ++ q) ≡ drop m q
 drop-past p q k m e = rw e (drop-append-add p q m)
 
+-- past what fills
 pub drop-fill : (k b : ℕ) (s : List ℕ) → drop k (replicate k b ++ s) ≡ s
 drop-fill k b s = drop-at (replicate k b) s k (length-replicate k b)
 
@@ -118,12 +138,14 @@ drop-name n c s = drop-past n _ (up8 (length n + 1)) (suc (pad (length n + 1))) 
 drop-padded : (c s : List ℕ) → drop (up8 (length c)) (padded c s) ≡ s
 drop-padded c s = drop-past c _ (up8 (length c)) (pad (length c)) (omega arith) ∙ drop-fill (pad (length c)) 255 s
 
+-- past a record
 pub drop-onto : (r : Rec) (s : List ℕ) → drop (rsize r) (onto r s) ≡ s
 drop-onto r s =
     sym (drop-drop (up8 (length (r .content))) (8 + up8 (length (r .name) + 1)) (onto r s))
     ∙ ap (drop (up8 (length (r .content)))) (sym (drop-drop (up8 (length (r .name) + 1)) 8 (onto r s)) ∙ drop-name (r .name) (r .content) s)
     ∙ drop-padded (r .content) s
 
+-- long enough
 pub long-le : (k : ℕ) (s : List ℕ) → k ≤ length s → long k s ≡ true
 unfolding long
 long-le zero s h = refl
@@ -147,6 +169,7 @@ ends-zero : (held : Bool) → ends-name held 0 ≡ true
 unfolding ends-name
 ends-zero held = refl
 
+-- a record's header gives the lengths of its name and its data
 pub record-at-onto : (held : Bool) (r : Rec) (s : List ℕ) → Fit (length (r .content)) (r .name) → record-at held (onto r s) ≡ Next.Record (length (r .name)) (length (r .content))
 record-at-onto held r s f =
     record-at-laid held (r .low) 90 (r .status) 255 0 (length (r .content)) (r .name) (blanks (pad (length (r .name) + 1)) ++ padded (r .content) s) f (ends-zero held)
@@ -168,7 +191,7 @@ next-laid : (b st x y z w : ℕ) (s : List ℕ) → Low b → Stat st → next (
 unfolding next long
 next-laid b st x y z w s l t = kind-next l t (b ∷ 90 ∷ st ∷ 255 ∷ x ∷ y ∷ z ∷ w ∷ s)
 
-pub next-onto : (r : Rec) (s : List ℕ) → Fine r → next (onto r s) ≡ Next.Record (length (r .name)) (length (r .content))
+next-onto : (r : Rec) (s : List ℕ) → Fine r → next (onto r s) ≡ Next.Record (length (r .name)) (length (r .content))
 next-onto r s f = next-laid (r .low) (r .status) _ _ _ _ _ (f .low-ok) (f .status-ok) ∙ record-at-onto false r s (f .fit)
 
 -- the status says that it is finished
@@ -178,19 +201,22 @@ finished st-fc = refl
 finished st-f8 = refl
 finished st-00 = refl
 
+-- and its bytes give the record
 pub rec-of-onto : (r : Rec) (s : List ℕ) → rec-of (onto r s) (length (r .name)) (length (r .content)) ≡ r
 rec-of-onto r s = rw (drop-name (r .name) (r .content) s, take-append-seam (r .name), take-append-seam (r .content))
 
+-- the chain over one record
 pub chain-record : (k at n d : ℕ) (s : List ℕ) → next s ≡ Next.Record n d →
     chain (suc k) false at s ≡ add (record { at = at; it = rec-of s n d }) (chain k (is-unfinished (status-of s)) (at + size-of n d) (drop (size-of n d) s))
 unfolding chain
 chain-record k at n d s e = rw (e, chain)
 
 -- ---- the chain over laid records: it goes on, with what follows them, as if it had begun there
-pub chain-onto : (r : Rec) (k at : ℕ) (s : List ℕ) → Fine r → chain (suc k) false at (onto r s) ≡ add (record { at = at; it = r }) (chain k false (at + rsize r) s)
+chain-onto : (r : Rec) (k at : ℕ) (s : List ℕ) → Fine r → chain (suc k) false at (onto r s) ≡ add (record { at = at; it = r }) (chain k false (at + rsize r) s)
 chain-onto r k at s f =
     rw (chain-record k at (length (r .name)) (length (r .content)) (onto r s) (next-onto r s f), rec-of-onto r s, drop-onto r s, finished (f .status-ok))
 
+-- the chain over all of them
 pub chain-lay : (rs : List Rec) (k at : ℕ) (s : List ℕ) → All-fine rs →
     chain (length rs + k) false at (lay rs s) ≡ before (entries-of at rs) (chain k false (at + sizes rs) s)
 chain-lay [] k at s f = rw (zero-add k, add-zero at)
@@ -203,22 +229,30 @@ chain-lay (r ∷ rs) k at s f =
 onto-is : (r : Rec) (s : List ℕ) → onto r s ≡ onto r [] ++ s
 onto-is r s = simp append-assoc
 
+-- the records first, then what follows
 pub lay-is : (rs : List Rec) (s : List ℕ) → lay rs s ≡ lay rs [] ++ s
 lay-is [] s = refl
 lay-is (r ∷ rs) s = ap (onto r) (lay-is rs s) ∙ onto-is r (lay rs [] ++ s) ∙ sym (append-assoc (onto r []) (lay rs []) s) ∙ ap (λ (l : List ℕ). l ++ s) (sym (onto-is r (lay rs [])))
 
+-- more behind what follows
+pub lay-past : (rs : List Rec) (s t : List ℕ) → lay rs s ++ t ≡ lay rs (s ++ t)
+lay-past rs s t = ap (λ (l : List ℕ). l ++ t) (lay-is rs s) ∙ append-assoc (lay rs []) s t ∙ sym (lay-is rs (s ++ t))
+
 length-onto : (r : Rec) (s : List ℕ) → length (onto r s) ≡ rsize r + length s
 length-onto r s = omega (arith, length-body (r .name) (r .content) s)
 
+-- how long that is
 pub length-lay : (rs : List Rec) (s : List ℕ) → length (lay rs s) ≡ sizes rs + length s
 length-lay [] s = sym (zero-add (length s))
 length-lay (r ∷ rs) s = length-onto r (lay rs s) ∙ omega (arith, length-lay rs s)
 
+-- past all records, and m bytes more
 pub drop-lay : (rs : List Rec) (s : List ℕ) (m : ℕ) → drop (sizes rs + m) (lay rs s) ≡ drop m s
 drop-lay rs s m =
     let l : length (lay rs []) ≡ sizes rs = omega (arith, length-lay rs []) in
     rw (lay-is rs s, ← l) (drop-append-add (lay rs []) s m)
 
+-- a record has 16 bytes at least
 pub lots : (rs : List Rec) → 16 * length rs ≤ sizes rs
 lots [] = omega arith
 lots (r ∷ rs) = omega (arith, lots rs)

@@ -1,23 +1,23 @@
 -- The live files of the entries are the files of the ledger, in some order (Matches), and what keeps it so.
 use Prim.Native.Nat.{ℕ}
-use native.Mathlib.Omega.{arith}
 use mathlib.Core.Path.{_≡_, refl, sym, ap, _∙_, subst}
 use mathlib.Core.Bool.{Bool, true, false, not}
-use mathlib.Core.Option.{Option, none, some}
-use mathlib.Core.List.{List, [], _∷_, _++_, map, List·Permᴰ, List·Permᴰ·nil, List·Permᴰ·cons, List·Permᴰ·swap, List·Permᴰ·trans, Permᴰ·refl, Permᴰ·middle, Permᴰ·append-nil}
-use Rattle.spec.specs.Basics.{same, keep, first-such, Each}
+use mathlib.Core.List.{List, [], _∷_, _++_, map, List·Permᴰ, List·Permᴰ·nil, List·Permᴰ·cons, List·Permᴰ·swap, List·Permᴰ·trans, Permᴰ·refl}
+use Rattle.spec.specs.Basics.{same, keep, Each}
 use Rattle.spec.specs.Record.{Entry, name-of, content-of}
-use Rattle.spec.specs.Files.{has-name, file-named}
-use Rattle.spec.specs.History.{File, Ledger, not-named, without, with-file}
-use Rattle.history.specs.Lists.{keep-yes, keep-no, keep-append, first-yes, first-no}
-use Rattle.history.specs.Store.{alive, Unique, files-alive}
+use Rattle.spec.specs.History.{File, Ledger, not-named, without}
+use Rattle.history.specs.Lists.{keep-yes, keep-no, keep-append}
+use Rattle.history.specs.Store.{alive}
 
+-- an entry as a file
 abbrev pub as-file : Entry → File
 as-file e = record { name = name-of e; content = content-of e }
 
+-- the files of the live entries
 abbrev pub contents : List Entry → List File
 contents es = map as-file (keep alive es)
 
+-- they are the ledger's, in some order
 abbrev pub Matches : List Entry → Ledger → Type 0
 Matches es l = List·Permᴰ (contents es) l
 
@@ -42,6 +42,7 @@ module _ {A : Type 0} where
       go false true e f = rw (keep-no p x (y ∷ l) e, keep-yes p y (x ∷ l) f, keep-yes p y l f, keep-no p x l e) (Permᴰ·refl (y ∷ keep p l))
       go false false e f = rw (keep-no p x (y ∷ l) e, keep-no p y (x ∷ l) f, keep-no p y l f, keep-no p x l e) (Permᴰ·refl (keep p l))
 
+  -- what is kept of a list in another order
   pub perm-keep : (p : A → Bool) {xs ys : List A} → List·Permᴰ xs ys → List·Permᴰ (keep p xs) (keep p ys)
   perm-keep p List·Permᴰ·nil = List·Permᴰ·nil
   perm-keep p (List·Permᴰ·cons {a = x} {b = y} {l₁ = xs} {l₂ = ys} e d) = subst (λ (z : A). List·Permᴰ (keep p (x ∷ xs)) (keep p (z ∷ ys))) e (keep-cons p x xs ys (perm-keep p d))
@@ -60,47 +61,19 @@ keep-contents n (e ∷ es) h = go (alive e) refl (keep-contents n es (h .1))
         (keep-yes (not-named n) (as-file e) (contents es) (ap not (h .0 k)) ∙ ap (λ (l : List File). as-file e ∷ l) i)
     go false k i = rw (keep-no alive e es k) i
 
-pub map-append : (xs ys : List Entry) → map as-file (xs ++ ys) ≡ map as-file xs ++ map as-file ys
+map-append : (xs ys : List Entry) → map as-file (xs ++ ys) ≡ map as-file xs ++ map as-file ys
 map-append [] ys = refl
 map-append (x ∷ xs) ys = ap (λ (l : List File). as-file x ∷ l) (map-append xs ys)
 
+-- two lists of entries
 pub contents-append : (xs ys : List Entry) → contents (xs ++ ys) ≡ contents xs ++ contents ys
 contents-append xs ys = ap (map as-file) (keep-append alive xs ys) ∙ map-append (keep alive xs) (keep alive ys)
 
+-- one live entry
 pub contents-one : (e : Entry) → alive e ≡ true → contents (e ∷ []) ≡ as-file e ∷ []
 contents-one e h = rw (keep-yes alive e [] h)
-
--- a new file at the end
-pub matches-new : (es : List Entry) (e : Entry) (l : Ledger) → alive e ≡ true → Absent (name-of e) es → Matches es l → Matches (es ++ (e ∷ [])) (with-file (name-of e) (content-of e) l)
-matches-new es e l a n m =
-    let p : List·Permᴰ (contents es) (without (name-of e) l) = subst (λ (fs : List File). List·Permᴰ fs (without (name-of e) l)) (keep-contents (name-of e) es n) (perm-keep (not-named (name-of e)) m) in
-    subst (λ (fs : List File). List·Permᴰ fs (with-file (name-of e) (content-of e) l)) (sym (contents-append es (e ∷ []) ∙ ap (λ (fs : List File). contents es ++ fs) (contents-one e a)))
-    (List·Permᴰ·trans (Permᴰ·middle (as-file e) (contents es) []) (List·Permᴰ·cons refl (List·Permᴰ·trans (Permᴰ·append-nil (contents es)) p)))
 
 -- an entry that is not alive doesn't matter
 pub matches-dead : (xs ys : List Entry) (e : Entry) (l : Ledger) → alive e ≡ false → Matches (xs ++ ys) l → Matches (xs ++ (e ∷ ys)) l
 matches-dead xs ys e l a m =
     subst (λ (fs : List File). List·Permᴰ fs l) (contents-append xs ys ∙ ap (λ (fs : List Entry). contents xs ++ map as-file fs) (sym (keep-no alive e ys a)) ∙ sym (contents-append xs (e ∷ ys))) m
-
--- no file found: absent
-pub not-none : (o : Option Entry) (e : Entry) → o ≡ some e → o ≡ none → ⊥
-not-none o e p q = let z : _≡_ {A = ℕ} 0 1 = cc in omega arith
-
-pub dead-not : (b : Bool) → b ≡ false → b ≡ true → ⊥
-dead-not b p q = let z : _≡_ {A = ℕ} 0 1 = cc in omega arith
-
-first-none : (n : List ℕ) (fs : List Entry) → first-such (has-name n) (keep alive fs) ≡ none → Absent n fs
-first-none n [] h = tt
-first-none n (e ∷ fs) h = go (alive e) (same (name-of e) n) refl refl (λ k. first-none n fs k)
-  where
-    p : Entry → Bool
-    p = has-name n
-
-    go : (a b : Bool) → alive e ≡ a → same (name-of e) n ≡ b → (first-such p (keep alive fs) ≡ none → Absent n fs) → Absent n (e ∷ fs)
-    go true true x y ih = absurd (not-none (first-such p (keep alive (e ∷ fs))) e (ap (first-such p) (keep-yes alive e fs x) ∙ first-yes p e (keep alive fs) y) h)
-    go true false x y ih = ((λ k. y), ih (sym (ap (first-such p) (keep-yes alive e fs x) ∙ first-no p e (keep alive fs) y) ∙ h))
-    go false b x y ih = ((λ k. absurd (dead-not (alive e) x k)), ih (sym (ap (first-such p) (keep-no alive e fs x)) ∙ h))
-
-pub none-absent : (n : List ℕ) (es : List Entry) → Unique es → file-named n es ≡ none → Absent n es
-unfolding file-named
-none-absent n es u e = first-none n es (ap (first-such (has-name n)) (sym (files-alive es u)) ∙ e)

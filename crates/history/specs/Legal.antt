@@ -1,9 +1,9 @@
 -- From a head and a chain to the reading: the rules on the entries as facts (Ruled), and the rule on the free run.
-use Prim.Native.Nat.{ℕ, _+_, min}
+use Prim.Native.Nat.{ℕ, _+_}
 use native.Mathlib.Omega.{arith}
 use native.Mathlib.Nat.{add-zero}
 use mathlib.Core.Path.{_≡_, sym, ap, ap₂, _∙_}
-use mathlib.Core.Bool.{Bool, true, false}
+use mathlib.Core.Bool.{true, false}
 use mathlib.Core.List.{List}
 use lib.ListN.{length, drop}
 use lib.Seq.{take-all, drop-drop}
@@ -13,7 +13,7 @@ use Rattle.spec.specs.Geometry.{floor}
 use Rattle.spec.specs.Record.{Rec, Entry}
 use Rattle.spec.specs.Head.{head}
 use Rattle.spec.specs.Chain.{Reading, read, reading-from}
-use Rattle.spec.specs.Reading.{limit, free-blank, tail-blank, head-clean, free-ok, whole, marks-ok, names-ok, single, legal, judged, reading}
+use Rattle.spec.specs.Reading.{free-blank, head-clean, free-ok, whole, marks-ok, names-ok, single, legal, judged, reading}
 use Rattle.history.specs.Lay.{lay, sizes, drop-lay}
 use Rattle.history.specs.Shape.{image, take-low, drop-high}
 
@@ -31,37 +31,32 @@ judged-by : (im : List ℕ) (r : Reading) → legal im r ≡ true → judged im 
 unfolding judged
 judged-by im r e = rw (judged, e)
 
+-- a head, a chain and the rules give the reading
 pub reading-by : (im : List ℕ) (h : ℕ) (r : Reading) → head im ≡ give h → reading-from im h ≡ r → whole (r .ending) ≡ true → Ruled (r .entries) → free-ok im r ≡ true → reading im ≡ give r
 unfolding reading
 reading-by im h r e₁ e₂ w u f = rw (reading, e₁, e₂) (judged-by im r (legal-by im r w u f))
 
 -- ---- the free run
 
-pub free-straight : (im : List ℕ) (N h t : ℕ) (es : List Entry) (e : Ending) → head-clean es ≡ false → blank (part 0 (floor h) im) ≡ true → blank (part t N im) ≡ true → free-ok im (read N h t false es e) ≡ true
-unfolding free-ok free-blank
-free-straight im N h t es e k a b = rw (free-ok, k, free-blank, a, b)
-
+-- turned, the head not CLEAN: the free run is FF
 pub free-turned : (im : List ℕ) (N h t : ℕ) (es : List Entry) (e : Ending) → head-clean es ≡ false → blank (part t (floor h) im) ≡ true → free-ok im (read N h t true es e) ≡ true
 unfolding free-ok free-blank
 free-turned im N h t es e k a = rw (free-ok, k, free-blank, a)
 
--- head CLEAN
-pub free-clean : (im : List ℕ) (N h t : ℕ) (b : Bool) (es : List Entry) (e : Ending) → head-clean es ≡ true →
-    blank (part t (min (floor t + 4096) (limit (record { head = h; tail = t; turned = b; length = N }))) im) ≡ true → free-ok im (read N h t b es e) ≡ true
-unfolding free-ok tail-blank
-free-clean im N h t b es e k a = rw (free-ok, k, tail-blank, a)
-
 -- ---- the parts of the shape
 
 module _ (low high : List Rec) (gap lost rest : List ℕ) (h : ℕ) (below : sizes low + length gap ≡ floor h) (here : floor h + length lost ≡ h) where
+  -- below the head's sector
   pub part-below : part 0 (floor h) (image low high gap lost rest h below here) ≡ lay low gap
   part-below = take-low low high gap lost rest h below here
 
+  -- between the records from 0 on and the head's sector
   pub part-gap : part (sizes low) (floor h) (image low high gap lost rest h below here) ≡ gap
   part-gap =
       let e : sizes low ≡ sizes low + 0 = sym (add-zero (sizes low)) in
       ap₂ drop e (take-low low high gap lost rest h below here) ∙ drop-lay low gap 0
 
+  -- behind the records from the head on
   pub part-rest : (N : ℕ) → N ≡ length (image low high gap lost rest h below here) → part (h + sizes high) N (image low high gap lost rest h below here) ≡ rest
   part-rest N e =
       let im : List ℕ = image low high gap lost rest h below here in

@@ -1,16 +1,40 @@
 -- Lists and tests: any, all, keep and first-such over facts on each element (Each), on each pair (Pairwise), and with one element more.
 use mathlib.Core.Path.{_≡_, refl, sym, ap, _∙_}
-use mathlib.Core.Bool.{Bool, true, false, _&&_}
+use mathlib.Core.Bool.{Bool, true, false, _&&_, _||_}
 use mathlib.Core.Option.{some}
 use mathlib.Core.List.{List, [], _∷_, _++_}
 use Rattle.spec.specs.Basics.{any, all, keep, first-such, Each}
+use Prim.Native.Nat.{ℕ}
+use native.Mathlib.Omega.{arith}
+use lib.ListN.{length}
 
 -- ---- tests
 
+-- a test does not come out both ways
+pub not-both : (b : Bool) → b ≡ false → b ≡ true → ⊥
+not-both b p q = let z : _≡_ {A = ℕ} 0 1 = cc in omega arith
+
+-- both, so the first
 pub and-left : (a b : Bool) → (a && b) ≡ true → a ≡ true
 and-left true b h = refl
 and-left false b h = h
 
+-- both, so the second
+pub and-right : (a b : Bool) → (a && b) ≡ true → b ≡ true
+and-right true b h = h
+and-right false b h = cc
+
+-- neither, so not the first
+pub or-left : (a b : Bool) → (a || b) ≡ false → a ≡ false
+or-left true b h = h
+or-left false b h = refl
+
+-- nor the second
+pub or-right : (a b : Bool) → (a || b) ≡ false → b ≡ false
+or-right true b h = cc
+or-right false b h = h
+
+-- not both
 pub and-no : (a b : Bool) → (a ≡ true → b ≡ false) → (a && b) ≡ false
 and-no true b h = h refl
 and-no false b h = refl
@@ -18,23 +42,36 @@ and-no false b h = refl
 -- ---- lists
 
 module _ {A : Type 0} where
-  pub any-no : (p : A → Bool) (x : A) (xs : List A) → p x ≡ false → any p (x ∷ xs) ≡ any p xs
+  -- equal lists have equal first elements
+  pub cons-first : {x y : A} {xs ys : List A} → x ∷ xs ≡ y ∷ ys → x ≡ y
+  cons-first h = cc
+
+  -- and equal rests
+  pub cons-rest : {x y : A} {xs ys : List A} → x ∷ xs ≡ y ∷ ys → xs ≡ ys
+  cons-rest h = cc
+
+  any-no : (p : A → Bool) (x : A) (xs : List A) → p x ≡ false → any p (x ∷ xs) ≡ any p xs
   any-no p x xs e = rw (e, any)
 
+  -- an element that is not kept
   pub keep-no : (p : A → Bool) (x : A) (xs : List A) → p x ≡ false → keep p (x ∷ xs) ≡ keep p xs
   keep-no p x xs e = rw (e, keep)
 
+  -- an element that is kept
   pub keep-yes : (p : A → Bool) (x : A) (xs : List A) → p x ≡ true → keep p (x ∷ xs) ≡ x ∷ keep p xs
   keep-yes p x xs e = rw (e, keep)
 
+  -- none passes
   pub any-none : (p : A → Bool) (xs : List A) → Each (λ x. p x ≡ false) xs → any p xs ≡ false
   any-none p [] h = refl
   any-none p (x ∷ xs) h = any-no p x xs (h .0) ∙ any-none p xs (h .1)
 
+  -- from one fact to another, on each
   pub each-map : {P Q : A → Type 0} (xs : List A) → ((x : A) → P x → Q x) → Each P xs → Each Q xs
   each-map [] f h = tt
   each-map (x ∷ xs) f h = (f x (h .0), each-map xs f (h .1))
 
+  -- tests that agree on each
   pub keep-same : (p q : A → Bool) (xs : List A) → Each (λ x. p x ≡ q x) xs → keep p xs ≡ keep q xs
   keep-same p q [] h = refl
   keep-same p q (x ∷ xs) h = go (q x) refl (keep-same p q xs (h .1))
@@ -43,10 +80,12 @@ module _ {A : Type 0} where
       go true e i = keep-yes p x xs (h .0 ∙ e) ∙ ap (λ (l : List A). x ∷ l) i ∙ sym (keep-yes q x xs e)
       go false e i = keep-no p x xs (h .0 ∙ e) ∙ i ∙ sym (keep-no q x xs e)
 
+  -- a relation between each element and each behind it
   abbrev pub Pairwise : (A → A → Type 0) → List A → Type 0
   Pairwise S [] = Unit {0}
   Pairwise S (x ∷ xs) = Each (S x) xs × Pairwise S xs
 
+  -- two facts on each
   pub each-both : (P Q : A → Type 0) (xs : List A) → Each P xs → Each Q xs → Each (λ x. P x × Q x) xs
   each-both P Q [] p q = tt
   each-both P Q (x ∷ xs) p q = ((p .0, q .0), each-both P Q xs (p .1) (q .1))
@@ -59,14 +98,17 @@ module _ {A : Type 0} where
     each-map xs (λ y p. (p .0, p .1)) (each-both (λ y. R y x) (λ y. Each (R y) xs) xs (each-map {Q = λ y. R y x} xs (λ y s. b x y s) (h .0)) (all-pairs R S r a b xs (h .1))),
   )
 
+  -- one more at the end
   pub each-end : (P : A → Type 0) (xs : List A) (y : A) → Each P xs → P y → Each P (xs ++ (y ∷ []))
   each-end P [] y p q = (q, tt)
   each-end P (x ∷ xs) y p q = (p .0, each-end P xs y (p .1) q)
 
+  -- one more at the end
   pub pairwise-end : (S : A → A → Type 0) (xs : List A) (y : A) → Pairwise S xs → Each (λ x. S x y) xs → Pairwise S (xs ++ (y ∷ []))
   pairwise-end S [] y p e = (tt, tt)
   pairwise-end S (x ∷ xs) y p e = (each-end (S x) xs y (p .0) (e .0), pairwise-end S xs y (p .1) (e .1))
 
+  -- two lists
   pub keep-append : (p : A → Bool) (xs ys : List A) → keep p (xs ++ ys) ≡ keep p xs ++ keep p ys
   keep-append p [] ys = refl
   keep-append p (x ∷ xs) ys = go (p x) refl (keep-append p xs ys)
@@ -75,6 +117,7 @@ module _ {A : Type 0} where
       go true e i = keep-yes p x (xs ++ ys) e ∙ ap (λ (l : List A). x ∷ l) i ∙ ap (λ (l : List A). l ++ keep p ys) (sym (keep-yes p x xs e))
       go false e i = keep-no p x (xs ++ ys) e ∙ i ∙ ap (λ (l : List A). l ++ keep p ys) (sym (keep-no p x xs e))
 
+  -- one more that does not pass
   pub any-insert : (p : A → Bool) (xs ys : List A) (o : A) → p o ≡ false → any p (xs ++ (o ∷ ys)) ≡ any p (xs ++ ys)
   any-insert p [] ys o e = any-no p o ys e
   any-insert p (x ∷ xs) ys o e = go (p x) refl (any-insert p xs ys o e)
@@ -86,57 +129,67 @@ module _ {A : Type 0} where
       go true h i = any-yes (xs ++ (o ∷ ys)) h ∙ sym (any-yes (xs ++ ys) h)
       go false h i = any-no p x (xs ++ (o ∷ ys)) h ∙ i ∙ sym (any-no p x (xs ++ ys) h)
 
-  pub keep-insert : (p : A → Bool) (xs ys : List A) (o : A) → p o ≡ false → keep p (xs ++ (o ∷ ys)) ≡ keep p (xs ++ ys)
-  keep-insert p xs ys o e = keep-append p xs (o ∷ ys) ∙ ap (λ (l : List A). keep p xs ++ l) (keep-no p o ys e) ∙ sym (keep-append p xs ys)
-
+  -- each passes
   pub all-each : (p : A → Bool) (xs : List A) → Each (λ x. p x ≡ true) xs → all p xs ≡ true
   all-each p [] h = refl
   all-each p (x ∷ xs) h = rw (h .0, all) (all-each p xs (h .1))
 
+  -- none is kept
   pub keep-none : (p : A → Bool) (xs : List A) → Each (λ x. p x ≡ false) xs → keep p xs ≡ []
   keep-none p [] h = refl
   keep-none p (x ∷ xs) h = keep-no p x xs (h .0) ∙ keep-none p xs (h .1)
 
+  -- what holds of all
   pub each-all : (P : A → Type 0) → ((x : A) → P x) → (xs : List A) → Each P xs
   each-all P f [] = tt
   each-all P f (x ∷ xs) = (f x, each-all P f xs)
 
+  -- the first element passes
   pub first-yes : (p : A → Bool) (x : A) (xs : List A) → p x ≡ true → first-such p (x ∷ xs) ≡ some x
   first-yes p x xs e = rw (e, first-such)
 
+  -- the first element does not pass
   pub first-no : (p : A → Bool) (x : A) (xs : List A) → p x ≡ false → first-such p (x ∷ xs) ≡ first-such p xs
   first-no p x xs e = rw (e, first-such)
 
   -- ---- one element among others
 
+  -- one element replaced
   pub each-swap : (P : A → Type 0) (xs ys : List A) (e f : A) → Each P (xs ++ (e ∷ ys)) → P f → Each P (xs ++ (f ∷ ys))
   each-swap P [] ys e f h q = (q, h .1)
   each-swap P (x ∷ xs) ys e f h q = (h .0, each-swap P xs ys e f (h .1) q)
 
+  -- one more
   pub each-insert : (P : A → Type 0) (xs ys : List A) (e : A) → Each P (xs ++ ys) → P e → Each P (xs ++ (e ∷ ys))
   each-insert P [] ys e h q = (q, h)
   each-insert P (x ∷ xs) ys e h q = (h .0, each-insert P xs ys e (h .1) q)
 
+  -- one less
   pub each-without : (P : A → Type 0) (xs ys : List A) (e : A) → Each P (xs ++ (e ∷ ys)) → Each P (xs ++ ys)
   each-without P [] ys e h = h .1
   each-without P (x ∷ xs) ys e h = (h .0, each-without P xs ys e (h .1))
 
+  -- of one
   pub each-at : (P : A → Type 0) (xs ys : List A) (e : A) → Each P (xs ++ (e ∷ ys)) → P e
   each-at P [] ys e h = h .0
   each-at P (x ∷ xs) ys e h = each-at P xs ys e (h .1)
 
+  -- of two lists
   pub each-append : (P : A → Type 0) (xs ys : List A) → Each P xs → Each P ys → Each P (xs ++ ys)
   each-append P [] ys p q = q
   each-append P (x ∷ xs) ys p q = (p .0, each-append P xs ys (p .1) q)
 
+  -- of the first list
   pub each-left : (P : A → Type 0) (xs ys : List A) → Each P (xs ++ ys) → Each P xs
   each-left P [] ys h = tt
   each-left P (x ∷ xs) ys h = (h .0, each-left P xs ys (h .1))
 
+  -- of the second
   pub each-right : (P : A → Type 0) (xs ys : List A) → Each P (xs ++ ys) → Each P ys
   each-right P [] ys h = h
   each-right P (x ∷ xs) ys h = each-right P xs ys (h .1)
 
+  -- one less
   pub pairwise-without : (S : A → A → Type 0) (xs ys : List A) (e : A) → Pairwise S (xs ++ (e ∷ ys)) → Pairwise S (xs ++ ys)
   pairwise-without S [] ys e h = h .1
   pairwise-without S (x ∷ xs) ys e h = (each-without (S x) xs ys e (h .0), pairwise-without S xs ys e (h .1))
@@ -150,10 +203,12 @@ module _ {A : Type 0} where
   pairwise-behind S [] ys e h = h .0
   pairwise-behind S (x ∷ xs) ys e h = pairwise-behind S xs ys e (h .1)
 
+  -- one more
   pub pairwise-insert : (S : A → A → Type 0) (xs ys : List A) (e : A) → Pairwise S (xs ++ ys) → Each (λ x. S x e) xs → Each (S e) ys → Pairwise S (xs ++ (e ∷ ys))
   pairwise-insert S [] ys e h b a = (a, h)
   pairwise-insert S (x ∷ xs) ys e h b a = (each-insert (S x) xs ys e (h .0) (b .0), pairwise-insert S xs ys e (h .1) (b .1) a)
 
+  -- the last passes
   pub any-last : (p : A → Bool) (xs : List A) (e : A) → p e ≡ true → any p (xs ++ (e ∷ [])) ≡ true
   any-last p [] e h = rw (h, any)
   any-last p (x ∷ xs) e h = go (p x) refl (any-last p xs e h)
@@ -161,3 +216,18 @@ module _ {A : Type 0} where
       go : (b : Bool) → p x ≡ b → any p (xs ++ (e ∷ [])) ≡ true → any p (x ∷ (xs ++ (e ∷ []))) ≡ true
       go true k i = rw (k, any)
       go false k i = any-no p x (xs ++ (e ∷ [])) k ∙ i
+
+-- steps that are there
+pub some-behind : {A : Type 0} (xs ys : List A) (y : A) → xs ++ (y ∷ ys) ≡ [] → ⊥
+some-behind [] ys y e = let z : _≡_ {A = ℕ} 0 1 = cc in omega arith
+some-behind (x ∷ xs) ys y e = let z : _≡_ {A = ℕ} 0 1 = cc in omega arith
+
+-- a list with some behind it is not empty
+pub some-append : {A : Type 0} (xs ys : List A) → (ys ≡ [] → ⊥) → xs ++ ys ≡ [] → ⊥
+some-append [] ys n e = n e
+some-append (x ∷ xs) ys n e = let z : _≡_ {A = ℕ} 0 1 = cc in omega arith
+
+-- no length, no element
+pub none-at : (s : List ℕ) → length s ≡ 0 → s ≡ []
+none-at [] e = refl
+none-at (x ∷ s) e = absurd (omega arith)

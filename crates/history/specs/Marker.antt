@@ -1,20 +1,19 @@
 -- The marker: from not turned, by a torn wrap, to turned; and a chain that ends exactly at N, which has turned with the same bytes.
-use Prim.Native.Nat.{ℕ, zero, suc, _+_, _-_, _*_, _/_, _≤_, _<_}
+use Prim.Native.Nat.{ℕ, zero, suc, _+_, _-_, _*_, _≤_}
 use native.Mathlib.Omega.{arith}
 use native.Mathlib.Nat.{zero-add}
-use mathlib.Core.Path.{_≡_, refl, sym, ap, _∙_, subst}
+use mathlib.Core.Path.{_≡_, sym, ap, _∙_, subst}
 use mathlib.Core.Bool.{true}
 use mathlib.Core.List.{List, [], _∷_, _++_, append-nil}
 use lib.ListN.{length, take, length-replicate}
 use Rattle.spec.specs.declared.Next.{Next}
 use Rattle.spec.specs.declared.Ending.{Ending}
 use Rattle.spec.specs.Step.{run, moved}
-use Rattle.spec.specs.Geometry.{floor}
 use Rattle.spec.specs.Record.{Rec}
 use Rattle.spec.specs.Chain.{read, reading-from}
 use Rattle.spec.specs.Write.{marker-steps}
 use Rattle.history.specs.Lay.{blanks, lay, sizes, entries-of}
-use Rattle.history.specs.Last.{Begun, torn-wrap, ends-torn-wrap, wrap}
+use Rattle.history.specs.Last.{Begun, torn-wrap, ends-torn-wrap}
 use Rattle.history.specs.Walk.{Quiet}
 use Rattle.history.specs.Quiet.{blank-split}
 use Rattle.history.specs.Shape.{shape-torn-wrap}
@@ -22,15 +21,34 @@ use Rattle.history.specs.Seg.{seg-none}
 use Rattle.history.specs.Steps.{Programs}
 use Rattle.history.specs.Straight.{Straight, bottom}
 use Rattle.history.specs.StraightEdit.{other, run-behind}
-use Rattle.history.specs.Turned.{Turned, exact, marker, Opens, opens-ff}
+use Rattle.history.specs.Turned.{Turned, exact, marker, opens-blanks, End, end-bytes}
 
-pub opens-blanks : (k : ℕ) → 8 ≤ k → Opens (blanks k) Next.Clear
-opens-blanks k h = subst (λ (l : List ℕ). Opens l Next.Clear) (sym (blank-split 8 (k - 8) k (omega arith))) opens-ff
+-- a chain whose records are followed by what ends them has turned: the sectors below the head are its free run
+pub turned-gap : {im : List ℕ} {a l : ℕ} {gap lost : List ℕ} {h : ℕ} {high : List Rec} {free : List ℕ} (s : Straight im a l gap lost h high seg-none free) (im′ : List ℕ) (end : End) →
+    im′ ≡ gap ++ (lost ++ lay high (end-bytes end)) → gap ≡ blanks (4096 * a) → 1 ≤ a → Turned im′ a l lost h [] seg-none (512 * a) (blanks (4096 * a)) high end
+turned-gap {a = a} {lost = lost} {high = high} s im′ end i e b =
+    record {
+      is = i ∙ ap (λ (x : List ℕ). x ++ (lost ++ lay high (end-bytes end))) e;
+      at = s .at;
+      some-below = b;
+      below = omega arith;
+      free-length = length-replicate {A = ℕ} (4096 * a) 255 ∙ omega arith;
+      free-quiet = subst (λ (l : List ℕ). Quiet (512 * a) l) e (s .gap-quiet);
+      opened = Next.Clear;
+      opens = opens-blanks (4096 * a) (omega arith);
+      lost-length = s .lost-length;
+      lost-small = s .lost-small;
+      lost-quiet = s .lost-quiet;
+      fine-low = tt;
+      walked = tt;
+      fine-high = s .fine;
+    }
 
 module _ {im : List ℕ} {a l : ℕ} {gap lost : List ℕ} {h : ℕ} {high : List Rec} {g : ℕ} (s : Straight im a l gap lost h high seg-none (blanks g)) (eight : 8 ≤ g) where
   at-tail : (j : ℕ) → j ≤ 3 → run im (moved (h + sizes high) (take j marker-steps)) ≡ gap ++ (lost ++ lay high (run (blanks 8 ++ blanks (g - 8)) (take j marker-steps)))
   at-tail j l =
-      run-behind high [] (sym (append-nil high)) s (take j marker-steps) (programs j) ∙ ap (λ (x : List ℕ). gap ++ (lost ++ lay high (run x (take j marker-steps)))) (blank-split 8 (g - 8) g (omega arith))
+      run-behind high [] (sym (append-nil high)) s (take j marker-steps) (programs j)
+      ∙ ap (λ (x : List ℕ). gap ++ (lost ++ lay high (run x (take j marker-steps)))) (blank-split 8 (g - 8) g (omega arith))
     where
       programs : (j : ℕ) → Programs (take j marker-steps)
       programs zero = tt
@@ -48,43 +66,12 @@ module _ {im : List ℕ} {a l : ℕ} {gap lost : List ℕ} {h : ℕ} {high : Lis
 
   -- done: the chain has turned, T is 0
   pub turned-by : gap ≡ blanks (4096 * a) → 1 ≤ a → Turned (run im (moved (h + sizes high) marker-steps)) a l lost h [] seg-none (512 * a) (blanks (4096 * a)) high (marker (g - 8))
-  turned-by e b =
-      record {
-        is = at-tail 3 (omega arith) ∙ ap (λ (x : List ℕ). x ++ (lost ++ lay high (wrap (blanks (g - 8))))) e;
-        at = s .at;
-        some-below = b;
-        below = omega arith;
-        free-length = length-replicate {A = ℕ} (4096 * a) 255 ∙ omega arith;
-        free-quiet = subst (λ (l : List ℕ). Quiet (512 * a) l) e (s .gap-quiet);
-        opened = Next.Clear;
-        opens = opens-blanks (4096 * a) (omega arith);
-        lost-length = s .lost-length;
-        lost-small = s .lost-small;
-        lost-quiet = s .lost-quiet;
-        fine-low = tt;
-        walked = tt;
-        fine-high = s .fine;
-      }
+  turned-by e b = turned-gap s (run im (moved (h + sizes high) marker-steps)) (marker (g - 8)) (at-tail 3 (omega arith)) e b
 
 -- a chain that ends at N with floor(h) > 0 has turned: the same bytes
-pub turned-exact : {im : List ℕ} {a l : ℕ} {gap lost : List ℕ} {h : ℕ} {high : List Rec} (s : Straight im a l gap lost h high seg-none []) → gap ≡ blanks (4096 * a) → 1 ≤ a → Turned im a l lost h [] seg-none (512 * a) (blanks (4096 * a)) high exact
-turned-exact {a = a} {lost = lost} {high = high} s e b =
-    record {
-      is = s .is ∙ ap (λ (x : List ℕ). x ++ (lost ++ lay high [])) e;
-      at = s .at;
-      some-below = b;
-      below = omega arith;
-      free-length = length-replicate {A = ℕ} (4096 * a) 255 ∙ omega arith;
-      free-quiet = subst (λ (l : List ℕ). Quiet (512 * a) l) e (s .gap-quiet);
-      opened = Next.Clear;
-      opens = opens-blanks (4096 * a) (omega arith);
-      lost-length = s .lost-length;
-      lost-small = s .lost-small;
-      lost-quiet = s .lost-quiet;
-      fine-low = tt;
-      walked = tt;
-      fine-high = s .fine;
-    }
+pub turned-exact : {im : List ℕ} {a l : ℕ} {gap lost : List ℕ} {h : ℕ} {high : List Rec} (s : Straight im a l gap lost h high seg-none []) → gap ≡ blanks (4096 * a) → 1 ≤ a →
+    Turned im a l lost h [] seg-none (512 * a) (blanks (4096 * a)) high exact
+turned-exact {im = im} s e b = turned-gap s im exact (s .is) e b
 
 -- the reading of a torn wrap
 pub torn-reading : (k : ℕ) {im : List ℕ} {a l : ℕ} {gap lost : List ℕ} {h c : ℕ} {x : Rec} {ys : List Rec} (s : Straight im a l gap lost h (x ∷ ys) seg-none (torn-wrap c k)) → Begun c → 1 ≤ a →

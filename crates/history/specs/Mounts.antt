@@ -1,8 +1,6 @@
 -- Mount on every kind of image, cut anywhere; run to its end it leaves a rested image. And whether an image is settled.
-use mathlib.Core.Path.{_≡_, refl, sym, ap, _∙_}
+use mathlib.Core.Path.{_≡_, refl, ap}
 use mathlib.Core.Bool.{true, false}
-use Prim.Native.Nat.{ℕ}
-use native.Mathlib.Omega.{arith}
 use mathlib.Core.List.{List, [], _∷_}
 use Rattle.spec.specs.Step.{Image, Step}
 use Rattle.spec.specs.Basics.{refuse, give, empty}
@@ -19,10 +17,12 @@ use Rattle.history.specs.Resting.{mends-quiet, mends-clean, mends-both, 
 use Rattle.history.specs.Unshadow.{mends-shadow}
 use Rattle.history.specs.VoidMount.{mends-void}
 use Rattle.history.specs.HalfMount.{mends-half}
+use Rattle.history.specs.Lists.{not-both}
 
 open-some : (g : Seg) → seg-open g ≡ true → g ≡ seg-none → ⊥
-open-some g o e = let z : true ≡ false = sym o ∙ ap seg-open e in let n : _≡_ {A = ℕ} 0 1 = cc in omega arith
+open-some g o e = not-both (seg-open g) (ap seg-open e) o
 
+-- every image of the invariant is mended
 pub mends : (l : Ledger) (im : Image) → Inv l im → Mends l im
 mends l im i = go (i .kind)
   where
@@ -32,7 +32,7 @@ mends l im i = go (i .kind)
     go (quiet B F {es = es} {seg = seg-cut c n f} d e s o) = mends-void B F es (seg-cut c n f) (i .good) d e s o (open-some _ refl)
     go (quiet B F {es = es} {seg = seg-held n c f} d e s o) = mends-void B F es (seg-held n c f) (i .good) d e s o (open-some _ refl)
     go (half a m c k s b z st o) = mends-half a m c k i s b z st o
-    go (shadow B F xs ys o d e s k b ok) = mends-shadow B F xs ys o i d e s k ok
+    go (shadow B F xs ys o d e s k ok) = mends-shadow B F xs ys o i d e s k ok
     go (clean B F d e a b c m o) = mends-clean B F (i .good) d e a b c m o
     go (both B F d e a b c k f m o) = mends-both B F (i .good) d e a b c k f m o
     go (vacated d e b a m o) = mends-vacated (i .good) d e b a m o
@@ -52,6 +52,7 @@ waiting : (im : Image) (r : Reading) → reading im ≡ give r → empty (mended
 unfolding settled-reading if-settled settled
 waiting im r e b = rw (settled-reading, e, if-settled, settled, b)
 
+-- every image of the invariant is rested, or waits for mount
 pub settling : (l : Ledger) (im : Image) → Inv l im → Settling l im
 settling l im i = go (m .needs)
   where

@@ -1,30 +1,30 @@
 -- What a change of one record does to the live files, on lists of records alone.
-use Prim.Native.Nat.{ℕ, zero, suc, _+_}
-use native.Mathlib.Omega.{arith}
+use Prim.Native.Nat.{ℕ}
 use mathlib.Core.Path.{_≡_, refl, sym, ap, ap₂, _∙_, subst}
-use mathlib.Core.Bool.{Bool, true, false, _&&_, not}
+use mathlib.Core.Bool.{Bool, true, false, not}
 use mathlib.Core.Option.{Option, none, some}
-use mathlib.Core.List.{List, [], _∷_, _++_, map, append-nil, append-assoc, List·Permᴰ, List·Permᴰ·cons, List·Permᴰ·trans, Permᴰ·refl, Permᴰ·symm, Permᴰ·middle, Permᴰ·append-nil}
-use lib.ListN.{length}
+use mathlib.Core.List.{List, [], _∷_, _++_, map, append-nil, append-assoc, List·Permᴰ, List·Permᴰ·cons, List·Permᴰ·trans, Permᴰ·symm, Permᴰ·middle, Permᴰ·append-nil}
 use lib.Dec.{eqb}
 use borrow.Author.Tests.{eqb-true, eq-eqb}
-use Rattle.spec.specs.Basics.{same, keep, first-such, Each}
+use Rattle.spec.specs.Basics.{same, keep, first-such}
 use Rattle.spec.specs.Record.{name-ok, Entry, name-of, content-of}
 use Rattle.spec.specs.Files.{named, named-as, has-named, has-name, file-named}
 use Rattle.spec.specs.History.{File, Ledger, not-named, without, with-file}
-use Rattle.history.specs.Lists.{keep-no, keep-yes, keep-append, each-map, each-end, each-swap, each-insert, each-without, each-at, each-append, each-left, each-right, each-all, pairwise-end, pairwise-without, pairwise-before, pairwise-behind, pairwise-insert, any-last, first-yes, first-no}
+use Rattle.history.specs.Lists.{keep-no, keep-yes, each-map, each-end, each-swap, each-insert, each-without, each-at, each-append, each-all, pairwise-end, pairwise-without, pairwise-before, pairwise-behind, pairwise-insert, any-last, first-yes, first-no, not-both}
 use Rattle.history.specs.Store.{same-sym, alive, Apart, Unique, Well-named, fc-alive, f8-alive, dead-apart, dead-named, files-alive}
 use Rattle.history.specs.Shadow.{Shadowed}
-use Rattle.history.specs.Ledger.{as-file, contents, Matches, Absent, perm-keep, keep-contents, contents-append, contents-one, matches-dead, none-absent, not-none, dead-not}
+use Rattle.history.specs.Ledger.{as-file, contents, Matches, Absent, perm-keep, keep-contents, contents-append, contents-one, matches-dead}
 use Rattle.history.specs.Kinds.{Ok, Bytes, Live-bytes}
 
 -- ---- names
 
+-- a name is the same as itself
 pub same-refl : (s : List ℕ) → same s s ≡ true
 unfolding same
 same-refl [] = refl
 same-refl (x ∷ s) = rw (same, eq-eqb x x refl) (same-refl s)
 
+-- names that are the same are equal
 pub same-is : (s t : List ℕ) → same s t ≡ true → s ≡ t
 unfolding same
 same-is [] [] h = refl
@@ -62,7 +62,8 @@ without-mid : (xs ys : List Entry) (e : Entry) (l : Ledger) → Unique (xs ++ (e
 without-mid xs ys e l u a m =
     let n : List ℕ = name-of e in
     let p : List·Permᴰ (without n (as-file e ∷ contents (xs ++ ys))) (without n l) = perm-keep (not-named n) (List·Permᴰ·trans (Permᴰ·symm (contents-front xs ys e a)) m) in
-    let q : without n (as-file e ∷ contents (xs ++ ys)) ≡ contents (xs ++ ys) = keep-no (not-named n) (as-file e) (contents (xs ++ ys)) (ap not (same-refl n)) ∙ keep-contents n (xs ++ ys) (absent-others xs ys e u a) in
+    let q : without n (as-file e ∷ contents (xs ++ ys)) ≡ contents (xs ++ ys) =
+    keep-no (not-named n) (as-file e) (contents (xs ++ ys)) (ap not (same-refl n)) ∙ keep-contents n (xs ++ ys) (absent-others xs ys e u a) in
     subst (λ (fs : List File). List·Permᴰ fs (without n l)) q p
 
 matches-put : (es : List Entry) (e : Entry) (l : Ledger) → alive e ≡ true → List·Permᴰ (contents es) (without (name-of e) l) → Matches (es ++ (e ∷ [])) (with-file (name-of e) (content-of e) l)
@@ -71,10 +72,10 @@ matches-put es e l a p =
     (List·Permᴰ·trans (Permᴰ·middle (as-file e) (contents es) []) (List·Permᴰ·cons refl (List·Permᴰ·trans (Permᴰ·append-nil (contents es)) p)))
 
 apart-dead : (f : Entry) → alive f ≡ false → (z : Entry) → Apart f z
-apart-dead f a z p q = absurd (dead-not (alive f) a p)
+apart-dead f a z p q = absurd (not-both (alive f) a p)
 
 dead-bytes : (f : Entry) → alive f ≡ false → Live-bytes f
-dead-bytes f a k = absurd (dead-not (alive f) a k)
+dead-bytes f a k = absurd (not-both (alive f) a k)
 
 module _ (xs ys : List Entry) (e f : Entry) (l : Ledger) (ok : Ok (xs ++ (e ∷ ys)) l) where
   -- a byte changed that no file is told by
@@ -224,8 +225,9 @@ old-first n (e ∷ es) = go (alive e) (same (name-of e) n) refl refl (old-first 
         subst (Old n (e ∷ es)) (sym (ap (first-such (has-name n)) (keep-yes alive e es x) ∙ first-yes (has-name n) e (keep alive es) y)) (old-some [] es e refl x (same-is (name-of e) n y))
     go true false x y ih =
         subst (Old n (e ∷ es)) (sym (ap (first-such (has-name n)) (keep-yes alive e es x) ∙ first-no (has-name n) e (keep alive es) y)) (old-cons n e es (λ k. y) ih)
-    go false b x y ih = subst (Old n (e ∷ es)) (sym (ap (first-such (has-name n)) (keep-no alive e es x))) (old-cons n e es (λ k. absurd (dead-not (alive e) x k)) ih)
+    go false b x y ih = subst (Old n (e ∷ es)) (sym (ap (first-such (has-name n)) (keep-no alive e es x))) (old-cons n e es (λ k. absurd (not-both (alive e) x k)) ih)
 
+-- what the search for a name gives
 pub old-file : (n : List ℕ) (es : List Entry) (l : Ledger) → Ok es l → Old n es (file-named n es)
 unfolding file-named
 old-file n es l ok = subst (λ (fs : List Entry). Old n es (first-such (has-name n) fs)) (sym (files-alive es (ok .unique))) (old-first n es)

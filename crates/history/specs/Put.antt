@@ -4,13 +4,13 @@ use native.Mathlib.Omega.{arith}
 use native.Mathlib.Nat.{zero-add, add-zero}
 use mathlib.Core.Path.{_≡_, refl, sym, ap, _∙_, subst}
 use mathlib.Core.List.{List, [], _∷_, _++_, append-assoc, append-nil}
-use lib.ListN.{length, take, set, length-append, length-replicate}
-use lib.Seq.{take-nil, length-take-le, take-all, take-length, take-append-le}
+use lib.ListN.{length, take, length-append, length-replicate}
+use lib.Seq.{take-nil, length-take-le, take-all, take-length}
 use Rattle.spec.specs.Step.{Step, program, apply, run, bytes-at}
 use Rattle.spec.specs.Geometry.{up8}
 use Rattle.spec.specs.Record.{size-of, Rec}
-use Rattle.spec.specs.Write.{header-steps, name-steps, data-steps, commit-steps, record-steps}
-use Rattle.history.specs.Lay.{blanks, pad, lens, onto, Plain, Fit}
+use Rattle.spec.specs.Write.{header-steps, name-steps, data-steps, record-steps}
+use Rattle.history.specs.Lay.{blanks, pad, onto, Plain, Fit, header}
 use Rattle.history.specs.Last.{Begun, begun-ff, begun-5a, begun-none, held}
 use Rattle.history.specs.Quiet.{blank-split}
 use Rattle.history.specs.Steps.{cut-one, cut-append, run-append, Programs, length-bytes, write-over, write-blank}
@@ -18,16 +18,12 @@ use Rattle.history.specs.Seg.{Seg, seg-none, seg-torn, seg-cut, seg-held
 
 -- ---- the states of a record under way, each with f bytes from its start to what follows, s
 
--- (M bounds the part that counts as taken)
-pub record Opened (M f : ℕ) (s l : List ℕ) : Type 0 where
+-- f bytes, of which some are taken by something unfinished and the others are FF
+pub record Opened (f : ℕ) (s l : List ℕ) : Type 0 where
   pub seg : Seg
   pub left : ℕ
   pub is : l ≡ seg-onto seg (blanks left ++ s)
   pub sum : seg-size seg + left ≡ f
-  pub bound : seg-size seg ≤ M
-
-abbrev header : ℕ → List ℕ → List ℕ
-header d t = 165 ∷ 90 ∷ 254 ∷ 255 ∷ lens d t
 
 -- FF after FF
 joined-blanks : (a b c m : ℕ) (s : List ℕ) → m ≡ suc (a + (b + c)) → blanks m ++ s ≡ 255 ∷ (blanks a ++ (blanks b ++ (blanks c ++ s)))
@@ -42,48 +38,48 @@ take-plain (suc j) [] p = tt
 take-plain (suc j) (x ∷ n) p = (p .0, take-plain j n (p .1))
 
 -- a name with j bytes written
-cut-state : (M d j f m : ℕ) (n s : List ℕ) → length n ≡ j → j < 64 → Plain n → d < 4294967296 → size-of j d ≤ f → m + j + 8 ≡ f → size-of j d ≤ M → Opened M f s (header d (n ++ (blanks m ++ s)))
-cut-state M d j f m n s e h p l i k o =
+cut-state : (d j f m : ℕ) (n s : List ℕ) → length n ≡ j → j < 64 → Plain n → d < 4294967296 → size-of j d ≤ f → m + j + 8 ≡ f → Opened f s (header d (n ++ (blanks m ++ s)))
+cut-state d j f m n s e h p l i k =
     let left : ℕ = f - size-of j d in
     record {
       seg = seg-cut d n (record { short = omega arith; plain = p; small = l });
       left = left;
       is = ap (λ (z : List ℕ). header d (n ++ z)) (joined-blanks (pad (length n + 1)) (up8 d) left m s (omega arith));
       sum = rw e (omega arith);
-      bound = rw e o;
     }
 
-torn-state : (M c x y z w f : ℕ) (s : List ℕ) → Begun c → 16 ≤ f → 16 ≤ M → Opened M f s (165 ∷ c ∷ 255 ∷ 255 ∷ x ∷ y ∷ z ∷ w ∷ (blanks (f - 8) ++ s))
-torn-state M c x y z w f s b h o =
+torn-state : (c x y z w f : ℕ) (s : List ℕ) → Begun c → 16 ≤ f → Opened f s (165 ∷ c ∷ 255 ∷ 255 ∷ x ∷ y ∷ z ∷ w ∷ (blanks (f - 8) ++ s))
+torn-state c x y z w f s b h =
     record {
       seg = seg-torn c x y z w 255 b begun-none;
       left = f - 16;
       is = ap (λ (l : List ℕ). 165 ∷ c ∷ 255 ∷ 255 ∷ x ∷ y ∷ z ∷ w ∷ l) (ap (λ (l : List ℕ). l ++ s) (blank-split 8 (f - 16) (f - 8) (omega arith)));
       sum = omega arith;
-      bound = o;
     }
 
 -- the header
-header-cut : (M d f : ℕ) (s : List ℕ) → d < 4294967296 → size-of 0 d ≤ f → size-of 0 d ≤ M → (k : ℕ) → k ≤ 7 → Opened M f s (run (blanks 8 ++ (blanks (f - 8) ++ s)) (take k (header-steps d)))
-header-cut M d f s l h o zero i =
-    record { seg = seg-none; left = f; is = sym (append-assoc (blanks 8) (blanks (f - 8)) s) ∙ ap (λ (z : List ℕ). z ++ s) (sym (blank-split 8 (f - 8) f (omega arith))); sum = zero-add f; bound = omega arith }
-header-cut M d f s l h o (suc zero) i = torn-state M 255 255 255 255 255 f s begun-ff (omega arith) (omega arith)
-header-cut M d f s l h o (suc (suc zero)) i = torn-state M 90 255 255 255 255 f s begun-5a (omega arith) (omega arith)
-header-cut M d f s l h o (suc (suc (suc zero))) i = torn-state M 90 _ 255 255 255 f s begun-5a (omega arith) (omega arith)
-header-cut M d f s l h o (suc (suc (suc (suc zero)))) i = torn-state M 90 _ _ 255 255 f s begun-5a (omega arith) (omega arith)
-header-cut M d f s l h o (suc (suc (suc (suc (suc zero))))) i = torn-state M 90 _ _ _ 255 f s begun-5a (omega arith) (omega arith)
-header-cut M d f s l h o (suc (suc (suc (suc (suc (suc zero)))))) i = torn-state M 90 _ _ _ _ f s begun-5a (omega arith) (omega arith)
-header-cut M d f s l h o (suc (suc (suc (suc (suc (suc (suc zero))))))) i = cut-state M d 0 f (f - 8) [] s refl (omega arith) tt l h (omega arith) o
-header-cut M d f s l h o (suc (suc (suc (suc (suc (suc (suc (suc k)))))))) i = absurd (omega arith)
+header-cut : (d f : ℕ) (s : List ℕ) → d < 4294967296 → size-of 0 d ≤ f → (k : ℕ) → k ≤ 7 → Opened f s (run (blanks 8 ++ (blanks (f - 8) ++ s)) (take k (header-steps d)))
+header-cut d f s l h zero i =
+    record { seg = seg-none; left = f; is = sym (append-assoc (blanks 8) (blanks (f - 8)) s) ∙ ap (λ (z : List ℕ). z ++ s) (sym (blank-split 8 (f - 8) f (omega arith))); sum = zero-add f }
+header-cut d f s l h (suc zero) i = torn-state 255 255 255 255 255 f s begun-ff (omega arith)
+header-cut d f s l h (suc (suc zero)) i = torn-state 90 255 255 255 255 f s begun-5a (omega arith)
+header-cut d f s l h (suc (suc (suc zero))) i = torn-state 90 _ 255 255 255 f s begun-5a (omega arith)
+header-cut d f s l h (suc (suc (suc (suc zero)))) i = torn-state 90 _ _ 255 255 f s begun-5a (omega arith)
+header-cut d f s l h (suc (suc (suc (suc (suc zero))))) i = torn-state 90 _ _ _ 255 f s begun-5a (omega arith)
+header-cut d f s l h (suc (suc (suc (suc (suc (suc zero)))))) i = torn-state 90 _ _ _ _ f s begun-5a (omega arith)
+header-cut d f s l h (suc (suc (suc (suc (suc (suc (suc zero))))))) i = cut-state d 0 f (f - 8) [] s refl (omega arith) tt l h (omega arith)
+header-cut d f s l h (suc (suc (suc (suc (suc (suc (suc (suc k)))))))) i = absurd (omega arith)
 
 -- the name
-name-cut : (d f : ℕ) (n s : List ℕ) → length n < 64 → Plain n → d < 4294967296 → size-of (length n) d ≤ f → (j : ℕ) → j ≤ length n → Opened (size-of (length n) d) f s (run (header d (blanks (f - 8) ++ s)) (take j (bytes-at 8 n)))
+name-cut : (d f : ℕ) (n s : List ℕ) → length n < 64 → Plain n → d < 4294967296 → size-of (length n) d ≤ f → (j : ℕ) → j ≤ length n →
+    Opened f s (run (header d (blanks (f - 8) ++ s)) (take j (bytes-at 8 n)))
 name-cut d f n s h p l i j k =
     let e : run (header d (blanks (f - 8) ++ s)) (take j (bytes-at 8 n)) ≡ header d (take j n ++ (blanks (f - 8 - j) ++ s)) =
     write-blank (header d []) n s 8 j (f - 8 - j) (f - 8) refl k (omega arith) in
-    rw e (cut-state (size-of (length n) d) d j f (f - 8 - j) (take j n) s (length-take-le j n k) (omega arith) (take-plain j n p) l (omega arith) (omega arith) (omega arith))
+    rw e (cut-state d j f (f - 8 - j) (take j n) s (length-take-le j n k) (omega arith) (take-plain j n p) l (omega arith) (omega arith))
 
-bytes-append : (a : ℕ) (v w : List ℕ) → bytes-at a (v ++ w) ≡ bytes-at a v ++ bytes-at (a + length v) w
+-- two runs of bytes
+pub bytes-append : (a : ℕ) (v w : List ℕ) → bytes-at a (v ++ w) ≡ bytes-at a v ++ bytes-at (a + length v) w
 bytes-append a [] w = rw (add-zero a)
 bytes-append a (x ∷ v) w =
     let e : a + 1 + length v ≡ a + suc (length v) = omega arith in
@@ -118,7 +114,7 @@ data-done n c s j m h e =
     rw (l₁, l₂) (simp append-assoc (simp append-assoc at (write-blank p c (blanks (pad d) ++ s) (8 + up8 (length n + 1)) j m d a h e)))
 
 data-cut : (n c s : List ℕ) (f : ℕ) → Fit (length c) n → size-of (length n) (length c) ≤ f → (j : ℕ) → j ≤ length c →
-    Opened (size-of (length n) (length c)) f s (run (onto (held n (blanks (length c))) (blanks (f - size-of (length n) (length c)) ++ s)) (take j (data-steps (length n) c)))
+    Opened f s (run (onto (held n (blanks (length c))) (blanks (f - size-of (length n) (length c)) ++ s)) (take j (data-steps (length n) c)))
 data-cut n c s f g h j i =
     let l : length (take j c ++ blanks (length c - j)) ≡ length c = simp (length-append, length-replicate, length-take-le j c i) (omega arith) in
     rw (data-done n c (blanks (f - size-of (length n) (length c)) ++ s) j (length c - j) i (omega arith))
@@ -127,7 +123,6 @@ data-cut n c s f g h j i =
       left = f - size-of (length n) (length c);
       is = refl;
       sum = rw l (omega arith);
-      bound = rw l (omega arith);
     })
 
 -- name and data
@@ -139,27 +134,27 @@ abbrev pub open-steps : List ℕ → List ℕ → List Step
 open-steps n c = header-steps (length c) ++ body-steps n c
 
 names-cut : (n c s : List ℕ) (f : ℕ) → Fit (length c) n → size-of (length n) (length c) ≤ f → (k : ℕ) → k ≤ length n + 1 →
-    Opened (size-of (length n) (length c)) f s (run (header (length c) (blanks (f - 8) ++ s)) (take k (name-steps n)))
+    Opened f s (run (header (length c) (blanks (f - 8) ++ s)) (take k (name-steps n)))
 names-cut n c s f g h k i =
     let H : List ℕ = header (length c) (blanks (f - 8) ++ s) in
     let R : List ℕ = onto (held n (blanks (length c))) (blanks (f - size-of (length n) (length c)) ++ s) in
-    let names : (j : ℕ) → j ≤ length n → Opened (size-of (length n) (length c)) f s (run H (take j (bytes-at 8 n))) = name-cut (length c) f n s (g .short) (g .plain) (g .small) h in
+    let names : (j : ℕ) → j ≤ length n → Opened f s (run H (take j (bytes-at 8 n))) = name-cut (length c) f n s (g .short) (g .plain) (g .small) h in
     let all : take (length n) (bytes-at 8 n) ≡ bytes-at 8 n = take-all (length n) (bytes-at 8 n) (omega (arith, length-bytes 8 n)) in
-    let a : Opened (size-of (length n) (length c)) f s (run H (bytes-at 8 n)) = rw all at (names (length n) (omega arith)) in
+    let a : Opened f s (run H (bytes-at 8 n)) = rw all at (names (length n) (omega arith)) in
     let e : apply (run H (bytes-at 8 n)) (program (8 + length n) 0) ≡ R = sym (run-append H (bytes-at 8 n) (program (8 + length n) 0 ∷ [])) ∙ named n c s f h in
-    cut-append (Opened (size-of (length n) (length c)) f s) H (bytes-at 8 n) (program (8 + length n) 0 ∷ [])
+    cut-append (Opened f s) H (bytes-at 8 n) (program (8 + length n) 0 ∷ [])
     (λ j l. names j (omega (arith, length-bytes 8 n)))
-    (cut-one (Opened (size-of (length n) (length c)) f s) (run H (bytes-at 8 n)) (program (8 + length n) 0) [] a
-    (λ j l. subst (λ (m : List ℕ). Opened (size-of (length n) (length c)) f s m) (sym e ∙ ap (run (apply (run H (bytes-at 8 n)) (program (8 + length n) 0))) (sym (take-nil j))) (data-cut n c s f g h 0 (omega arith))))
+    (cut-one (Opened f s) (run H (bytes-at 8 n)) (program (8 + length n) 0) [] a
+    (λ j l. subst (λ (m : List ℕ). Opened f s m) (sym e ∙ ap (run (apply (run H (bytes-at 8 n)) (program (8 + length n) 0))) (sym (take-nil j))) (data-cut n c s f g h 0 (omega arith))))
     k (omega (arith, length-bytes 8 n))
 
 body-cut : (n c s : List ℕ) (f : ℕ) → Fit (length c) n → size-of (length n) (length c) ≤ f → (k : ℕ) → k ≤ length n + suc (length c) →
-    Opened (size-of (length n) (length c)) f s (run (header (length c) (blanks (f - 8) ++ s)) (take k (body-steps n c)))
+    Opened f s (run (header (length c) (blanks (f - 8) ++ s)) (take k (body-steps n c)))
 body-cut n c s f g h k i =
     let ln : length (name-steps n) ≡ length n + 1 = length-append (bytes-at 8 n) (program (8 + length n) 0 ∷ []) ∙ omega (arith, length-bytes 8 n) in
-    cut-append (Opened (size-of (length n) (length c)) f s) (header (length c) (blanks (f - 8) ++ s)) (name-steps n) (data-steps (length n) c)
+    cut-append (Opened f s) (header (length c) (blanks (f - 8) ++ s)) (name-steps n) (data-steps (length n) c)
     (λ j l. names-cut n c s f g h j (omega (arith, ln)))
-    (λ j l. subst (λ (m : List ℕ). Opened (size-of (length n) (length c)) f s (run m (take j (data-steps (length n) c)))) (sym (named n c s f h))
+    (λ j l. subst (λ (m : List ℕ). Opened f s (run m (take j (data-steps (length n) c)))) (sym (named n c s f h))
     (data-cut n c s f g h j (omega (arith, length-bytes (8 + up8 (length n + 1)) c))))
     k (omega (arith, ln, length-bytes (8 + up8 (length n + 1)) c))
 
@@ -167,18 +162,20 @@ length-body : (n c : List ℕ) → length (body-steps n c) ≡ length n + suc (l
 length-body n c = simp (length-append, length-bytes) (omega arith)
 
 -- all steps before the commit
-pub open-cut : (n c s : List ℕ) (f : ℕ) → Fit (length c) n → size-of (length n) (length c) ≤ f → (k : ℕ) → k ≤ 8 + length n + length c → Opened (size-of (length n) (length c)) f s (run (blanks f ++ s) (take k (open-steps n c)))
+pub open-cut : (n c s : List ℕ) (f : ℕ) → Fit (length c) n → size-of (length n) (length c) ≤ f → (k : ℕ) → k ≤ 8 + length n + length c → Opened f s (run (blanks f ++ s) (take k (open-steps n c)))
 open-cut n c s f g h k i =
     let b : blanks f ++ s ≡ blanks 8 ++ (blanks (f - 8) ++ s) = ap (λ (z : List ℕ). z ++ s) (blank-split 8 (f - 8) f (omega arith)) ∙ append-assoc (blanks 8) (blanks (f - 8)) s in
     rw b
-    (cut-append (Opened (size-of (length n) (length c)) f s) (blanks 8 ++ (blanks (f - 8) ++ s)) (header-steps (length c)) (body-steps n c)
-    (λ j l. header-cut (size-of (length n) (length c)) (length c) f s (g .small) (omega arith) (omega arith) j l)
+    (cut-append (Opened f s) (blanks 8 ++ (blanks (f - 8) ++ s)) (header-steps (length c)) (body-steps n c)
+    (λ j l. header-cut (length c) f s (g .small) (omega arith) j l)
     (λ j l. body-cut n c s f g h j (omega (arith, length-body n c)))
     k (omega (arith, length-body n c)))
 
+-- the record of a file
 abbrev pub file : List ℕ → List ℕ → Rec
 file n c = record { low = 165; status = 252; name = n; content = c }
 
+-- all but the commit is done
 pub open-done : (n c s : List ℕ) (f : ℕ) → size-of (length n) (length c) ≤ f → run (blanks f ++ s) (open-steps n c) ≡ onto (held n c) (blanks (f - size-of (length n) (length c)) ++ s)
 open-done n c s f h =
     let r : List ℕ = blanks (f - size-of (length n) (length c)) ++ s in
@@ -190,18 +187,7 @@ open-done n c s f h =
     ∙ run-append H (name-steps n) D ∙ ap (λ (l : List ℕ). run l D) (named n c s f h)
     ∙ (rw (all, take-length c, append-nil c) at (data-done n c r (length c) 0 (omega arith) (omega arith)))
 
--- the commit is the last step of a record
-split-record : (n c : List ℕ) → record-steps n c ≡ open-steps n c ++ commit-steps
-split-record n c =
-    ap (λ (ss : List Step). header-steps (length c) ++ ss) (sym (append-assoc (name-steps n) (data-steps (length n) c) commit-steps))
-    ∙ sym (append-assoc (header-steps (length c)) (body-steps n c) commit-steps)
-
--- with the commit
-pub record-done : (n c s : List ℕ) (f : ℕ) → size-of (length n) (length c) ≤ f → run (blanks f ++ s) (record-steps n c) ≡ onto (file n c) (blanks (f - size-of (length n) (length c)) ++ s)
-record-done n c s f h =
-    ap (run (blanks f ++ s)) (split-record n c)
-    ∙ run-append (blanks f ++ s) (open-steps n c) commit-steps ∙ ap (λ (l : List ℕ). set l 2 252) (open-done n c s f h)
-
+-- how many steps a record has
 pub length-record : (n c : List ℕ) → length (record-steps n c) ≡ 9 + length n + length c
 length-record n c = simp (length-append, length-bytes) (omega arith)
 
@@ -209,13 +195,6 @@ programs-bytes : (a : ℕ) (w : List ℕ) (ss : List Step) → Programs ss → P
 programs-bytes a [] ss p = p
 programs-bytes a (x ∷ w) ss p = programs-bytes (a + 1) w ss p
 
+-- none of them erases
 pub record-programs : (n c : List ℕ) → Programs (record-steps n c)
 record-programs n c = rw (append-assoc (bytes-at 8 n)) (programs-bytes 8 n _ (programs-bytes (8 + up8 (length n + 1)) c _ tt))
-
-length-open : (n c : List ℕ) → length (open-steps n c) ≡ 8 + length n + length c
-length-open n c = simp (length-append, length-bytes) (omega arith)
-
-pub take-open : (n c : List ℕ) (k : ℕ) → k ≤ 8 + length n + length c → take k (record-steps n c) ≡ take k (open-steps n c)
-take-open n c k h =
-    ap (take k) (split-record n c)
-    ∙ take-append-le k (open-steps n c) commit-steps (omega (arith, length-open n c))

@@ -20,25 +20,27 @@ use Rattle.history.specs.Seg.{seg-none}
 use Rattle.history.specs.Steps.{length-moved}
 use Rattle.history.specs.Put.{open-steps, file}
 use Rattle.history.specs.Safe.{Safe, safe-append}
-use Rattle.history.specs.Laid.{Laid, Tail}
+use Rattle.history.specs.Laid.{Laid, Tail, Bare}
 use Rattle.history.specs.Kinds.{Bytes, Starts, Ok, Inv, place}
 use Rattle.history.specs.LaidEdit.{laid-below, laid-length, laid-head}
-use Rattle.history.specs.PutSound.{name-fit, and-right}
-use Rattle.history.specs.PutWrite.{Rest, rest-of, good-run, length-open, open-safe, commit-sound, committed}
+use Rattle.history.specs.PutSound.{name-fit}
+use Rattle.history.specs.PutWrite.{bare-of, good-run, length-open, open-safe, commit-sound, committed}
 use Rattle.history.specs.PutTurn.{Given, given-tail, given-zero, given, turned-by-marker, marker-safe}
+use Rattle.history.specs.Lists.{and-right}
 
 -- the steps before the commit of a record at a, behind the steps `turn`, m of them
 pub record Written (l : Ledger) (im : Image) (h : ℕ) (es : List Entry) (n c : List ℕ) (turn : List Step) (a m : ℕ) : Type 0 where
   pub safe : Safe (Inv l) im (turn ++ moved a (open-steps n c))
   pub count : length (turn ++ moved a (open-steps n c)) ≡ 8 + length n + length c + m
   pub sound : Sound (run im (turn ++ moved a (open-steps n c))) (program (a + 2) 252)
-  pub rest : Rest (apply (run im (turn ++ moved a (open-steps n c))) (program (a + 2) 252)) h (es ++ (record { at = a; it = file n c } ∷ []))
+  pub rest : Bare h (es ++ (record { at = a; it = file n c } ∷ [])) (apply (run im (turn ++ moved a (open-steps n c))) (program (a + 2) 252))
 
 small-image : (N : ℕ) → good-length N ≡ true → N ≤ 16777216
 unfolding good-length
 small-image N g = leb-true N 16777216 (and-right (eqb (N % 4096) 0 && leb 8192 N) (leb N 16777216) g)
 
-module _ {im : Image} {h S : ℕ} {t : Bool} {es : List Entry} (B F : ℕ) (d : Laid im h S t es seg-none (blanks B) (blanks F)) (l : Ledger) (good : good-length (length im) ≡ true) (st : Starts es) (ok : Ok es l)
+module _ {im : Image} {h S : ℕ} {t : Bool} {es : List Entry} (B F : ℕ) (d : Laid im h S t es seg-none (blanks B) (blanks F)) (l : Ledger) (good : good-length (length im) ≡ true) (st : Starts es)
+    (ok : Ok es l)
     (n c : List ℕ) (nice : name-ok n ≡ true) (b : Bytes c) where
   fit-tail : size-of (length n) (length c) ≤ F → Fit (length c) n
   fit-tail room = name-fit n (length c) nice (omega (arith, small-image (length im) good, laid-length d, length-replicate {A = ℕ} F 255))
@@ -52,7 +54,7 @@ module _ {im : Image} {h S : ℕ} {t : Bool} {es : List Entry} (B F : ℕ) (d : 
         safe = open-safe B F d n c (fit-tail room) b room l good st ok;
         count = omega (arith, length-moved S (open-steps n c), length-open n c);
         sound = commit-sound B F d n c (fit-tail room) b room;
-        rest = rest-of B (F - size-of (length n) (length c)) (committed B F d n c (fit-tail room) b room);
+        rest = bare-of B (F - size-of (length n) (length c)) (committed B F d n c (fit-tail room) b room);
       }
 
   at-zero : t ≡ false → size-of (length n) (length c) ≤ B → 8 ≤ F → Written l im h es n c (moved S marker-steps) 0 3
@@ -66,9 +68,10 @@ module _ {im : Image} {h S : ℕ} {t : Bool} {es : List Entry} (B F : ℕ) (d : 
             (open-safe 0 B turned n c g b room l (good-run im (moved S marker-steps) tt good) st ok);
         count = omega (arith, length-moved 0 (open-steps n c), length-open n c);
         sound = commit-sound 0 B turned n c g b room;
-        rest = rest-of 0 (B - size-of (length n) (length c)) (committed 0 B turned n c g b room);
+        rest = bare-of 0 (B - size-of (length n) (length c)) (committed 0 B turned n c g b room);
       }
 
+  -- put up to its commit, at the place that the size is given
   pub written : (p : Place) → p ≡ place im h S t → Tail h S t seg-none (blanks B) (blanks F) S t → fits p (size-of (length n) (length c)) ≡ true →
       Written l im h es n c (turn-steps p (size-of (length n) (length c))) (address p (size-of (length n) (length c))) (three-if (with-marker p (size-of (length n) (length c))))
   written p e tl f =

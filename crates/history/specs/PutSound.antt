@@ -1,34 +1,28 @@
 -- The steps of a new record, on FF: each only clears bits; and what a file name gives.
-use Prim.Native.Nat.{ℕ, suc, _+_, _-_, _/_, _%_, _≤_, _<_}
+use Prim.Native.Nat.{ℕ, _+_, _-_, _/_, _%_, _≤_, _<_}
 use native.Mathlib.Omega.{arith}
-use native.Mathlib.Nat.{add-zero}
 use mathlib.Core.Path.{_≡_, refl, sym, ap, _∙_, subst}
 use mathlib.Core.Bool.{Bool, true, false, _&&_, not}
 use mathlib.Core.List.{List, [], _∷_, _++_, append-assoc}
 use lib.ListN.{length, length-append, length-replicate}
 use lib.Dec.{leb}
-use lib.Bits.{bitAnd, and-mask}
 use borrow.Author.Tests.{leb-true}
-use Rattle.spec.specs.Step.{Step, program, run, bytes-at}
+use Rattle.spec.specs.Step.{Step, run, bytes-at}
 use Rattle.spec.specs.Basics.{all, empty, Each}
 use Rattle.spec.specs.Geometry.{up8}
 use Rattle.spec.specs.Bytes.{is-printable}
 use Rattle.spec.specs.Record.{size-of, name-ok, ends-in-slash}
 use Rattle.spec.specs.Write.{header-steps, name-steps, data-steps, commit-steps, record-steps}
 use Rattle.spec.specs.Demand.{Steps-sound}
-use Rattle.history.specs.Lay.{blanks, pad, lens, Plain, Fit}
-use Rattle.history.specs.Lists.{and-left}
+use Rattle.history.specs.Lay.{blanks, pad, Plain, Fit, header}
+use Rattle.history.specs.Lists.{and-left, and-right}
 use Rattle.history.specs.Quiet.{blank-split}
-use Rattle.history.specs.Put.{open-steps}
+use Rattle.history.specs.Put.{open-steps, bytes-append}
 use Rattle.history.specs.Steps.{write-over}
-use Rattle.history.specs.Safe.{sound-append, sound-bytes}
+use Rattle.history.specs.Safe.{sound-append, sound-bytes, on-blank}
 use Rattle.history.specs.Kinds.{Bytes}
 
 -- ---- a file name
-
-pub and-right : (a b : Bool) → (a && b) ≡ true → b ≡ true
-and-right true b h = h
-and-right false b h = cc
 
 printable : (x : ℕ) → is-printable x ≡ true → (33 ≤ x) × (x ≤ 126)
 unfolding is-printable
@@ -54,6 +48,7 @@ name-fit n d h l =
       small = l;
     }
 
+-- a file name is not empty
 pub name-some : (n : List ℕ) → name-ok n ≡ true → empty n ≡ false
 unfolding name-ok
 name-some [] h = cc
@@ -61,21 +56,9 @@ name-some (x ∷ n) h = refl
 
 -- ---- the steps
 
-bytes-two : (a : ℕ) (v w : List ℕ) → bytes-at a (v ++ w) ≡ bytes-at a v ++ bytes-at (a + length v) w
-bytes-two a [] w = rw (add-zero a)
-bytes-two a (x ∷ v) w =
-    let e : a + 1 + length v ≡ a + suc (length v) = omega arith in
-    ap (λ (l : List Step). program a x ∷ l) (bytes-two (a + 1) v w ∙ ap (λ (i : ℕ). bytes-at (a + 1) v ++ bytes-at i w) e)
-
 plain-bytes : (n : List ℕ) → Plain n → Each (λ b. b < 256) (n ++ (0 ∷ []))
 plain-bytes [] p = (omega arith, tt)
 plain-bytes (x ∷ n) p = (omega (arith, p .0 .1), plain-bytes n (p .1))
-
-abbrev header : ℕ → List ℕ
-header d = 165 ∷ 90 ∷ 254 ∷ 255 ∷ lens d []
-
-on-ff : (b : ℕ) → b < 256 → bitAnd b 255 ≡ b
-on-ff b h = and-mask b 8 ∙ omega arith
 
 header-sound : (d : ℕ) (s : List ℕ) → Steps-sound (blanks 8 ++ s) (header-steps d)
 header-sound d s = (
@@ -83,16 +66,17 @@ header-sound d s = (
   (
     (omega arith, refl),
     (
-      (omega arith, on-ff (d % 256) (omega arith)),
+      (omega arith, on-blank (d % 256) (omega arith)),
       (
-        (omega arith, on-ff (d / 256 % 256) (omega arith)),
-        ((omega arith, on-ff (d / 65536 % 256) (omega arith)), ((omega arith, on-ff (d / 16777216 % 256) (omega arith)), ((omega arith, refl), tt))),
+        (omega arith, on-blank (d / 256 % 256) (omega arith)),
+        ((omega arith, on-blank (d / 65536 % 256) (omega arith)), ((omega arith, on-blank (d / 16777216 % 256) (omega arith)), ((omega arith, refl), tt))),
       ),
     ),
   ),
 )
 
-body-sound : (n c s : List ℕ) (f : ℕ) → Fit (length c) n → Bytes c → size-of (length n) (length c) ≤ f → Steps-sound (header (length c) ++ (blanks (f - 8) ++ s)) (name-steps n ++ data-steps (length n) c)
+body-sound : (n c s : List ℕ) (f : ℕ) → Fit (length c) n → Bytes c → size-of (length n) (length c) ≤ f →
+    Steps-sound (header (length c) [] ++ (blanks (f - 8) ++ s)) (name-steps n ++ data-steps (length n) c)
 body-sound n c s f g b h =
     let d : ℕ = length c in
     let k : ℕ = length n + 1 in
@@ -102,15 +86,16 @@ body-sound n c s f g b h =
     let lw : length w ≡ k = length-append n (0 ∷ []) in
     let split : blanks (f - 8) ++ s ≡ blanks k ++ (blanks p ++ (blanks m ++ s)) =
     ap (λ (z : List ℕ). z ++ s) (blank-split k (p + m) (f - 8) (omega arith) ∙ ap (λ (z : List ℕ). blanks k ++ z) (blank-split p m (p + m) refl)) ∙ simp append-assoc in
-    let names : name-steps n ≡ bytes-at 8 w = sym (bytes-two 8 n (0 ∷ [])) in
-    let after : run (header d ++ (blanks (f - 8) ++ s)) (name-steps n) ≡ (header d ++ (w ++ blanks p)) ++ (blanks m ++ s) =
-    ap (λ (z : List Step). run (header d ++ (blanks (f - 8) ++ s)) z) names ∙ ap (λ (z : List ℕ). run (header d ++ z) (bytes-at 8 w)) split
-    ∙ write-over (header d) (blanks k) w (blanks p ++ (blanks m ++ s)) 8 refl (length-replicate k 255 ∙ sym lw) ∙ simp append-assoc in
-    let a : length (header d ++ (w ++ blanks p)) ≡ 8 + up8 (length n + 1) = simp (length-append, length-replicate) (omega arith) in
-    sound-append (header d ++ (blanks (f - 8) ++ s)) (name-steps n) (data-steps (length n) c)
-    (subst (λ (z : List Step). Steps-sound (header d ++ (blanks (f - 8) ++ s)) z) (sym names) (sound-bytes (header d) w s 8 (f - 8) (f - 8 - k) refl (omega arith) (plain-bytes n (g .plain))))
-    (subst (λ (z : List ℕ). Steps-sound z (data-steps (length n) c)) (sym after) (sound-bytes (header d ++ (w ++ blanks p)) c s (8 + up8 (length n + 1)) m (m - d) a (omega arith) b))
+    let names : name-steps n ≡ bytes-at 8 w = sym (bytes-append 8 n (0 ∷ [])) in
+    let after : run (header d [] ++ (blanks (f - 8) ++ s)) (name-steps n) ≡ (header d [] ++ (w ++ blanks p)) ++ (blanks m ++ s) =
+    ap (λ (z : List Step). run (header d [] ++ (blanks (f - 8) ++ s)) z) names ∙ ap (λ (z : List ℕ). run (header d [] ++ z) (bytes-at 8 w)) split
+    ∙ write-over (header d []) (blanks k) w (blanks p ++ (blanks m ++ s)) 8 refl (length-replicate k 255 ∙ sym lw) ∙ simp append-assoc in
+    let a : length (header d [] ++ (w ++ blanks p)) ≡ 8 + up8 (length n + 1) = simp (length-append, length-replicate) (omega arith) in
+    sound-append (header d [] ++ (blanks (f - 8) ++ s)) (name-steps n) (data-steps (length n) c)
+    (subst (λ (z : List Step). Steps-sound (header d [] ++ (blanks (f - 8) ++ s)) z) (sym names) (sound-bytes (header d []) w s 8 (f - 8) (f - 8 - k) refl (omega arith) (plain-bytes n (g .plain))))
+    (subst (λ (z : List ℕ). Steps-sound z (data-steps (length n) c)) (sym after) (sound-bytes (header d [] ++ (w ++ blanks p)) c s (8 + up8 (length n + 1)) m (m - d) a (omega arith) b))
 
+-- all but the commit
 pub open-sound : (n c s : List ℕ) (f : ℕ) → Fit (length c) n → Bytes c → size-of (length n) (length c) ≤ f → Steps-sound (blanks f ++ s) (open-steps n c)
 open-sound n c s f g b h =
     let e : blanks f ++ s ≡ blanks 8 ++ (blanks (f - 8) ++ s) = ap (λ (z : List ℕ). z ++ s) (blank-split 8 (f - 8) f (omega arith)) ∙ append-assoc (blanks 8) (blanks (f - 8)) s in

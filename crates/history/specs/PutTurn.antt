@@ -28,8 +28,7 @@ use Rattle.history.specs.Laid.{Laid, laid-straight, laid-turned, Tail, t
 use Rattle.history.specs.Kinds.{Starts, Ok, Kind, quiet, half, Inv, place}
 use Rattle.history.specs.LaidEdit.{laid-below, laid-limit, hole-of, turn-laid}
 use Rattle.history.specs.PutWrite.{blank-eight, good-run}
-use Rattle.history.specs.PutSound.{and-right}
-use Rattle.history.specs.Lists.{and-left}
+use Rattle.history.specs.Lists.{and-left, and-right}
 
 -- ---- the marker
 
@@ -53,6 +52,7 @@ module _ {im : Image} {h S : ℕ} {es : List Entry} (B F : ℕ) (d : Laid im h S
           (half a m 255 (F - 8) one begun-ff some st′ ok′, half a m 90 (F - 8) two begun-5a some st′ ok′)
       go (laid-turned s e i j k) = let z : _≡_ {A = ℕ} 0 1 = cc in absurd (omega arith)
 
+  -- after the marker: turned, and S is 0
   pub turned-by-marker : Laid (run im (moved S marker-steps)) h 0 true es seg-none [] (blanks B)
   turned-by-marker = let one : 1 ≤ B = omega arith in turn-laid d eight one
 
@@ -68,6 +68,7 @@ module _ {im : Image} {h S : ℕ} {es : List Entry} (B F : ℕ) (d : Laid im h S
       subst (λ (z : Image). Steps-sound z (moved S marker-steps)) (sym (hole-of d .is ∙ ap (λ (z : List ℕ). hole-of d .pre ++ (z ++ hole-of d .post)) (blank-eight F eight)))
       (sound-past (hole-of d .pre) ((blanks 8 ++ blanks (F - 8)) ++ hole-of d .post) marker-steps S (hole-of d .at) tt ((omega arith, refl), ((omega arith, refl), ((omega arith, refl), tt))))
 
+  -- the marker, cut anywhere
   pub marker-safe : good-length (length im) ≡ true → Safe (Inv l) im (moved S marker-steps)
   marker-safe good =
       safe-from (Inv l) im (moved S marker-steps)
@@ -85,6 +86,7 @@ fits-le : (p : Place) (s : ℕ) → fits-at-tail p s ≡ true → p .tail + s �
 unfolding fits-at-tail
 fits-le p s e = leb-true (p .tail + s) (limit p) e
 
+-- the place of a size that fits
 pub given : {im : Image} {h S : ℕ} {t : Bool} {es : List Entry} (B F s : ℕ) → Laid im h S t es seg-none (blanks B) (blanks F) → Tail h S t seg-none (blanks B) (blanks F) S t → 1 ≤ s →
     fits (place im h S t) s ≡ true → Given t S B F s (place im h S t)
 unfolding fits address with-marker

@@ -6,7 +6,6 @@ use mathlib.Core.Path.{_≡_, refl, sym, ap, _∙_, subst}
 use mathlib.Core.Bool.{Bool, true, false}
 use mathlib.Core.List.{List, [], _∷_, _++_}
 use lib.ListN.{length, take, set, length-append, length-replicate, length-set}
-use Rattle.spec.specs.declared.Next.{Next}
 use Rattle.spec.specs.Step.{Image, Step, program, erase, apply, run, moved}
 use Rattle.spec.specs.Geometry.{floor, good-length}
 use Rattle.spec.specs.Record.{size-of, Entry}
@@ -15,30 +14,30 @@ use Rattle.spec.specs.Demand.{Sound, Steps-sound}
 use Rattle.spec.specs.History.{Ledger}
 use Rattle.history.specs.Lay.{blanks, onto, Fit, low-record, st-fc}
 use Rattle.history.specs.Last.{held}
-use Rattle.history.specs.Quiet.{blank-split, quiet-blanks}
-use Rattle.history.specs.Walk.{Quiet}
-use Rattle.history.specs.Turned.{Opens, opens-ff, opens-none}
+use Rattle.history.specs.Quiet.{blank-split, quiet-ff}
+use Rattle.history.specs.Turned.{opens-words}
 use Rattle.history.specs.Seg.{Seg, seg-none, seg-torn, seg-cut, seg-held, seg-size}
 use Rattle.history.specs.Steps.{Programs, take-moved, take-programs, run-past, length-moved}
 use Rattle.history.specs.Put.{Opened, open-steps, open-cut, open-done, file, length-record, record-programs}
 use Rattle.history.specs.Safe.{Safe, safe-from, sound-past}
-use Rattle.history.specs.Laid.{Laid, laid-straight, laid-turned, Hole, Tail, tail-clear, tail-floor, tail-N, tail-turn}
+use Rattle.history.specs.Laid.{Laid, Hole, Tail, tail-clear, tail-floor, tail-N, tail-turn, Bare, clear-ff}
 use Rattle.history.specs.Kinds.{Bytes, Starts, Ok, Kind, quiet, Inv}
-use Rattle.history.specs.LaidEdit.{laid-below, hole-of, turn-exact}
+use Rattle.history.specs.LaidEdit.{laid-below, hole-of, turn-exact, free-quiet}
 use Rattle.history.specs.PutSound.{open-sound, commit-last}
 
 -- ---- lengths
 
-pub length-run : (im : Image) (ss : List Step) → Programs ss → length (run im ss) ≡ length im
+length-run : (im : Image) (ss : List Step) → Programs ss → length (run im ss) ≡ length im
 length-run im [] p = refl
 length-run im (program a b ∷ ss) p = length-run (set im a b) ss p ∙ length-set im a b
 length-run im (erase a ∷ ss) p = absurd p
 
-pub programs-moved : (a : ℕ) (ss : List Step) → Programs ss → Programs (moved a ss)
+programs-moved : (a : ℕ) (ss : List Step) → Programs ss → Programs (moved a ss)
 programs-moved a [] p = tt
 programs-moved a (program i b ∷ ss) p = programs-moved a ss p
 programs-moved a (erase i ∷ ss) p = absurd p
 
+-- programming keeps the length
 pub good-run : (im : Image) (ss : List Step) → Programs ss → good-length (length im) ≡ true → good-length (length (run im ss)) ≡ true
 good-run im ss p g = ap good-length (length-run im ss p) ∙ g
 
@@ -48,21 +47,8 @@ seg-words (seg-torn c x y z w t b m) = (2, refl)
 seg-words (seg-cut d n f) = (1 + (length n + 1 + 7) / 8 + (d + 7) / 8, omega arith)
 seg-words (seg-held n c f) = (1 + (length n + 1 + 7) / 8 + (length c + 7) / 8, omega arith)
 
--- the free run is words
-free-words : {im : Image} {h S : ℕ} {t : Bool} {es : List Entry} {seg : Seg} {below free : List ℕ} → Laid im h S t es seg below free → (f : ℕ) × (length free ≡ 8 * f)
-free-words (laid-straight f s a b c l q) = (f, l)
-free-words (laid-turned {f = f} s a b c e) = (f, s .free-length)
-
 blank-words : {im : Image} {h S : ℕ} {t : Bool} {es : List Entry} {seg : Seg} {below : List ℕ} (F : ℕ) → Laid im h S t es seg below (blanks F) → (f : ℕ) × (F ≡ 8 * f)
-blank-words F d = let w = free-words d in (w .0, sym (length-replicate {A = ℕ} F 255) ∙ w .1)
-
--- FF in words: quiet, and how it begins
-quiet-words : (m k : ℕ) → k ≡ 8 * m → Quiet m (blanks k)
-quiet-words m k e = subst (λ (i : ℕ). Quiet m (blanks i)) (sym e) (quiet-blanks m)
-
-opens-words : (m k : ℕ) → k ≡ 8 * m → (x : Next) × Opens (blanks k) x
-opens-words zero k e = (Next.Over, subst (λ (i : ℕ). Opens (blanks i) Next.Over) (sym e) opens-none)
-opens-words (suc m) k e = (Next.Clear, subst (λ (l : List ℕ). Opens l Next.Clear) (sym (blank-split 8 (8 * m) k (omega arith))) opens-ff)
+blank-words F d = let w = free-quiet d in (w .0, sym (length-replicate {A = ℕ} F 255) ∙ w .1)
 
 -- ---- the tail
 
@@ -88,6 +74,7 @@ left-of {h = h} {t = t} B F d = words (blank-words F d .0) (blank-words F d .1)
     words (suc k) e = left-some (omega arith)
     words zero e = turned t refl (omega arith)
 
+-- eight FF first
 pub blank-eight : (k : ℕ) → 8 ≤ k → blanks k ≡ blanks 8 ++ blanks (k - 8)
 blank-eight k h = blank-split 8 (k - 8) k (omega arith)
 
@@ -102,28 +89,19 @@ quiet-of : {im : Image} {l : Ledger} {h S : ℕ} {t : Bool} {es : List Entry} {s
     (T : ℕ) × (u : Bool) × Tail h S t seg (blanks B) (blanks F) T u → Starts es → Ok es l → Kind im l
 quiet-of B F d tl st ok = quiet B F d (tl .2) st ok
 
--- an image with nothing unfinished, as it is read
-pub record Rest (im : Image) (h : ℕ) (es : List Entry) : Type 0 where
-  pub S : ℕ
-  pub B : ℕ
-  pub F : ℕ
-  pub t : Bool
-  pub laid : Laid im h S t es seg-none (blanks B) (blanks F)
-  pub tail : Tail h S t seg-none (blanks B) (blanks F) S t
-
 -- a chain that ends at N with sectors below has turned
-pub rest-of : {im : Image} {h S : ℕ} {t : Bool} {es : List Entry} (B F : ℕ) → Laid im h S t es seg-none (blanks B) (blanks F) → Rest im h es
-rest-of {im} {h} {S} {t} {es} B F d = go (left-of B F d)
+pub bare-of : {im : Image} {h S : ℕ} {t : Bool} {es : List Entry} (B F : ℕ) → Laid im h S t es seg-none (blanks B) (blanks F) → Bare h es im
+bare-of {im} {h} {S} {t} {es} B F d = go (left-of B F d)
   where
-    go : Left h t B F → Rest im h es
-    go (left-some f) = record { S = S; B = B; F = F; t = t; laid = d; tail = tail-clear (blanks (F - 8)) (blank-eight F f) (sym (add-zero S)) refl }
+    go : Left h t B F → Bare h es im
+    go (left-some f) = record { S = S; B = B; F = F; t = t; laid = d; tail = clear-ff F f }
     go (left-floor z e) = record { S = S; B = B; F = F; t = t; laid = d; tail = tail-floor (ap blanks z) e (sym (add-zero S)) e }
     go (left-N z e f) = record { S = S; B = B; F = F; t = t; laid = d; tail = tail-N (ap blanks z) e f (sym (add-zero S)) e }
     go (left-turn z e b) =
         let ends : Laid im h S false es seg-none (blanks B) [] =
         subst (λ (u : Bool). Laid im h S u es seg-none (blanks B) []) e (subst (λ (k : ℕ). Laid im h S t es seg-none (blanks B) (blanks k)) z d) in
         let one : 1 ≤ B = omega arith in
-        record { S = 0; B = 0; F = B; t = true; laid = turn-exact ends one; tail = tail-clear (blanks (B - 8)) (blank-eight B b) refl refl }
+        record { S = 0; B = 0; F = B; t = true; laid = turn-exact ends one; tail = clear-ff B b }
 
 -- ---- the record
 
@@ -135,6 +113,7 @@ programs-left (erase i ∷ ss) ts p = p
 open-programs : (n c : List ℕ) → Programs (open-steps n c)
 open-programs n c = programs-left (open-steps n c) commit-steps (subst Programs (commit-last n c) (record-programs n c))
 
+-- how many steps there are before the commit
 pub length-open : (n c : List ℕ) → length (open-steps n c) ≡ 8 + length n + length c
 length-open n c = omega (arith, length-record n c, ap length (commit-last n c), length-append (open-steps n c) commit-steps)
 
@@ -144,14 +123,14 @@ module _ {im : Image} {h S : ℕ} {t : Bool} {es : List Entry} (B F : ℕ) (d : 
   at-hole H ss p = ap (λ (z : Image). run z (moved S ss)) (H .is) ∙ run-past (H .pre) (blanks F ++ H .post) ss S (H .at) p
 
   -- what stands at S replaced by a record under way
-  plugged : (l : Ledger) → Starts es → Ok es l → (H : Hole im h S t es seg-none (blanks B) (blanks F)) (im′ : Image) (s : List ℕ) → Opened (size-of (length n) (length c)) F (H .post) s → im′ ≡ H .pre ++ s → Kind im′ l
+  plugged : (l : Ledger) → Starts es → Ok es l → (H : Hole im h S t es seg-none (blanks B) (blanks F)) (im′ : Image) (s : List ℕ) → Opened F (H .post) s → im′ ≡ H .pre ++ s → Kind im′ l
   plugged l st ok H im′ s o e =
       let m : ℕ = blank-words F d .0 - seg-words (o .seg) .0 in
       let w : o .left ≡ 8 * m = omega (arith, blank-words F d .1, seg-words (o .seg) .1, o .sum) in
       let x = opens-words m (o .left) w in
       let laid : Laid im′ h S t es (o .seg) (blanks B) (blanks (o .left)) =
       subst (λ (z : Image). Laid z h S t es (o .seg) (blanks B) (blanks (o .left))) (ap (λ (z : List ℕ). H .pre ++ z) (sym (o .is)) ∙ sym e)
-      (H .plug (o .seg) m (blanks (o .left)) (x .0) (length-replicate {A = ℕ} (o .left) 255 ∙ w) (quiet-words m (o .left) w) (x .1)
+      (H .plug (o .seg) m (blanks (o .left)) (x .0) (length-replicate {A = ℕ} (o .left) 255 ∙ w) (quiet-ff m (blanks (o .left)) (ap blanks w)) (x .1)
       (omega (arith, o .sum, length-replicate {A = ℕ} (o .left) 255, length-replicate {A = ℕ} F 255))) in
       quiet-of B (o .left) laid (tail-of S (o .seg) (left-of B (o .left) laid) (λ i. omega (arith, ap seg-size i, o .sum))) st ok
 
@@ -160,6 +139,7 @@ module _ {im : Image} {h S : ℕ} {t : Bool} {es : List Entry} (B F : ℕ) (d : 
       plugged l st ok (hole-of d) (run im (take k (moved S (open-steps n c)))) (run (blanks F ++ hole-of d .post) (take k (open-steps n c))) (open-cut n c (hole-of d .post) F g room k i)
       (ap (run im) (take-moved k S (open-steps n c)) ∙ at-hole (hole-of d) (take k (open-steps n c)) (take-programs k (open-steps n c) (open-programs n c)))
 
+  -- before the commit, cut anywhere
   pub open-safe : (l : Ledger) → good-length (length im) ≡ true → Starts es → Ok es l → Safe (Inv l) im (moved S (open-steps n c))
   open-safe l good st ok =
       safe-from (Inv l) im (moved S (open-steps n c))
@@ -173,11 +153,13 @@ module _ {im : Image} {h S : ℕ} {t : Bool} {es : List Entry} (B F : ℕ) (d : 
   open-is : run im (moved S (open-steps n c)) ≡ hole-of d .pre ++ onto (held n c) (blanks (F - size-of (length n) (length c)) ++ hole-of d .post)
   open-is = at-hole (hole-of d) (open-steps n c) (open-programs n c) ∙ ap (λ (z : List ℕ). hole-of d .pre ++ z) (open-done n c (hole-of d .post) F room)
 
+  -- the commit only clears bits
   pub commit-sound : Sound (run im (moved S (open-steps n c))) (program (S + 2) 252)
   commit-sound =
       subst (λ (z : Image). Sound z (program (S + 2) 252)) (sym open-is)
       (sound-past (hole-of d .pre) (onto (held n c) (blanks (F - size-of (length n) (length c)) ++ hole-of d .post)) (program 2 252 ∷ []) S (hole-of d .at) tt ((omega arith, refl), tt) .0)
 
+  -- and adds the record
   pub committed :
       Laid (apply (run im (moved S (open-steps n c))) (program (S + 2) 252)) h (S + size-of (length n) (length c)) t (es ++ (record { at = S; it = file n c } ∷ [])) seg-none (blanks B)
       (blanks (F - size-of (length n) (length c)))
@@ -190,5 +172,6 @@ module _ {im : Image} {h S : ℕ} {t : Bool} {es : List Entry} (B F : ℕ) (d : 
       let e : apply (run im (moved S (open-steps n c))) (program (S + 2) 252) ≡ hole-of d .pre ++ onto (file n c) (blanks left ++ hole-of d .post) =
       ap (λ (y : Image). set y (S + 2) 252) open-is ∙ run-past (hole-of d .pre) (onto (held n c) (blanks left ++ hole-of d .post)) (program 2 252 ∷ []) S (hole-of d .at) tt in
       subst (λ (y : Image). Laid y h (S + z) t (es ++ (record { at = S; it = file n c } ∷ [])) seg-none (blanks B) (blanks left)) (sym e)
-      (hole-of d .grow (file n c) m (blanks left) (x .0) (record { low-ok = low-record; status-ok = st-fc; fit = g }) refl (length-replicate {A = ℕ} left 255 ∙ w) (quiet-words m left w) (x .1)
+      (hole-of d .grow (file n c) m (blanks left) (x .0) (record { low-ok = low-record; status-ok = st-fc; fit = g }) refl (length-replicate {A = ℕ} left 255 ∙ w)
+      (quiet-ff m (blanks left) (ap blanks w)) (x .1)
       (omega (arith, length-replicate {A = ℕ} left 255, length-replicate {A = ℕ} F 255)))

@@ -31,7 +31,7 @@ use Rattle.history.specs.Laid.{Laid}
 use Rattle.history.specs.Kinds.{Inv, Bytes, Rested, Starts, Ok, place}
 use Rattle.history.specs.PutSound.{name-some, commit-last}
 use Rattle.history.specs.PutPhases.{Written, written}
-use Rattle.history.specs.PutOld.{starts-end, plain-file, named-by, quiet-inv, rest-read, rest-head, rest-rested, Migrated, stays, migrates, deleted, delete-safe, delete-rested}
+use Rattle.history.specs.PutOld.{starts-end, plain-file, named-by, bare-inv, bare-read, bare-head, bare-quiet, Migrated, stays, migrates, deleted, delete-safe, delete-rested}
 
 -- steps that lead from the ledger k to the ledger l, by their step number `at`; the head stays at h
 pub record Commits (k l : Ledger) (im : Image) (ss : List Step) (at h : ℕ) : Type 0 where
@@ -70,7 +70,8 @@ module _ (k l : Ledger) (im : Image) (h : ℕ) (es : List Entry) (n c : List ℕ
       ap (λ (z : List Step). mig ++ (turn ++ (z ++ del))) (ap (moved a) (commit-last n c) ∙ moved-two a (open-steps n c) commit-steps)
       ∙ regroup mig turn (moved a (open-steps n c)) (moved a commit-steps) del
 
-  pub together : (left : Reading) → Safe (Inv l) (apply (run (run im mig) opened) (program (a + 2) 252)) del → Rested l (run (apply (run (run im mig) opened) (program (a + 2) 252)) del) left → left .place .head ≡ h →
+  together : (left : Reading) → Safe (Inv l) (apply (run (run im mig) opened) (program (a + 2) 252)) del → Rested l (run (apply (run (run im mig) opened) (program (a + 2) 252)) del) left →
+      left .place .head ≡ h →
       Commits k l im (mig ++ (turn ++ (moved a (record-steps n c) ++ del))) (length mig + (8 + length n + length c + m) + 1) h
   together left t r hd =
       record {
@@ -116,7 +117,7 @@ fresh {l} {im} {r} q n c absent nice b f =
     let g = committed-good w in
     recount (omega arith)
     (together l (with-file n c l) im (q .h) (q .es) n c [] (turn-steps p z) [] (address p z) (three-if (with-marker p z)) (safe-here (Inv l) im (turn-steps p z ++ moved (address p z) (open-steps n c)) (w .safe)) w
-    (rest-read (w .rest)) (quiet-inv g (w .rest) st ok) (rest-rested g (w .rest) st ok) (rest-head (w .rest)))
+    (bare-read (w .rest)) (bare-inv g (w .rest) st ok) (bare-quiet g (w .rest) st ok) (bare-head (w .rest)))
 
 -- a file replaced: o is the file once it is F8, x the new record
 module _ {l : Ledger} {im : Image} {r : Reading} (q : Rested l im r) (n c : List ℕ) (nice : name-ok n ≡ true) (b : Bytes c) (f : fits (r .place) (size-of (length n) (length c)) ≡ true)
@@ -140,10 +141,10 @@ module _ {l : Ledger} {im : Image} {r : Reading} (q : Rested l im r) (n c : List
       subst (λ (k : ℕ). Commits l (with-file n c l) im (mig ++ (turn-steps p z ++ (moved (address p z) (record-steps n c) ++ (program (k + 2) 0 ∷ [])))) (length mig + (8 + length n + length c + three-if (with-marker p z)) + 1) (q .h))
       (M .same-at)
       (together l (with-file n c l) im (q .h) (xs ++ (o ∷ ys)) n c mig (turn-steps p z) (program (o .at + 2) 0 ∷ []) (address p z) (three-if (with-marker p z)) (M .safe) w
-      (rest-read (deleted xs ys o x l g (w .rest) (M .starts) (M .ok) (M .named-f8) fc name plain b))
+      (bare-read (deleted xs ys o x l g (w .rest) (M .starts) (M .ok) (M .named-f8) fc name plain b))
       (delete-safe xs ys o x l g (w .rest) (M .starts) (M .ok) (M .named-f8) fc name plain b)
       (delete-rested xs ys o x l g (w .rest) (M .starts) (M .ok) (M .named-f8) fc name plain b)
-      (rest-head (deleted xs ys o x l g (w .rest) (M .starts) (M .ok) (M .named-f8) fc name plain b)))
+      (bare-head (deleted xs ys o x l g (w .rest) (M .starts) (M .ok) (M .named-f8) fc name plain b)))
 
   replaced : Commits l (with-file n c l) im (put-steps (r .place) (some e) n c) (length n + length c + 9 + one-if-fc (some e) + three-if (with-marker (r .place) (size-of (length n) (length c)))) (q .h)
   unfolding put-steps
@@ -176,13 +177,15 @@ module _ {l : Ledger} {im : Image} {r : Reading} (q : Rested l im r) (n c : List
           (recount (omega arith) (over (record { at = e .at; it = restatus 248 (e .it) }) (program (e .at + 2) 248 ∷ []) (migrates (q .B) (q .F) xs ys e d (q .tail) l (q .good) st ok a k named-so)))
       go false k = subst P (sym k) (recount (omega arith) (over e [] (stays (q .B) (q .F) xs ys e d (q .tail) l (q .good) st ok a k)))
 
+-- put on a rested image
 pub put-commits :
     {l : Ledger} {im : Image} {r : Reading} (q : Rested l im r) (old : Option Entry) (n c : List ℕ) → Old n (r .entries) old → name-ok n ≡ true → Bytes c →
     fits (r .place) (size-of (length n) (length c)) ≡ true →
     Commits l (with-file n c l) im (put-steps (r .place) old n c)
     (length n + length c + 9 + one-if-fc old + three-if (with-marker (r .place) (size-of (length n) (length c)))) (r .place .head)
 put-commits {l} {im} {r} q old n c o nice b f =
-    subst (Commits l (with-file n c l) im (put-steps (r .place) old n c) _) (sym (ap (λ (y : Reading). y .place .head) (q .is))) (go (subst (λ (z : List Entry). Old n z old) (ap (λ (y : Reading). y .entries) (q .is)) o))
+    subst (Commits l (with-file n c l) im (put-steps (r .place) old n c) _) (sym (ap (λ (y : Reading). y .place .head) (q .is)))
+    (go (subst (λ (z : List Entry). Old n z old) (ap (λ (y : Reading). y .entries) (q .is)) o))
   where
     go : {old : Option Entry} → Old n (q .es) old →
         Commits l (with-file n c l) im (put-steps (r .place) old n c)

@@ -14,6 +14,7 @@ use Rattle.spec.specs.Move.{mark-here}
 use Rattle.history.specs.Lay.{blanks, pad, padded, body, Plain}
 use Rattle.history.specs.Walk.{Quiet, mark-append}
 
+-- FF in two parts
 pub blank-split : (j m k : ℕ) → k ≡ j + m → blanks k ≡ blanks j ++ blanks m
 blank-split j m k e = ap blanks e ∙ sym (replicate-append-replicate j m 255)
 
@@ -21,16 +22,23 @@ mark-ff : (s : List ℕ) → mark-here (255 ∷ 255 ∷ s) ≡ false
 unfolding is-start is-clean is-record is-high
 mark-ff s = refl
 
+-- FF has no mark
 pub quiet-blanks : (k : ℕ) → Quiet k (blanks (8 * k))
 quiet-blanks zero = tt
 quiet-blanks (suc k) = rw (blank-split 8 (8 * k) (8 * suc k) (omega arith)) (mark-ff (blanks 6 ++ blanks (8 * k)), quiet-blanks k)
 
+-- nor has what is FF
+pub quiet-ff : (n : ℕ) (s : List ℕ) → s ≡ blanks (8 * n) → Quiet n s
+quiet-ff n s e = subst (λ (l : List ℕ). Quiet n l) (sym e) (quiet-blanks n)
+
+-- two parts, the first in words
 pub quiet-append : (j k : ℕ) (p s : List ℕ) → length p ≡ 8 * j → Quiet j p → Quiet k s → Quiet (j + k) (p ++ s)
 quiet-append zero k [] s e q r = rw zero-add r
 quiet-append zero k (x ∷ p) s e q r = absurd (omega arith)
 quiet-append (suc j) k p s e q r =
     rw (suc-add j k) (mark-append p s (omega arith) ∙ q .0, rw (drop-append-le 8 p s (omega arith)) (quiet-append j k (drop 8 p) s (length-drop 8 p ∙ omega arith) (q .1) r))
 
+-- from the j-th word on
 pub quiet-drop : (j k : ℕ) (s : List ℕ) → Quiet (j + k) s → Quiet k (drop (8 * j) s)
 quiet-drop zero k s q = subst (λ (n : ℕ). Quiet n s) (zero-add k) q
 quiet-drop (suc j) k s q =
@@ -46,10 +54,10 @@ quiet-take (suc j) k p s e q =
 
 -- ---- no mark, wherever it stands
 
-abbrev pub mark-pair : ℕ → ℕ → Bool
+abbrev mark-pair : ℕ → ℕ → Bool
 mark-pair a b = (is-start a || is-clean a || is-record a) && is-high b
 
-abbrev pub Calm : List ℕ → Type 0
+abbrev Calm : List ℕ → Type 0
 Calm [] = Unit {0}
 Calm (x ∷ s) = (mark-pair x (getD s 0 0) ≡ false) × Calm s
 
@@ -58,10 +66,12 @@ calm-drop zero s c = c
 calm-drop (suc i) [] c = tt
 calm-drop (suc i) (x ∷ s) c = calm-drop i s (c .1)
 
-mark-nil : mark-here [] ≡ false
+-- nothing is no mark
+pub mark-nil : mark-here [] ≡ false
 unfolding is-high is-start
 mark-nil = refl
 
+-- no mark anywhere, so none at the boundaries
 pub calm-quiet : (k : ℕ) (s : List ℕ) → Calm s → Quiet k s
 calm-quiet zero s c = tt
 calm-quiet (suc k) [] c = (mark-nil, calm-quiet k [] tt)

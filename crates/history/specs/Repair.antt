@@ -1,24 +1,24 @@
--- Repair 1: the sectors of a free run that aren't FF are erased, ascending; cut anywhere.
+-- Repair 1: the sectors of a free run that are not FF are erased, ascending; at the end all of it is FF.
 use Prim.Native.Nat.{ℕ, zero, suc, _+_, _*_, _≤_}
 use native.Mathlib.Omega.{arith}
 use native.Mathlib.Nat.{not-suc-le-zero}
-use mathlib.Core.Path.{_≡_, refl, sym, ap, ap₂, _∙_, subst}
+use mathlib.Core.Path.{_≡_, refl, sym, ap, ap₂, _∙_}
 use mathlib.Core.Bool.{Bool, true, false, not}
 use mathlib.Core.List.{List, [], _∷_, _++_, append-assoc, map}
 use lib.ListN.{length, take, drop, length-append, length-replicate, length-drop, take-append-drop}
-use lib.Seq.{length-take-le, take-at, drop-at, take-append-add, take-nil}
+use lib.Seq.{length-take-le, take-at, drop-at, take-append-add}
 use lib.Dec.{eqb}
 use borrow.Author.Tests.{le-leb, lt-leb, eqb-true}
-use Rattle.spec.specs.Step.{Image, Step, erase, sector, apply, run}
+use Rattle.spec.specs.Step.{Image, Step, erase, apply, run}
 use Rattle.spec.specs.Basics.{part, blank, keep}
 use Rattle.spec.specs.Geometry.{sectors-by}
 use Rattle.spec.specs.Mount.{dirty}
 use Rattle.history.specs.Lay.{blanks}
-use Rattle.history.specs.Walk.{Quiet}
-use Rattle.history.specs.Quiet.{blank-split, quiet-blanks, quiet-append, quiet-drop, quiet-take}
-use Rattle.history.specs.Erase.{erase-mid, length-sector, sector-is}
+use Rattle.history.specs.Quiet.{blank-split}
+use Rattle.history.specs.Erase.{erase-mid, sector-is}
 use Rattle.history.specs.Lists.{keep-yes, keep-no}
 
+-- what is blank is FF
 pub blank-is : (s : List ℕ) → blank s ≡ true → s ≡ blanks (length s)
 unfolding blank
 blank-is [] h = refl
@@ -52,72 +52,6 @@ mend-keep im n a b l e = ap (λ (ss : List ℕ). map erase (keep (dirty im) ss))
 mend-erase : (im : Image) (n a b : ℕ) → a + 4096 ≤ b → blank (part a (a + 4096) im) ≡ false → mend-steps im (suc n) a b ≡ erase a ∷ mend-steps im n (a + 4096) b
 mend-erase im n a b l e = ap (λ (ss : List ℕ). map erase (keep (dirty im) ss)) (sectors-next n a b l) ∙ ap (map erase) (keep-yes (dirty im) a (sectors-by n (a + 4096) b) (ap not e))
 
--- the region as it is after some of the steps
-pub record Mending (k : ℕ) (p s l : List ℕ) : Type 0 where
-  pub now : List ℕ
-  pub is : l ≡ p ++ (now ++ s)
-  pub size : length now ≡ 4096 * k
-  pub quiet : Quiet (512 * k) now
-
-mend-more : (k : ℕ) (p w s l : List ℕ) → length w ≡ 4096 → Quiet 512 w → Mending k (p ++ w) s l → Mending (suc k) p s l
-mend-more k p w s l e q m =
-    let n : 512 + 512 * k ≡ 512 * suc k = omega arith in
-    record {
-      now = w ++ m .now;
-      is = m .is ∙ append-assoc p w (m .now ++ s) ∙ ap (λ (x : List ℕ). p ++ x) (sym (append-assoc w (m .now) s));
-      size = length-append w (m .now) ∙ omega (arith, m .size);
-      quiet = subst (λ (j : ℕ). Quiet j (w ++ m .now)) n (quiet-append 512 (512 * k) w (m .now) e q (m .quiet));
-    }
-
-quiet-ff : (k : ℕ) (s : List ℕ) → s ≡ blanks (8 * k) → Quiet k s
-quiet-ff k s e = subst (λ (l : List ℕ). Quiet k l) (sym e) (quiet-blanks k)
-
-quiet-sector : Quiet 512 sector
-quiet-sector = quiet-ff 512 sector sector-is
-
--- cut after j steps: im₀ is the image that was tested, before any of them
-pub mend-cut : (k n a b : ℕ) (p₀ p r s : List ℕ) → length p₀ ≡ a → length p ≡ a → length r ≡ 4096 * k → Quiet (512 * k) r → a + 4096 * k ≡ b → k ≤ n → (im₀ : Image) → im₀ ≡ p₀ ++ (r ++ s) → (j : ℕ) →
-    Mending k p s (run (p ++ (r ++ s)) (take j (mend-steps im₀ n a b)))
-mend-cut zero n a b p₀ p r s e₀ e l q t i im₀ f j =
-    record { now = r; is = ap (λ (ss : List ℕ). run (p ++ (r ++ s)) (take j (map erase (keep (dirty im₀) ss)))) (sectors-none n a b (omega arith)) ∙ ap (run (p ++ (r ++ s))) (take-nil j); size = l; quiet = tt }
-mend-cut (suc k) zero a b p₀ p r s e₀ e l q t i im₀ f j = absurd (not-suc-le-zero i)
-mend-cut (suc k) (suc n) a b p₀ p r s e₀ e l q t i im₀ f zero = record { now = r; is = refl; size = l; quiet = q }
-mend-cut (suc k) (suc n) a b p₀ p r s e₀ e l q t i im₀ f (suc j) =
-    go (blank (part a (a + 4096) im₀)) refl
-    (λ w m h. mend-cut k n (a + 4096) b (p₀ ++ take 4096 r) (p ++ w) (drop 4096 r) s (length-append p₀ (take 4096 r) ∙ omega (arith, lr)) (length-append p w ∙ omega arith) (length-drop 4096 r ∙ omega arith) qr (omega arith) (omega arith) im₀
-    (f ∙ ap (λ (x : List ℕ). p₀ ++ x) split ∙ sym (append-assoc p₀ (take 4096 r) (drop 4096 r ++ s))) m)
-  where
-    lr : length (take 4096 r) ≡ 4096
-    lr = length-take-le 4096 r (omega arith)
-
-    split : r ++ s ≡ take 4096 r ++ (drop 4096 r ++ s)
-    split = ap (λ (x : List ℕ). x ++ s) (sym (take-append-drop 4096 r)) ∙ append-assoc (take 4096 r) (drop 4096 r) s
-
-    n₁ : 512 + 512 * k ≡ 512 * suc k
-    n₁ = omega arith
-
-    whole : Quiet (512 + 512 * k) (take 4096 r ++ drop 4096 r)
-    whole = rw (take-append-drop 4096 r, n₁) q
-
-    qr : Quiet (512 * k) (drop 4096 r)
-    qr = quiet-drop 512 (512 * k) r (subst (λ (m : ℕ). Quiet m r) (sym n₁) q)
-
-    qt : Quiet 512 (take 4096 r)
-    qt = quiet-take 512 (512 * k) (take 4096 r) (drop 4096 r) lr whole
-
-    go : (t : Bool) → blank (part a (a + 4096) im₀) ≡ t →
-        ((w : List ℕ) (m : ℕ) → length w ≡ 4096 → Mending k (p ++ w) s (run ((p ++ w) ++ (drop 4096 r ++ s)) (take m (mend-steps im₀ n (a + 4096) b)))) →
-        Mending (suc k) p s (run (p ++ (r ++ s)) (take (suc j) (mend-steps im₀ (suc n) a b)))
-    go true h rec =
-        let v : p ++ (r ++ s) ≡ (p ++ take 4096 r) ++ (drop 4096 r ++ s) = ap (λ (x : List ℕ). p ++ x) split ∙ sym (append-assoc p (take 4096 r) (drop 4096 r ++ s)) in
-        subst (λ (x : List ℕ). Mending (suc k) p s x) (ap₂ (λ (x : List ℕ) (ss : List Step). run x (take (suc j) ss)) (sym v) (sym (mend-keep im₀ n a b (omega arith) h)))
-        (mend-more k p (take 4096 r) s _ lr qt (rec (take 4096 r) (suc j) lr))
-    go false h rec =
-        let v : apply (p ++ (r ++ s)) (erase a) ≡ (p ++ sector) ++ (drop 4096 r ++ s) =
-        ap (λ (x : List ℕ). apply (p ++ x) (erase a)) split ∙ erase-mid p (take 4096 r) (drop 4096 r ++ s) a e lr ∙ sym (append-assoc p sector (drop 4096 r ++ s)) in
-        subst (λ (ss : List Step). Mending (suc k) p s (run (p ++ (r ++ s)) (take (suc j) ss))) (sym (mend-erase im₀ n a b (omega arith) h))
-        (subst (λ (x : List ℕ). Mending (suc k) p s (run x (take j (mend-steps im₀ n (a + 4096) b)))) (sym v) (mend-more k p sector s _ length-sector quiet-sector (rec sector j length-sector)))
-
 len-4096 : length (blanks 4096) ≡ 4096
 len-4096 = length-replicate {A = ℕ} 4096 255
 
@@ -129,7 +63,8 @@ mend-done zero n a b p₀ p (x ∷ r) s e₀ e l t i im₀ f = absurd (omega ari
 mend-done (suc k) zero a b p₀ p r s e₀ e l t i im₀ f = absurd (not-suc-le-zero i)
 mend-done (suc k) (suc n) a b p₀ p r s e₀ e l t i im₀ f =
     go (blank (part a (a + 4096) im₀)) refl
-    (mend-done k n (a + 4096) b (p₀ ++ take 4096 r) (p ++ blanks 4096) (drop 4096 r) s (length-append p₀ (take 4096 r) ∙ omega (arith, lr)) (length-append p (blanks 4096) ∙ omega (arith, len-4096)) (length-drop 4096 r ∙ omega arith) (omega arith) (omega arith) im₀
+    (mend-done k n (a + 4096) b (p₀ ++ take 4096 r) (p ++ blanks 4096) (drop 4096 r) s (length-append p₀ (take 4096 r) ∙ omega (arith, lr))
+    (length-append p (blanks 4096) ∙ omega (arith, len-4096)) (length-drop 4096 r ∙ omega arith) (omega arith) (omega arith) im₀
     (f ∙ ap (λ (x : List ℕ). p₀ ++ x) split ∙ sym (append-assoc p₀ (take 4096 r) (drop 4096 r ++ s))))
   where
     lr : length (take 4096 r) ≡ 4096
@@ -142,13 +77,16 @@ mend-done (suc k) (suc n) a b p₀ p r s e₀ e l t i im₀ f =
     tested = ap (part a (a + 4096)) (f ∙ ap (λ (x : List ℕ). p₀ ++ x) split) ∙ part-mid p₀ (take 4096 r) (drop 4096 r ++ s) a e₀ lr
 
     joined : (p ++ blanks 4096) ++ (blanks (4096 * k) ++ s) ≡ p ++ (blanks (4096 * suc k) ++ s)
-    joined = append-assoc p (blanks 4096) (blanks (4096 * k) ++ s) ∙ ap (λ (x : List ℕ). p ++ x) (sym (append-assoc (blanks 4096) (blanks (4096 * k)) s) ∙ ap (λ (x : List ℕ). x ++ s) (sym (blank-split 4096 (4096 * k) (4096 * suc k) (omega arith))))
+    joined =
+        append-assoc p (blanks 4096) (blanks (4096 * k) ++ s)
+        ∙ ap (λ (x : List ℕ). p ++ x) (sym (append-assoc (blanks 4096) (blanks (4096 * k)) s) ∙ ap (λ (x : List ℕ). x ++ s) (sym (blank-split 4096 (4096 * k) (4096 * suc k) (omega arith))))
 
     go : (t : Bool) → blank (part a (a + 4096) im₀) ≡ t → run ((p ++ blanks 4096) ++ (drop 4096 r ++ s)) (mend-steps im₀ n (a + 4096) b) ≡ (p ++ blanks 4096) ++ (blanks (4096 * k) ++ s) →
         run (p ++ (r ++ s)) (mend-steps im₀ (suc n) a b) ≡ p ++ (blanks (4096 * suc k) ++ s)
     go true h rec =
         let u : take 4096 r ≡ blanks 4096 = blank-is (take 4096 r) (sym (ap blank tested) ∙ h) ∙ ap blanks lr in
-        let v : p ++ (r ++ s) ≡ (p ++ blanks 4096) ++ (drop 4096 r ++ s) = ap (λ (x : List ℕ). p ++ x) (split ∙ ap (λ (x : List ℕ). x ++ (drop 4096 r ++ s)) u) ∙ sym (append-assoc p (blanks 4096) (drop 4096 r ++ s)) in
+        let v : p ++ (r ++ s) ≡ (p ++ blanks 4096) ++ (drop 4096 r ++ s) =
+        ap (λ (x : List ℕ). p ++ x) (split ∙ ap (λ (x : List ℕ). x ++ (drop 4096 r ++ s)) u) ∙ sym (append-assoc p (blanks 4096) (drop 4096 r ++ s)) in
         ap₂ run v (mend-keep im₀ n a b (omega arith) h) ∙ rec ∙ joined
     go false h rec =
         let v : apply (p ++ (r ++ s)) (erase a) ≡ (p ++ blanks 4096) ++ (drop 4096 r ++ s) =

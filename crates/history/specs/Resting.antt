@@ -31,10 +31,12 @@ use Rattle.history.specs.Kinds.{Ok, Starts, place, Rested}
 use Rattle.history.specs.Legal.{Ruled}
 use Rattle.history.specs.Closes.{close-rests, both-rests, vacated-rests}
 use Rattle.history.specs.Rules.{second-ruled, plain-ruled}
-use Rattle.history.specs.Idle.{some-behind, some-append, Mends, mends-none, mends-1, mends-2}
+use Rattle.history.specs.Idle.{Mends, mends-none, mends-1, mends-2}
+use Rattle.history.specs.Lists.{some-behind, some-append}
 
 -- ---- quiet, nothing at S
 
+-- a rested image: mount has nothing to do
 pub mends-quiet : {l : Ledger} {im : Image} {r : Reading} → Rested l im r → Mends l im
 mends-quiet q = mends-none (rested-reads q) (rested-inv q) q
 
@@ -43,7 +45,8 @@ mends-quiet q = mends-none (rested-reads q) (rested-inv q) q
 close-some : (N : ℕ) (x y : Entry) → close-steps N x y ≡ [] → ⊥
 unfolding close-steps
 close-some N x y e =
-    some-append (clean-steps (length (content-of x)) (data-at x) (content-of x)) (vacate-steps x y (vacated N x y)) (some-behind (map erase (vacated N x y)) (forget-steps x (vacated N x y)) (program (y .at) 0)) e
+    some-append (clean-steps (length (content-of x)) (data-at x) (content-of x)) (vacate-steps x y (vacated N x y))
+    (some-behind (map erase (vacated N x y)) (forget-steps x (vacated N x y)) (program (y .at) 0)) e
 
 second-clean : (w : Work) (x y : Entry) (es : List Entry) → y .it .low ≡ 160 → repair-2 w (x ∷ y ∷ es) ≡ after w (close-steps (w .reading .place .length) x y) (y .at)
 unfolding repair-2
@@ -66,7 +69,8 @@ or-second false b e = e
 
 -- the whole reading, with nothing at S
 start-is :
-    {im : Image} {h S T : ℕ} (B F : ℕ) {t u : Bool} {x : Entry} {es : List Entry} → Laid im h S t (x ∷ es) seg-none (blanks B) (blanks F) → Tail h S t seg-none (blanks B) (blanks F) T u → x .it .low ≡ 0 →
+    {im : Image} {h S T : ℕ} (B F : ℕ) {t u : Bool} {x : Entry} {es : List Entry} → Laid im h S t (x ∷ es) seg-none (blanks B) (blanks F) → Tail h S t seg-none (blanks B) (blanks F) T u →
+    x .it .low ≡ 0 →
     Ruled (x ∷ es) → reading im ≡ give (read (length im) h T u (x ∷ es) Ending.Tail)
 start-is {im} {h} {T = T} B F {u = u} {x} {es} d e a r =
     let n : (x ∷ es) ++ [] ≡ x ∷ es = append-nil (x ∷ es) in
@@ -79,6 +83,7 @@ pub starts-read :
 starts-read B F [] d e s r = absurd s
 starts-read B F (x ∷ es) d e s r = start-is B F d e (s .0) r
 
+-- the kind clean: mount does the rest of the move
 pub mends-clean :
     {l : Ledger} {im : Image} {h S T : ℕ} (B F : ℕ) {t u : Bool} {x y : Entry} {es : List Entry} → good-length (length im) ≡ true →
     Laid im h S t (x ∷ y ∷ es) seg-none (blanks B) (blanks F) → Tail h S t seg-none (blanks B) (blanks F) T u → x .it .low ≡ 0 → alive x ≡ false → y .it .low ≡ 160 → Each Unmarked es →
@@ -89,6 +94,7 @@ mends-clean {l} {im} {h} {T = T} B F {u = u} {x} {y} {es} g d e a b c m o =
     (close-rests B F g d e a b c m o) (close-some (length im) x y)
     (one-none (begin im r) (is-clean-0 (x .it .low) a)) (second-clean (begin im r) x y es c)
 
+-- the kind both: mount does the last step
 pub mends-both :
     {l : Ledger} {im : Image} {h S T : ℕ} (B F : ℕ) {t u : Bool} {x y : Entry} {es : List Entry} → good-length (length im) ≡ true →
     Laid im h S t (x ∷ y ∷ es) seg-none (blanks B) (blanks F) → Tail h S t seg-none (blanks B) (blanks F) T u → x .it .low ≡ 0 → alive x ≡ false → Cleaned (x .it) → y .it .low ≡ 0 →
@@ -100,10 +106,12 @@ mends-both {l} {im} {h} {T = T} B F {u = u} {x} {y} {es} g d e a b c k f m o =
     (both-rests B F g d e a b c k f m o) (some-behind [] [] (program (x .at + 1) 0))
     (one-none (begin im r) (is-clean-0 (x .it .low) a)) (second-start (begin im r) x y es k)
 
-first-clean : (w : Work) → head-clean (w .reading .entries) ≡ true → repair-1 w ≡ after w (erase-steps (w .image) (w .reading .place) ++ (program (w .reading .place .head) 0 ∷ [])) (w .reading .place .head)
+first-clean : (w : Work) → head-clean (w .reading .entries) ≡ true →
+    repair-1 w ≡ after w (erase-steps (w .image) (w .reading .place) ++ (program (w .reading .place .head) 0 ∷ [])) (w .reading .place .head)
 unfolding repair-1
 first-clean w e = rw (repair-1, e)
 
+-- the kind vacated: mount erases, and makes Y START
 pub mends-vacated :
     {l : Ledger} {im : Image} {h S T : ℕ} {t u : Bool} {x : Entry} {es : List Entry} {below free : List ℕ} → good-length (length im) ≡ true → Laid im h S t (x ∷ es) seg-none below free →
     Tail h S t seg-none below free T u → tail-blank im (place im h T u) ≡ true → x .it .low ≡ 160 → Each Unmarked es → Ok (x ∷ es) l → Mends l im

@@ -22,9 +22,11 @@ use Rattle.history.specs.Kinds.{Ok, Starts}
 
 -- ---- head START, the others plain
 
+-- a fine record is finished
 pub fine-finished : (es : List Entry) → Each (λ e. Fine (e .it)) es → Each Finished es
 fine-finished es f = each-map es (λ e h. finished (h .status-ok)) f
 
+-- the records of a quiet image
 pub calm-of : (x : Entry) (es : List Entry) (l : Ledger) → Each (λ e. Fine (e .it)) (x ∷ es) → Each Unmarked es → Ok (x ∷ es) l → Calm-store x es
 calm-of x es l f m o = record { unique = o .unique; well-named = o .well-named; finished = fine-finished (x ∷ es) f; unmarked = m }
 
@@ -36,6 +38,7 @@ seg-dead at (seg-torn c x y z w t b m) = (refl, tt)
 seg-dead at (seg-cut d n f) = (refl, tt)
 seg-dead at (seg-held n c f) = (refl, tt)
 
+-- the unfinished record is plain
 pub seg-plain : (at : ℕ) (g : Seg) → Each Unmarked (seg-entries at g)
 unfolding is-start is-clean
 seg-plain at seg-none = tt
@@ -57,7 +60,9 @@ marks-second : (x y : Entry) (es : List Entry) → second-ok (x ∷ y ∷ es) x 
 unfolding marks-ok
 marks-second x y es s h = rw (marks-ok, s, any-none marked es h)
 
-pub second-ruled : (x y : Entry) (es : List Entry) (l : Ledger) → Ok (x ∷ y ∷ es) l → alive x ≡ false → (is-clean (y .it .low) || eqb (floor (y .at)) (floor (x .at))) ≡ true → Each Unmarked es → Ruled (x ∷ y ∷ es)
+-- a head that is dead, and Y behind it CLEAN or in its sector
+pub second-ruled : (x y : Entry) (es : List Entry) (l : Ledger) → Ok (x ∷ y ∷ es) l → alive x ≡ false → (is-clean (y .it .low) || eqb (floor (y .at)) (floor (x .at))) ≡ true →
+    Each Unmarked es → Ruled (x ∷ y ∷ es)
 second-ruled x y es l o a e m =
     record {
       names = names-by (x ∷ y ∷ es) (o .unique) (o .well-named);
@@ -67,6 +72,7 @@ second-ruled x y es l o a e m =
 
 -- ---- any head, the others plain
 
+-- a head with plain records behind it
 pub plain-ruled : (x : Entry) (es : List Entry) (l : Ledger) → Ok (x ∷ es) l → Each Unmarked es → Ruled (x ∷ es)
 plain-ruled x es l o m = record { names = names-by (x ∷ es) (o .unique) (o .well-named); singles = unique-single (x ∷ es) (o .unique); marks = marks-by x es m }
 
@@ -153,5 +159,6 @@ marks-starts : (es : List Entry) → Starts es → marks-ok es ≡ true
 marks-starts [] s = absurd s
 marks-starts (x ∷ es) s = marks-by x es (s .1)
 
+-- one record shadowed by its successor
 pub shadow-ruled : (xs ys : List Entry) (o : Entry) (l : Ledger) → Starts (xs ++ (o ∷ ys)) → Shadowed xs ys o → Ok (xs ++ ys) l → Ruled (xs ++ (o ∷ ys))
 shadow-ruled xs ys o l h s ok = record { names = shadow-names xs ys o l s ok; singles = shadow-single xs ys o l s ok; marks = marks-starts (xs ++ (o ∷ ys)) h }

@@ -18,32 +18,33 @@ Safe P im [] = P im
 Safe P im (s ∷ ss) = P im × Sound im s × Safe P (apply im s) ss
 
 module _ (P : Image → Type 0) where
+  -- before any step
   pub safe-here : (im : Image) (ss : List Step) → Safe P im ss → P im
   safe-here im [] s = s
   safe-here im (x ∷ ss) s = s .0
 
+  -- after k steps
   pub safe-cut : (im : Image) (ss : List Step) → Safe P im ss → (k : ℕ) → P (run im (take k ss))
   safe-cut im ss s zero = safe-here im ss s
   safe-cut im [] s (suc k) = s
   safe-cut im (x ∷ ss) s (suc k) = safe-cut (apply im x) ss (s .2) k
 
+  -- after all
   pub safe-end : (im : Image) (ss : List Step) → Safe P im ss → P (run im ss)
   safe-end im [] s = s
   safe-end im (x ∷ ss) s = safe-end (apply im x) ss (s .2)
 
+  -- every step is sound
   pub safe-sound : (im : Image) (ss : List Step) → Safe P im ss → Steps-sound im ss
   safe-sound im [] s = tt
   safe-sound im (x ∷ ss) s = (s .1, safe-sound (apply im x) ss (s .2))
 
-  pub safe-sound-cut : (im : Image) (ss : List Step) → Safe P im ss → (k : ℕ) → Steps-sound im (take k ss)
-  safe-sound-cut im ss s zero = tt
-  safe-sound-cut im [] s (suc k) = tt
-  safe-sound-cut im (x ∷ ss) s (suc k) = (s .1, safe-sound-cut (apply im x) ss (s .2) k)
-
+  -- one list of steps behind another
   pub safe-append : (im : Image) (ss ts : List Step) → Safe P im ss → Safe P (run im ss) ts → Safe P im (ss ++ ts)
   safe-append im [] ts s t = t
   safe-append im (x ∷ ss) ts s t = (s .0, s .1, safe-append (apply im x) ss ts (s .2) t)
 
+  -- from each cut
   pub safe-from : (im : Image) (ss : List Step) → ((k : ℕ) → k ≤ length ss → P (run im (take k ss))) → Steps-sound im ss → Safe P im ss
   safe-from im [] f c = f 0 (omega arith)
   safe-from im (x ∷ ss) f c = (f 0 (omega arith), c .0, safe-from (apply im x) ss (λ k l. f (suc k) (omega arith)) (c .1))
@@ -55,16 +56,19 @@ safe-map P Q f im (x ∷ ss) s = (f im (s .0), s .1, safe-map P Q f (apply im x)
 
 -- ---- sound steps
 
+-- one list of steps behind another
 pub sound-append : (im : Image) (ss ts : List Step) → Steps-sound im ss → Steps-sound (run im ss) ts → Steps-sound im (ss ++ ts)
 sound-append im [] ts s t = t
 sound-append im (x ∷ ss) ts s t = (s .0, sound-append (apply im x) ss ts (s .1) t)
 
+-- the first k steps
 pub sound-take : (k : ℕ) (im : Image) (ss : List Step) → Steps-sound im ss → Steps-sound im (take k ss)
 sound-take zero im ss s = tt
 sound-take (suc k) im [] s = tt
 sound-take (suc k) im (x ∷ ss) s = (s .0, sound-take k (apply im x) ss (s .1))
 
-on-blank : (b : ℕ) → b < 256 → bitAnd b 255 ≡ b
+-- a byte on FF
+pub on-blank : (b : ℕ) → b < 256 → bitAnd b 255 ≡ b
 on-blank b h = and-mask b 8 ∙ omega arith
 
 -- bytes on FF

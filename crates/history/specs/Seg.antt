@@ -14,24 +14,28 @@ use Rattle.history.specs.Walk.{Quiet, Head-low}
 use Rattle.history.specs.Head.{Reaches, Reaches₁, reaches-more, reaches-gap, reaches-torn, reaches-begun, reaches-held, reaches-quiet}
 use Rattle.history.specs.Shape.{chain-of}
 
+-- nothing, a torn record, one whose name was not ended, one that was not committed
 pub data Seg : Type 0 where
   seg-none : Seg
   seg-torn : (c x y z w t : ℕ) → Begun c → Name-begun t → Seg
   seg-cut : (d : ℕ) (n : List ℕ) → Fit d n → Seg
   seg-held : (n c : List ℕ) → Fit (length c) n → Seg
 
+-- its bytes in front of s
 abbrev pub seg-onto : Seg → List ℕ → List ℕ
 seg-onto seg-none s = s
 seg-onto (seg-torn c x y z w t b m) s = torn c (x ∷ y ∷ z ∷ w ∷ []) t s
 seg-onto (seg-cut d n f) s = begun d n s
 seg-onto (seg-held n c f) s = onto (held n c) s
 
+-- its size
 abbrev pub seg-size : Seg → ℕ
 seg-size seg-none = 0
 seg-size (seg-torn c x y z w t b m) = 16
 seg-size (seg-cut d n f) = size-of (length n) d
 seg-size (seg-held n c f) = size-of (length n) (length c)
 
+-- its entry, as it is read
 abbrev pub seg-entries : ℕ → Seg → List Entry
 seg-entries at seg-none = []
 seg-entries at (seg-torn c x y z w t b m) = record { at = at; it = torn-rec } ∷ []
@@ -65,6 +69,7 @@ length-seg (seg-torn c x y z w u b m) s = omega arith
 length-seg (seg-cut d n f) s = simp (length-append, length-replicate) (omega arith)
 length-seg (seg-held n c f) s = simp (length-append, length-replicate) (omega arith)
 
+-- past it
 pub drop-seg : (g : Seg) (s : List ℕ) → drop (seg-size g) (seg-onto g s) ≡ s
 drop-seg seg-none s = refl
 drop-seg (seg-torn c x y z w t b m) s = refl
@@ -76,7 +81,9 @@ gap-or : {b : ℕ} (at j : ℕ) (q t : List ℕ) → length q ≡ 8 * j → Quie
 gap-or at zero q t e h l n = reaches-gap at zero q t e h l (λ i. not-suc-le-zero (n i))
 gap-or {b} at (suc j) q t e h l n = reaches-quiet at j q (b ∷ 90 ∷ t) e h
 
-pub seg-reaches : {b : ℕ} (at j : ℕ) (g : Seg) (q t : List ℕ) → length q ≡ 8 * j → Quiet j q → Head-low b → (at + seg-size g ≡ 0 → 1 ≤ j) → Reaches at (seg-onto g (q ++ (b ∷ 90 ∷ t))) (b ∷ 90 ∷ t) (seg-size g + 8 * j)
+-- the head behind it is reached
+pub seg-reaches : {b : ℕ} (at j : ℕ) (g : Seg) (q t : List ℕ) → length q ≡ 8 * j → Quiet j q → Head-low b → (at + seg-size g ≡ 0 → 1 ≤ j) →
+    Reaches at (seg-onto g (q ++ (b ∷ 90 ∷ t))) (b ∷ 90 ∷ t) (seg-size g + 8 * j)
 seg-reaches {b} at j seg-none q t e h l n = rw (zero-add (8 * j)) (reaches-more (gap-or at j q t e h l (λ i. n (add-zero at ∙ i))))
 seg-reaches {b} at j (seg-torn c x y z w u o m) q t e h l n = reaches-more (reaches-torn at x y z w j q (b ∷ 90 ∷ t) o m e h)
 seg-reaches {b} at j (seg-cut d m f) q t e h l n = reaches-begun at d m (q ++ (b ∷ 90 ∷ t)) (b ∷ 90 ∷ t) f (reaches-gap (at + size-of (length m) d) j q t e h l (λ i. omega arith))

@@ -34,8 +34,10 @@ quiet-reads {im} {h} {S} B F {t} (x ∷ es) d e st ok =
     start-reads B F d e (st .0) (subst Ruled (sym (append-nil (x ∷ es))) (calm-ruled x es c)) ∙ ap (λ (w : List Entry). give (read (length im) h S t w Ending.Tail)) (append-nil (x ∷ es)) in
     (r, settled-give im (length im) h S t x es c (is-clean-0 (x .it .low) (st .0)) r)
 
+-- what is read
 pub rested-reads : {l : Ledger} {im : Image} {r : Reading} → Rested l im r → reading im ≡ give r
 rested-reads q = quiet-reads (q .B) (q .F) (q .es) (q .laid) (q .tail) (q .starts) (q .ok) .0 ∙ ap give (sym (q .is))
 
+-- and it is settled
 pub rested-settled : {l : Ledger} {im : Image} {r : Reading} → Rested l im r → settled-reading im ≡ give r
 rested-settled q = quiet-reads (q .B) (q .F) (q .es) (q .laid) (q .tail) (q .starts) (q .ok) .1 ∙ ap give (sym (q .is))

@@ -4,9 +4,9 @@ use mathlib.Core.Bool.{Bool, true, false, _&&_, _||_, not, and-false}
 use mathlib.Core.List.{List, [], _∷_, _++_}
 use Rattle.spec.specs.Basics.{keep}
 use Rattle.spec.specs.Record.{Entry}
-use Rattle.spec.specs.Files.{same-name, named, named-as, has-named, live, superseded, files}
-use Rattle.history.specs.Lists.{any-insert, keep-insert, keep-append, keep-yes, keep-same, each-all}
-use Rattle.history.specs.Store.{alive, Unique, files-alive, none-superseded, fc-not-f8}
+use Rattle.spec.specs.Files.{named, named-as, has-named, live, superseded}
+use Rattle.history.specs.Lists.{any-insert, keep-append, keep-yes, keep-same, each-all}
+use Rattle.history.specs.Store.{Unique, none-superseded, fc-not-f8}
 
 empty-left : (a b : List Entry) → a ++ b ≡ [] → a ≡ []
 empty-left [] b h = refl
@@ -16,6 +16,7 @@ empty-right : (a b : List Entry) → a ++ b ≡ [] → b ≡ []
 empty-right [] b h = h
 empty-right (x ∷ a) b h = cc
 
+-- the F8 record o between xs and ys, with an FC of its name among them
 pub record Shadowed (xs ys : List Entry) (o : Entry) : Type 0 where
   pub unique : Unique (xs ++ ys)
   pub old : named 0xF8 o ≡ true
@@ -29,21 +30,19 @@ module _ (xs ys : List Entry) (o : Entry) (s : Shadowed xs ys o) where
   R = xs ++ ys
 
   -- o is no FC, so nobody sees it
-  pub has-same : (e : Entry) → has-named 0xFC es e ≡ has-named 0xFC R e
+  has-same : (e : Entry) → has-named 0xFC es e ≡ has-named 0xFC R e
   unfolding has-named
   has-same e = any-insert (named-as 0xFC e) xs ys o (rw (fc-not-f8 o (s .old)))
 
+  -- the others are live as without o
   pub live-same : (e : Entry) → live es e ≡ live R e
   unfolding live
   live-same e = ap (λ (b : Bool). named 0xFC e || (named 0xF8 e && not b)) (has-same e)
 
+  -- o is not
   pub o-dead : live es o ≡ false
   unfolding live
   o-dead = rw (live, has-same o, s .covered, fc-not-f8 o (s .old)) (and-false (named 0xF8 o))
-
-  -- the files are those of R
-  pub shadow-files : files es ≡ keep alive R
-  shadow-files = keep-insert (live es) xs ys o o-dead ∙ keep-same (live es) (live R) R (each-all (λ e. live es e ≡ live R e) live-same R) ∙ files-alive R (s .unique)
 
   super-same : (e : Entry) → superseded es e ≡ superseded R e
   unfolding superseded
@@ -59,4 +58,5 @@ module _ (xs ys : List Entry) (o : Entry) (s : Shadowed xs ys o) where
       let p : Entry → Bool = superseded es in
       let n : keep p xs ++ keep p ys ≡ [] =
       sym (keep-append p xs ys) ∙ keep-same (superseded es) (superseded R) R (each-all (λ e. superseded es e ≡ superseded R e) super-same R) ∙ none-superseded R (s .unique) in
-      keep-append p xs (o ∷ ys) ∙ ap₂ (λ (a b : List Entry). a ++ b) (empty-left (keep p xs) (keep p ys) n) (keep-yes p o ys o-super ∙ ap (λ (l : List Entry). o ∷ l) (empty-right (keep p xs) (keep p ys) n))
+      keep-append p xs (o ∷ ys)
+      ∙ ap₂ (λ (a b : List Entry). a ++ b) (empty-left (keep p xs) (keep p ys) n) (keep-yes p o ys o-super ∙ ap (λ (l : List Entry). o ∷ l) (empty-right (keep p xs) (keep p ys) n))

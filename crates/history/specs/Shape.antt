@@ -4,7 +4,7 @@ use native.Mathlib.Omega.{arith}
 use native.Mathlib.Nat.{zero-add}
 use mathlib.Core.Path.{_≡_, refl, sym, ap, _∙_, subst}
 use mathlib.Core.Bool.{Bool, true, false}
-use mathlib.Core.List.{List, [], _∷_, _++_, append-assoc, append-nil}
+use mathlib.Core.List.{List, [], _∷_, _++_, append-nil}
 use lib.ListN.{length, take, drop, length-append}
 use lib.Seq.{take-at, drop-at}
 use lib.Dec.{eqb}
@@ -14,9 +14,10 @@ use Rattle.spec.specs.declared.Ending.{Ending}
 use Rattle.spec.specs.Geometry.{floor}
 use Rattle.spec.specs.Record.{Rec, Entry}
 use Rattle.spec.specs.Chain.{Chain, add, stop, chain, Reading, read, joined, from-head, from-zero, read-on, reading-from}
-use Rattle.history.specs.Lay.{lay, sizes, entries-of, before, All-fine, chain-lay, length-lay, lay-is, lots, drop-past}
+use Rattle.history.specs.Lay.{lay, sizes, entries-of, before, All-fine, chain-lay, length-lay, lots, drop-past, lay-past}
 use Rattle.history.specs.Last.{Ends, Stops}
 
+-- entries, then the end
 abbrev pub chain-of : List Entry → Bool → ℕ → Next → Chain
 chain-of es o t x = record { entries = es; held = o; tail = t; last = x }
 
@@ -32,40 +33,45 @@ module _ (low high : List Rec) (gap lost rest : List ℕ) (h : ℕ) (below : siz
   image = lay low (gap ++ (lost ++ lay high rest))
 
   split : image ≡ lay low gap ++ (lost ++ lay high rest)
-  split = lay-is low (gap ++ (lost ++ lay high rest)) ∙ sym (append-assoc (lay low []) gap (lost ++ lay high rest)) ∙ ap (λ (l : List ℕ). l ++ (lost ++ lay high rest)) (sym (lay-is low gap))
+  split = sym (lay-past low gap (lost ++ lay high rest))
 
   low-length : length (lay low gap) ≡ floor h
   low-length = length-lay low gap ∙ below
 
+  -- up to the head's sector
   pub take-low : take (floor h) image ≡ lay low gap
   take-low = ap (take (floor h)) split ∙ take-at (lay low gap) (lost ++ lay high rest) (floor h) low-length
 
+  -- from the head on
   pub drop-high : drop h image ≡ lay high rest
-  drop-high = ap (drop h) split ∙ drop-past (lay low gap) (lost ++ lay high rest) h (length lost) (sym here ∙ ap (λ (k : ℕ). k + length lost) (sym low-length)) ∙ drop-at lost (lay high rest) (length lost) refl
+  drop-high =
+      ap (drop h) split ∙ drop-past (lay low gap) (lost ++ lay high rest) h (length lost) (sym here ∙ ap (λ (k : ℕ). k + length lost) (sym low-length))
+      ∙ drop-at lost (lay high rest) (length lost) refl
 
-  pub length-image : length image ≡ h + sizes high + length rest
+  length-image : length image ≡ h + sizes high + length rest
   length-image =
       length-lay low (gap ++ (lost ++ lay high rest))
       ∙ omega (arith, length-append gap (lost ++ lay high rest), length-append lost (lay high rest), length-lay high rest)
 
-  fuel : (rs : List Rec) (k at : ℕ) (s : List ℕ) (es : List Entry) (o : Bool) (t : ℕ) (x : Next) → All-fine rs → Ends (at + sizes rs) s (chain-of es o t x) → length rs < k → chain (suc k) false at (lay rs s) ≡ chain-of (entries-of at rs ++ es) o t x
+  fuel : (rs : List Rec) (k at : ℕ) (s : List ℕ) (es : List Entry) (o : Bool) (t : ℕ) (x : Next) → All-fine rs → Ends (at + sizes rs) s (chain-of es o t x) → length rs < k →
+      chain (suc k) false at (lay rs s) ≡ chain-of (entries-of at rs ++ es) o t x
   fuel rs k at s es o t x f e l =
       let i : suc k ≡ length rs + suc (suc (k - suc (length rs))) = omega arith in
       ap (λ (n : ℕ). chain n false at (lay rs s)) i ∙ chain-lay rs (suc (suc (k - suc (length rs)))) at s f
       ∙ ap (before (entries-of at rs)) (e (k - suc (length rs))) ∙ before-chain (entries-of at rs) es o t x
 
-  pub high-read : (es : List Entry) (o : Bool) (t : ℕ) (x : Next) → All-fine high → 1 ≤ sizes high → Ends (h + sizes high) rest (chain-of es o t x) →
+  high-read : (es : List Entry) (o : Bool) (t : ℕ) (x : Next) → All-fine high → 1 ≤ sizes high → Ends (h + sizes high) rest (chain-of es o t x) →
       from-head image h ≡ chain-of (entries-of h high ++ es) o t x
   high-read es o t x f l e = ap (chain (suc (length image)) false h) drop-high ∙ fuel high (length image) h rest es o t x f e (omega (arith, length-image, lots high))
 
-  pub low-read : (es : List Entry) (o : Bool) (t : ℕ) (x : Next) → All-fine low → 1 ≤ floor h → Ends (sizes low) gap (chain-of es o t x) →
+  low-read : (es : List Entry) (o : Bool) (t : ℕ) (x : Next) → All-fine low → 1 ≤ floor h → Ends (sizes low) gap (chain-of es o t x) →
       from-zero image h false ≡ chain-of (entries-of 0 low ++ es) o t x
   low-read es o t x f l e =
       ap (chain (suc (length image)) false 0) take-low
       ∙ fuel low (length image) 0 gap es o t x f (subst (λ (a : ℕ). Ends a gap (chain-of es o t x)) (sym (zero-add (sizes low))) e) (omega (arith, length-image, lots low))
 
   -- behind an unfinished record nothing but an end may stand
-  pub low-stops : (x : Next) → low ≡ [] → Stops 0 gap x → from-zero image h true ≡ stop true 0 x
+  low-stops : (x : Next) → low ≡ [] → Stops 0 gap x → from-zero image h true ≡ stop true 0 x
   low-stops x z e = ap (chain (suc (length image)) true 0) (take-low ∙ ap (λ (rs : List Rec). lay rs gap) z) ∙ e true (length image)
 
 -- ---- from the two chains to the reading
@@ -116,7 +122,8 @@ joined-torn N h t o es d = refl
 
 -- ---- the readings of the shape, one for each way the chain can go
 
-module _ (low high : List Rec) (gap lost rest : List ℕ) (h : ℕ) (below : sizes low + length gap ≡ floor h) (here : floor h + length lost ≡ h) (fl : All-fine low) (fh : All-fine high) (some-high : 1 ≤ sizes high) where
+module _ (low high : List Rec) (gap lost rest : List ℕ) (h : ℕ) (below : sizes low + length gap ≡ floor h) (here : floor h + length lost ≡ h) (fl : All-fine low) (fh : All-fine high)
+    (some-high : 1 ≤ sizes high) where
   abbrev im : List ℕ
   im = image low high gap lost rest h below here
 
@@ -134,7 +141,8 @@ module _ (low high : List Rec) (gap lost rest : List ℕ) (h : ℕ) (below : siz
   shape-full es o t z e = reading-is im h _ _ (from-h es o t Next.Over e) (read-full im h t o (entries-of h high ++ es) z)
 
   -- turned, by a marker or at N
-  pub shape-turned : {x y : Next} (fs : List Entry) (p : Bool) (t u : ℕ) → (floor h ≡ 0 → ⊥) → Turns x → Ends (h + sizes high) rest (chain-of [] false t x) → Low-end y → Ends (sizes low) gap (chain-of fs p u y) →
+  pub shape-turned : {x y : Next} (fs : List Entry) (p : Bool) (t u : ℕ) → (floor h ≡ 0 → ⊥) → Turns x → Ends (h + sizes high) rest (chain-of [] false t x) → Low-end y →
+      Ends (sizes low) gap (chain-of fs p u y) →
       reading-from im h ≡ read (length im) h u true (entries-of h high ++ (entries-of 0 low ++ fs)) Ending.Tail
   shape-turned {x} {y} fs p t u z n e l d =
       reading-is im h _ _ (from-h [] false t x e ∙ ap (λ (m : List Entry). chain-of m false t x) (append-nil (entries-of h high)))

@@ -1,31 +1,31 @@
 -- On a rested image list and get give the ledger's files: each entry's bytes are read where it stands, and no two live entries have one name.
-use Prim.Native.Nat.{ℕ, zero, suc, _+_, _≤_, _<_}
+use Prim.Native.Nat.{ℕ, zero, suc, _+_, _<_}
 use native.Mathlib.Omega.{arith}
 use native.Mathlib.Nat.{not-suc-le-zero}
-use mathlib.Core.Path.{_≡_, refl, sym, ap, ap₂, _∙_, subst}
-use mathlib.Core.Bool.{Bool, true, false, not}
+use mathlib.Core.Path.{_≡_, refl, sym, ap, _∙_, subst}
+use mathlib.Core.Bool.{Bool, true, false}
 use mathlib.Core.Option.{Option, none, some}
 use mathlib.Core.List.{List, [], _∷_, _++_, map, append-assoc, List·Permᴰ, List·Permᴰ·nil, List·Permᴰ·cons, List·Permᴰ·swap, List·Permᴰ·trans, Permᴰ·symm}
 use lib.ListN.{length, take, drop, getElem?}
 use lib.Seq.{drop-drop}
-use Rattle.spec.specs.Step.{Image, run}
-use Rattle.spec.specs.Basics.{Answer, refuse, give, checked, onward, same, any, keep, first-such, Each}
-use Rattle.spec.specs.Geometry.{up8, good-length}
+use Rattle.spec.specs.Step.{Image}
+use Rattle.spec.specs.Basics.{Answer, refuse, give, same, any, keep, first-such, Each}
+use Rattle.spec.specs.Geometry.{up8}
 use Rattle.spec.specs.Record.{name-ok, rec-of, Rec, Entry, name-of, content-of, data-at}
 use Rattle.spec.specs.Chain.{Reading}
 use Rattle.spec.specs.Files.{files, has-name, file-named}
-use Rattle.spec.specs.Answers.{Numbers, Plan, refusal, success, numbers-of, carry-out, settled-reading, doing, found, file-of, file-plan, getting, get-plan, listing, list-of, list-plan, get, list, part-of}
+use Rattle.spec.specs.Answers.{Numbers, Plan, refusal, success, numbers-of, carry-out, doing, found, file-plan, getting, get-plan, listing, list-plan, get, list, part-of}
 use Rattle.spec.specs.History.{File, Ledger, is-named, has}
-use Rattle.spec.specs.Demand.{Lists, Listed, Got, Shows}
+use Rattle.spec.specs.Demand.{Listed, Got, Shows}
 use Rattle.history.specs.Lay.{onto, rec-of-onto, drop-past}
-use Rattle.history.specs.Lists.{Pairwise, keep-yes, keep-no, each-map, each-at, any-no, first-yes, first-no}
-use Rattle.history.specs.Store.{same-sym, alive, Apart, Unique, files-alive}
-use Rattle.history.specs.Ledger.{as-file, contents, Matches, Absent, dead-not}
+use Rattle.history.specs.Lists.{Pairwise, keep-yes, keep-no, each-map, first-yes, first-no, not-both}
+use Rattle.history.specs.Store.{alive, Unique, files-alive}
+use Rattle.history.specs.Ledger.{as-file}
 use Rattle.history.specs.Laid.{Inside}
 use Rattle.history.specs.LaidEdit.{inside-of}
-use Rattle.history.specs.OkLaws.{same-refl, same-is, Old, old-none, old-some, old-file}
+use Rattle.history.specs.OkLaws.{same-refl, Old, old-none, old-some, old-file}
 use Rattle.history.specs.Settling.{rested-settled}
-use Rattle.history.specs.Kinds.{Ok, Rested}
+use Rattle.history.specs.Kinds.{Rested}
 
 -- ---- permutations
 
@@ -123,10 +123,12 @@ same-index [] i j e f d h k n = absurd (let z : _≡_ {A = ℕ} 0 1 = cc in omeg
 same-index (x ∷ fs) zero zero e f d h k n = refl
 same-index (x ∷ fs) zero (suc j) e f d h k n =
     let p : x ≡ e = cc in
-    absurd (dead-not (same (name-of x) (name-of f)) (index-each (Distinct x) fs j f k (d .0)) (ap (λ (y : Entry). same (name-of y) (name-of f)) p ∙ ap (λ (m : List ℕ). same m (name-of f)) n ∙ same-refl (name-of f)))
+    absurd (not-both (same (name-of x) (name-of f)) (index-each (Distinct x) fs j f k (d .0))
+    (ap (λ (y : Entry). same (name-of y) (name-of f)) p ∙ ap (λ (m : List ℕ). same m (name-of f)) n ∙ same-refl (name-of f)))
 same-index (x ∷ fs) (suc i) zero e f d h k n =
     let p : x ≡ f = cc in
-    absurd (dead-not (same (name-of x) (name-of e)) (index-each (Distinct x) fs i e h (d .0)) (ap (λ (y : Entry). same (name-of y) (name-of e)) p ∙ ap (λ (m : List ℕ). same m (name-of e)) (sym n) ∙ same-refl (name-of e)))
+    absurd (not-both (same (name-of x) (name-of e)) (index-each (Distinct x) fs i e h (d .0))
+    (ap (λ (y : Entry). same (name-of y) (name-of e)) p ∙ ap (λ (m : List ℕ). same m (name-of e)) (sym n) ∙ same-refl (name-of e)))
 same-index (x ∷ fs) (suc i) (suc j) e f d h k n = ap suc (same-index fs i j e f (d .1) h k n)
 
 -- a live entry is among those kept
@@ -268,13 +270,15 @@ module _ {l : Ledger} {im : Image} {r : Reading} (q : Rested l im r) where
       go : {o : Option Entry} → Old n (q .es) o → o ≡ none
       go (old-none a) = refl
       go (old-some xs ys e p a m) =
-          absurd (dead-not (same (name-of e) n) (in-kept (λ d. same (name-of d) n ≡ false) xs ys e a (subst (λ (z : List Entry). Each (λ d. same (name-of d) n ≡ false) (keep alive z)) p absent)) (ap (λ (w : List ℕ). same w n) m ∙ same-refl n))
+          absurd (not-both (same (name-of e) n) (in-kept (λ d. same (name-of d) n ≡ false) xs ys e a (subst (λ (z : List Entry). Each (λ d. same (name-of d) n ≡ false) (keep alive z)) p absent))
+          (ap (λ (w : List ℕ). same w n) m ∙ same-refl n))
 
   get-none : (n : List ℕ) → name-ok n ≡ true → has n l ≡ false → get im n .numbers .answer ≡ 2
   get-none n ok h =
       let f : file-named n (r .entries) ≡ none = ap (file-named n) entries-are ∙ none-named n h (file-named n (q .es)) (old-file n (q .es) l (q .ok)) in
       ap (λ (p : Answer Plan). carry-out im 0 p .numbers .answer) (plan-get n ok ∙ ap (found getting) f) ∙ refused 2
 
+  -- list and get on a rested image
   pub rested-shows : Shows im (length (files (r .entries))) l
   rested-shows =
       record {

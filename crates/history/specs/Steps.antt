@@ -12,26 +12,32 @@ use Rattle.history.specs.Quiet.{blank-split}
 
 -- ---- a property of every cut, phase by phase
 
-pub cut-one : (P : List ℕ → Type 0) (s : List ℕ) (x : Step) (b : List Step) → P s → ((j : ℕ) → j ≤ length b → P (run (apply s x) (take j b))) → (k : ℕ) → k ≤ suc (length b) → P (run s (take k (x ∷ b)))
+-- one step, then others
+pub cut-one : (P : List ℕ → Type 0) (s : List ℕ) (x : Step) (b : List Step) → P s → ((j : ℕ) → j ≤ length b → P (run (apply s x) (take j b))) → (k : ℕ) → k ≤ suc (length b) →
+    P (run s (take k (x ∷ b)))
 cut-one P s x b p q zero h = p
 cut-one P s x b p q (suc k) h = q k (omega arith)
 
+-- some steps, then others
 pub cut-append : (P : List ℕ → Type 0) (s : List ℕ) (a b : List Step) → ((j : ℕ) → j ≤ length a → P (run s (take j a))) → ((j : ℕ) → j ≤ length b → P (run (run s a) (take j b)))
     → (k : ℕ) → k ≤ length a + length b → P (run s (take k (a ++ b)))
 cut-append P s [] b p q k h = q k (omega arith)
 cut-append P s (x ∷ a) b p q zero h = p zero (omega arith)
 cut-append P s (x ∷ a) b p q (suc k) h = cut-append P (apply s x) a b (λ j l. p (suc j) (omega arith)) q k (omega arith)
 
+-- run in two parts
 pub run-append : (s : List ℕ) (a b : List Step) → run s (a ++ b) ≡ run (run s a) b
 run-append s [] b = refl
 run-append s (x ∷ a) b = run-append (apply s x) a b
 
 -- ---- steps past the first part
 
+-- a byte set behind p
 pub set-past : (p q : List ℕ) (m b : ℕ) → set (p ++ q) (length p + m) b ≡ p ++ set q m b
 set-past [] q m b = rw (zero-add m)
 set-past (x ∷ p) q m b = rw (suc-add (length p) m) (ap (λ (l : List ℕ). x ∷ l) (set-past p q m b))
 
+-- no step erases
 abbrev pub Programs : List Step → Type 0
 Programs [] = Unit {0}
 Programs (program i b ∷ ss) = Programs ss
@@ -49,6 +55,7 @@ take-programs (suc k) [] p = tt
 take-programs (suc k) (program i b ∷ ss) p = take-programs k ss p
 take-programs (suc k) (erase i ∷ ss) p = absurd p
 
+-- steps behind p
 pub run-past : (p q : List ℕ) (ss : List Step) (a : ℕ) → length p ≡ a → Programs ss → run (p ++ q) (moved a ss) ≡ p ++ run q ss
 run-past p q [] a e h = refl
 run-past p q (program i b ∷ ss) a e h = ap (λ (l : List ℕ). run l (moved a ss)) (rw (← e) (set-past p q i b)) ∙ run-past p (set q i b) ss a e h
@@ -61,7 +68,7 @@ length-moved a (erase i ∷ ss) = ap suc (length-moved a ss)
 
 -- ---- runs of bytes
 
-pub take-bytes : (j a : ℕ) (w : List ℕ) → take j (bytes-at a w) ≡ bytes-at a (take j w)
+take-bytes : (j a : ℕ) (w : List ℕ) → take j (bytes-at a w) ≡ bytes-at a (take j w)
 take-bytes zero a w = refl
 take-bytes (suc j) a [] = refl
 take-bytes (suc j) a (b ∷ w) = ap (λ (l : List Step). program a b ∷ l) (take-bytes j (a + 1) w)
@@ -70,6 +77,7 @@ pub length-bytes : (a : ℕ) (w : List ℕ) → length (bytes-at a w) ≡ length
 length-bytes a [] = refl
 length-bytes a (x ∷ w) = ap suc (length-bytes (a + 1) w)
 
+-- bytes written over others
 pub write-over : (p old w s : List ℕ) (a : ℕ) → length p ≡ a → length old ≡ length w → run (p ++ (old ++ s)) (bytes-at a w) ≡ p ++ (w ++ s)
 write-over p [] [] s a e h = refl
 write-over p (o ∷ old) [] s a e h = absurd (omega arith)
@@ -79,6 +87,7 @@ write-over p (o ∷ old) (b ∷ w) s a e h =
     ∙ write-over (p ++ (b ∷ [])) old w s (a + 1) (omega (arith, length-append p (b ∷ []))) (omega arith)
     ∙ append-snoc p b (w ++ s)
 
+-- j bytes written over FF
 pub write-blank : (p w s : List ℕ) (a j m k : ℕ) → length p ≡ a → j ≤ length w → k ≡ j + m → run (p ++ (blanks k ++ s)) (take j (bytes-at a w)) ≡ p ++ (take j w ++ (blanks m ++ s))
 write-blank p w s a j m k e h l =
     rw (take-bytes j a w, blank-split j m k l, append-assoc (blanks j) (blanks m) s) (write-over p (blanks j) (take j w) (blanks m ++ s) a e (length-replicate j 255 ∙ sym (length-take-le j w h)))

@@ -1,7 +1,7 @@
 -- The files of a list of entries in which no name is alive twice, and the rules on such entries. Nothing here knows of bytes on the image.
-use Prim.Native.Nat.{ℕ, _≤_, _<_}
+use Prim.Native.Nat.{ℕ}
 use native.Mathlib.Omega.{arith}
-use mathlib.Core.Path.{_≡_, refl, sym, ap, _∙_}
+use mathlib.Core.Path.{_≡_, refl, sym, _∙_}
 use mathlib.Core.Bool.{Bool, true, false, _&&_, _||_, not}
 use mathlib.Core.List.{List, [], _∷_, _++_}
 use lib.Dec.{eqb}
@@ -11,11 +11,12 @@ use Rattle.spec.specs.Bytes.{is-start, is-clean, is-unfinished}
 use Rattle.spec.specs.Record.{name-ok, Entry, name-of}
 use Rattle.spec.specs.Files.{same-name, named, named-as, has-named, live, superseded, files, doubled}
 use Rattle.spec.specs.Reading.{marked, second-ok, marks-ok, name-legal, names-ok, single}
-use Rattle.history.specs.Lists.{and-left, and-no, any-none, all-each, keep-none, keep-same, each-map, each-both, each-end, each-all, Pairwise, all-pairs, pairwise-end}
+use Rattle.history.specs.Lists.{and-left, and-no, any-none, all-each, keep-none, keep-same, each-map, each-both, each-end, each-all, Pairwise, all-pairs, pairwise-end, or-left, or-right}
 use Rattle.history.specs.Legal.{Ruled}
 
 -- ---- names
 
+-- the order of two names does not matter
 pub same-sym : (s t : List ℕ) → same s t ≡ same t s
 unfolding same
 same-sym [] [] = refl
@@ -31,19 +32,24 @@ same-sym (x ∷ s) (y ∷ t) = go (eqb x y) (eqb y x) refl refl (same-sym s t)
 
 -- ---- alive: FC or F8, with a name
 
+-- FC or F8, with a name
 unfoldable pub alive : Entry → Bool
 alive e = named 0xFC e || named 0xF8 e
 
+-- not both alive with one name
 abbrev pub Apart : Entry → Entry → Type 0
 Apart e f = alive e ≡ true → alive f ≡ true → same (name-of e) (name-of f) ≡ false
 
+-- no name is alive twice
 abbrev pub Unique : List Entry → Type 0
 Unique es = Pairwise Apart es
 
+-- FC is alive
 pub fc-alive : (e : Entry) → named 0xFC e ≡ true → alive e ≡ true
 unfolding alive
 fc-alive e h = rw h
 
+-- F8 is alive
 pub f8-alive : (e : Entry) → named 0xF8 e ≡ true → alive e ≡ true
 unfolding alive
 f8-alive e h = rw h (or-true (named 0xFC e))
@@ -59,7 +65,7 @@ fc-not-f8 e h =
     let k : e .it .status ≡ 248 = eqb-true (e .it .status) 248 (and-left (eqb (e .it .status) 248) (not (empty (name-of e))) h) in
     rw (ne-eqb (e .it .status) 252 (λ f. omega arith))
 
-pub doubled-none : (st : ℕ) → ((e : Entry) → named st e ≡ true → alive e ≡ true) → (es : List Entry) → Unique es → doubled st es ≡ false
+doubled-none : (st : ℕ) → ((e : Entry) → named st e ≡ true → alive e ≡ true) → (es : List Entry) → Unique es → doubled st es ≡ false
 unfolding doubled has-named
 doubled-none st a [] u = refl
 doubled-none st a (e ∷ es) u =
@@ -70,6 +76,7 @@ doubled-none st a (e ∷ es) u =
     )
     (doubled-none st a es (u .1))
 
+-- no name is FC twice, none is F8 twice
 pub unique-single : (es : List Entry) → Unique es → single es ≡ true
 unfolding single
 unique-single es u = rw (single, doubled-none 0xFC fc-alive es u, doubled-none 0xF8 f8-alive es u)
@@ -85,10 +92,12 @@ none-over es u =
     (λ e f q h. and-no (named 0xFC e) (same-name f e) (λ k. same-sym (name-of f) (name-of e) ∙ q (fc-alive e k) (f8-alive f h)))
     es u
 
+-- no F8 record has an FC of its name
 pub no-fc : (es : List Entry) → Unique es → Each (λ e. named 0xF8 e ≡ true → has-named 0xFC es e ≡ false) es
 unfolding has-named
 no-fc es u = each-map es (λ e h k. any-none (named-as 0xFC e) es (each-map es (λ f o. o k) h)) (none-over es u)
 
+-- live is alive
 pub live-alive : (es : List Entry) → Unique es → Each (λ e. live es e ≡ alive e) es
 unfolding live alive
 live-alive es u = each-map es (λ e h. go (named 0xFC e) (named 0xF8 e) (has-named 0xFC es e) h) (no-fc es u)
@@ -98,9 +107,11 @@ live-alive es u = each-map es (λ e h. go (named 0xFC e) (named 0xF8 e) (has-nam
     go false true c h = rw (h refl)
     go false false c h = refl
 
+-- the files are the records that are alive
 pub files-alive : (es : List Entry) → Unique es → files es ≡ keep alive es
 files-alive es u = keep-same (live es) alive es (live-alive es u)
 
+-- no record is superseded
 pub none-superseded : (es : List Entry) → Unique es → keep (superseded es) es ≡ []
 unfolding superseded
 none-superseded es u = keep-none (superseded es) es (each-map es (λ e h. and-no (named 0xF8 e) (has-named 0xFC es e) h) (no-fc es u))
@@ -111,12 +122,15 @@ none-superseded es u = keep-none (superseded es) es (each-map es (λ e h. and-no
 abbrev pub Well-named : Entry → Type 0
 Well-named e = alive e ≡ true → name-ok (name-of e) ≡ true
 
+-- its status is not that of an unfinished record
 abbrev pub Finished : Entry → Type 0
 Finished e = is-unfinished (e .it .status) ≡ false
 
+-- neither START nor CLEAN
 abbrev pub Unmarked : Entry → Type 0
 Unmarked e = marked e ≡ false
 
+-- the records of a quiet image: x the head, es the others
 pub record Calm-store (x : Entry) (es : List Entry) : Type 0 where
   pub unique : Unique (x ∷ es)
   pub well-named : Each Well-named (x ∷ es)
@@ -131,28 +145,23 @@ name-legal-by es e h n = go (alive e) refl
     go true k = rw (name-legal, h, k) (n k)
     go false k = rw (name-legal, h, k)
 
+-- the rule on names
 pub names-by : (es : List Entry) → Unique es → Each Well-named es → names-ok es ≡ true
 unfolding names-ok
 names-by es u h =
     all-each (name-legal es) es (each-map es (λ e p. name-legal-by es e (p .0) (p .1)) (each-both (λ e. live es e ≡ alive e) Well-named es (live-alive es u) h))
 
-pub or-left : (a b : Bool) → (a || b) ≡ false → a ≡ false
-or-left true b h = h
-or-left false b h = refl
-
-pub or-right : (a b : Bool) → (a || b) ≡ false → b ≡ false
-or-right true b h = cc
-or-right false b h = h
-
-pub second-plain : (es : List Entry) (x y : Entry) → Unmarked y → second-ok es x y ≡ true
+second-plain : (es : List Entry) (x y : Entry) → Unmarked y → second-ok es x y ≡ true
 unfolding second-ok
 second-plain es x y h = rw (second-ok, or-left (is-start (y .it .low)) (is-clean (y .it .low)) h, or-right (is-start (y .it .low)) (is-clean (y .it .low)) h)
 
+-- the rule on marks
 pub marks-by : (x : Entry) (es : List Entry) → Each Unmarked es → marks-ok (x ∷ es) ≡ true
 unfolding marks-ok
 marks-by x [] h = refl
 marks-by x (y ∷ es) h = rw (marks-ok, second-plain (x ∷ (y ∷ es)) x y (h .0), any-none marked es (h .1))
 
+-- no rule is broken
 pub calm-ruled : (x : Entry) (es : List Entry) → Calm-store x es → Ruled (x ∷ es)
 calm-ruled x es c =
     record { names = names-by (x ∷ es) (c .unique) (c .well-named); singles = unique-single (x ∷ es) (c .unique); marks = marks-by x es (c .unmarked) }
@@ -161,6 +170,7 @@ calm-ruled x es c =
 pub dead-apart : (u : Entry) → alive u ≡ false → (e : Entry) → Apart e u
 dead-apart u a e p q = let z : false ≡ true = sym a ∙ q in cc
 
+-- a record that is not alive needs no name
 pub dead-named : (u : Entry) → alive u ≡ false → Well-named u
 dead-named u a q = let z : false ≡ true = sym a ∙ q in cc
 
@@ -172,15 +182,4 @@ calm-and x u es c a m =
       names = names-by (x ∷ (es ++ (u ∷ []))) un (each-end Well-named (x ∷ es) u (c .well-named) (dead-named u a));
       singles = unique-single (x ∷ (es ++ (u ∷ []))) un;
       marks = marks-by x (es ++ (u ∷ [])) (each-end Unmarked es u (c .unmarked) m);
-    }
-
--- a new live record behind
-pub calm-new : (x e : Entry) (es : List Entry) → Calm-store x es → Each (λ f. alive f ≡ true → same (name-of f) (name-of e) ≡ false) (x ∷ es) → name-ok (name-of e) ≡ true → Finished e → Unmarked e →
-    Calm-store x (es ++ (e ∷ []))
-calm-new x e es c a n f m =
-    record {
-      unique = pairwise-end Apart (x ∷ es) e (c .unique) (each-map (x ∷ es) (λ y h k j. h k) a);
-      well-named = each-end Well-named (x ∷ es) e (c .well-named) (λ k. n);
-      finished = each-end Finished (x ∷ es) e (c .finished) f;
-      unmarked = each-end Unmarked es e (c .unmarked) m;
     }

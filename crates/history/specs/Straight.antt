@@ -2,7 +2,7 @@
 use Prim.Native.Nat.{ℕ, suc, _+_, _-_, _*_, _≤_, _<_}
 use native.Mathlib.Omega.{arith}
 use native.Mathlib.Nat.{zero-add, not-suc-le-zero}
-use mathlib.Core.Path.{_≡_, refl, sym, ap, _∙_, subst}
+use mathlib.Core.Path.{_≡_, sym, ap, _∙_, subst}
 use mathlib.Core.Bool.{Bool, true, false, and-false}
 use mathlib.Core.List.{List, [], _∷_, _++_, append-assoc}
 use lib.ListN.{length, drop, getD, length-append, List·getD-append}
@@ -18,10 +18,11 @@ use Rattle.spec.specs.Chain.{read, reading-from}
 use Rattle.history.specs.Lay.{lay, sizes, entries-of, length-lay, All-fine}
 use Rattle.history.specs.Last.{Ends}
 use Rattle.history.specs.Walk.{Quiet, Walked}
-use Rattle.history.specs.Head.{Front, front-gap, front-low, Reaches, reaches-more, reaches-quiet, head-start, head-clean, head-zero, head-none, reaches-end}
+use Rattle.history.specs.Head.{Front, front-gap, front-low, Reaches, reaches-more, reaches-quiet, head-start, head-clean, head-zero, head-none, reaches-end, clean-is}
 use Rattle.history.specs.Shape.{chain-of, shape-straight}
 use Rattle.history.specs.Quiet.{quiet-append}
 use Rattle.history.specs.Seg.{Seg, seg-none, seg-onto}
+use Rattle.history.specs.Lists.{none-at}
 
 -- a sectors of gap and l words of lost before the head h, then the records from the head on, seg at T, and free up to N
 pub record Straight (im : List ℕ) (a l : ℕ) (gap lost : List ℕ) (h : ℕ) (high : List Rec) (seg : Seg) (free : List ℕ) : Type 0 where
@@ -44,14 +45,6 @@ front-of (x ∷ y ∷ s) l h = front-gap h
 second-clean : (m : List ℕ) → (getD m 1 0 ≡ 90 → ⊥) → clean-here m ≡ false
 unfolding is-high
 second-clean m h = rw (ne-eqb (getD m 1 0) 90 h) (and-false (is-clean (getD m 0 0)))
-
-clean-yes : (t : List ℕ) → clean-here (160 ∷ 90 ∷ t) ≡ true
-unfolding is-clean is-high
-clean-yes t = refl
-
-none-at : (s : List ℕ) → length s ≡ 0 → s ≡ []
-none-at [] e = refl
-none-at (x ∷ s) e = absurd (omega arith)
 
 module _ {im : List ℕ} {a l : ℕ} {gap lost : List ℕ} {h : ℕ} {x : Rec} {ys : List Rec} {seg : Seg} {free : List ℕ} (s : Straight im a l gap lost h (x ∷ ys) seg free) where
   together : im ≡ (gap ++ lost) ++ lay (x ∷ ys) (seg-onto seg free)
@@ -80,6 +73,7 @@ module _ {im : List ℕ} {a l : ℕ} {gap lost : List ℕ} {h : ℕ} {x : Rec} {
       subst (λ (m : ℕ). Reaches 0 ((gap ++ lost) ++ lay (x ∷ ys) (seg-onto seg free)) (lay (x ∷ ys) (seg-onto seg free)) m) g
       (reaches-more (reaches-quiet 0 w (gap ++ lost) (lay (x ∷ ys) (seg-onto seg free)) (before-length ∙ omega arith) (subst (λ (n : ℕ). Quiet n (gap ++ lost)) (sym e) before-quiet)))
 
+  -- START is found
   pub straight-start : (h ≡ 0 → ⊥) → x .low ≡ 0 → head im ≡ give h
   straight-start n e =
       ap head together
@@ -88,8 +82,11 @@ module _ {im : List ℕ} {a l : ℕ} {gap lost : List ℕ} {h : ℕ} {x : Rec} {
       ∙ ap give (zero-add h)
 
   not-clean : (h ≡ 0 → ⊥) → clean-here ((gap ++ lost) ++ lay (x ∷ ys) (seg-onto seg free)) ≡ false
-  not-clean n = second-clean ((gap ++ lost) ++ lay (x ∷ ys) (seg-onto seg free)) (λ e. s .front (sym (List·getD-append (gap ++ lost) (lay (x ∷ ys) (seg-onto seg free)) 0 1 (omega (arith, before-length, s .at))) ∙ e))
+  not-clean n =
+      second-clean ((gap ++ lost) ++ lay (x ∷ ys) (seg-onto seg free)) (λ e. s .front
+      (sym (List·getD-append (gap ++ lost) (lay (x ∷ ys) (seg-onto seg free)) 0 1 (omega (arith, before-length, s .at))) ∙ e))
 
+  -- CLEAN is found
   pub straight-clean : (h ≡ 0 → ⊥) → x .low ≡ 160 → head im ≡ give h
   straight-clean n e =
       ap head together
@@ -97,24 +94,29 @@ module _ {im : List ℕ} {a l : ℕ} {gap lost : List ℕ} {h : ℕ} {x : Rec} {
       (subst (λ (b : ℕ). Reaches 0 ((gap ++ lost) ++ lay (x ∷ ys) (seg-onto seg free)) (b ∷ 90 ∷ drop 2 (lay (x ∷ ys) (seg-onto seg free))) h) e (reached n))
       ∙ ap give (zero-add h)
 
+  -- START at 0 is found
   pub straight-zero : h ≡ 0 → x .low ≡ 0 → head im ≡ give h
-  straight-zero z e = ap head (at-zero z) ∙ subst (λ (b : ℕ). head (b ∷ 90 ∷ drop 2 (lay (x ∷ ys) (seg-onto seg free))) ≡ give 0) (sym e) (head-zero (drop 2 (lay (x ∷ ys) (seg-onto seg free)))) ∙ ap give (sym z)
+  straight-zero z e =
+      ap head (at-zero z) ∙ subst (λ (b : ℕ). head (b ∷ 90 ∷ drop 2 (lay (x ∷ ys) (seg-onto seg free))) ≡ give 0) (sym e) (head-zero (drop 2 (lay (x ∷ ys) (seg-onto seg free)))) ∙ ap give (sym z)
 
   -- head CLEAN at 0: nothing is found
   pub straight-none : (f : ℕ) → h ≡ 0 → x .low ≡ 160 → Walked 0 (x ∷ ys) → seg ≡ seg-none → length free ≡ 8 * f → Quiet f free → head im ≡ give h
   straight-none f z e w o l q =
       ap head (at-zero z) ∙ ap (λ (g : Seg). head (lay (x ∷ ys) (seg-onto g free))) o
       ∙ head-none (x ∷ ys) free (8 * f) (s .fine) w front-low
-      (subst (λ (b : ℕ). clean-here (b ∷ 90 ∷ drop 2 (lay (x ∷ ys) free)) ≡ true) (sym e) (clean-yes (drop 2 (lay (x ∷ ys) free)))) (omega (arith, length-lay (x ∷ ys) free))
+      (subst (λ (b : ℕ). clean-here (b ∷ 90 ∷ drop 2 (lay (x ∷ ys) free)) ≡ true) (sym e) (clean-is (drop 2 (lay (x ∷ ys) free)))) (omega (arith, length-lay (x ∷ ys) free))
       (reaches-more (reaches-end (sizes (x ∷ ys)) f free l q))
       ∙ ap give (sym z)
 
   -- ---- the reading
+  -- the head's sector
   pub bottom : floor h ≡ 4096 * a
   bottom = omega (arith, s .at, s .lost-small)
 
+  -- what is read
   pub straight-reading : (t : ℕ) (o : Bool) (es : List Entry) → Ends (h + sizes (x ∷ ys)) (seg-onto seg free) (chain-of es o t Next.Clear) →
       reading-from im h ≡ read (length im) h t false (entries-of h (x ∷ ys) ++ es) Ending.Tail
   straight-reading t o es e =
       rw (s .is)
-      (shape-straight [] (x ∷ ys) gap lost (seg-onto seg free) h (zero-add (length gap) ∙ s .gap-length ∙ sym bottom) (omega (arith, bottom, s .at, s .lost-length)) tt (s .fine) (omega arith) es o t e)
+      (shape-straight [] (x ∷ ys) gap lost (seg-onto seg free) h (zero-add (length gap) ∙ s .gap-length ∙ sym bottom) (omega (arith, bottom, s .at, s .lost-length)) tt (s .fine)
+      (omega arith) es o t e)

@@ -1,37 +1,40 @@
--- Edits of an image that has not turned: a status or low byte, and a record written at T, cut anywhere.
-use Prim.Native.Nat.{ℕ, zero, suc, _+_, _-_, _*_, _≤_}
+-- An image that has not turned, cut in two behind some of its records; and a record with another status, low byte or data.
+use Prim.Native.Nat.{ℕ, _+_}
 use native.Mathlib.Omega.{arith}
 use native.Mathlib.Nat.{zero-add, add-assoc}
 use mathlib.Core.Path.{_≡_, refl, sym, ap, _∙_}
-use mathlib.Core.List.{List, [], _∷_, _++_, append-assoc, append-nil}
-use lib.ListN.{length, take, set, length-append}
-use Rattle.spec.specs.Step.{Step, program, run, moved}
-use Rattle.spec.specs.Record.{size-of, Rec}
-use Rattle.spec.specs.Write.{record-steps}
-use Rattle.history.specs.Lay.{blanks, onto, lay, rsize, sizes, lay-is, length-lay, Fit, Fine, All-fine, Stat, Low, low-record, st-fc}
-use Rattle.history.specs.Seg.{Seg, seg-none, seg-onto, seg-size, length-seg}
-use Rattle.history.specs.Steps.{Programs, take-moved, take-programs, run-past}
-use Rattle.history.specs.Put.{Opened, open-steps, open-cut, record-done, record-programs, file, take-open}
+use mathlib.Core.List.{List, [], _∷_, _++_, append-assoc}
+use lib.ListN.{length, length-append}
+use Rattle.spec.specs.Step.{Step, run, moved}
+use Rattle.spec.specs.Record.{Rec}
+use Rattle.history.specs.Lay.{onto, lay, rsize, sizes, lay-is, length-lay, All-fine}
+use Rattle.history.specs.Seg.{Seg, seg-onto, seg-size, length-seg}
+use Rattle.history.specs.Steps.{Programs, run-past}
 use Rattle.history.specs.Straight.{Straight}
 
 -- ---- lists of records
 
+-- two lists of records
 pub lay-append : (xs ys : List Rec) (s : List ℕ) → lay (xs ++ ys) s ≡ lay xs (lay ys s)
 lay-append [] ys s = refl
 lay-append (a ∷ xs) ys s = ap (onto a) (lay-append xs ys s)
 
+-- two lists of records
 pub sizes-append : (xs ys : List Rec) → sizes (xs ++ ys) ≡ sizes xs + sizes ys
 sizes-append [] ys = sym (zero-add (sizes ys))
 sizes-append (a ∷ xs) ys = ap (λ (n : ℕ). rsize a + n) (sizes-append xs ys) ∙ sym (add-assoc (rsize a) (sizes xs) (sizes ys))
 
+-- two lists of records
 pub fine-append : (xs ys : List Rec) → All-fine xs → All-fine ys → All-fine (xs ++ ys)
 fine-append [] ys p q = q
 fine-append (x ∷ xs) ys p q = (p .0, fine-append xs ys (p .1) q)
 
+-- the first list
 pub fine-left : (xs ys : List Rec) → All-fine (xs ++ ys) → All-fine xs
 fine-left [] ys p = tt
 fine-left (x ∷ xs) ys p = (p .0, fine-left xs ys (p .1))
 
+-- the second
 pub fine-right : (xs ys : List Rec) → All-fine (xs ++ ys) → All-fine ys
 fine-right [] ys p = p
 fine-right (x ∷ xs) ys p = fine-right xs ys (p .1)
@@ -58,6 +61,7 @@ other im′ s e f =
 unfoldable pub front-part : List ℕ → List ℕ → List Rec → List ℕ
 front-part gap lost xs = gap ++ (lost ++ lay xs [])
 
+-- it, and t behind it
 pub front-is : (gap lost : List ℕ) (xs : List Rec) (t : List ℕ) → front-part gap lost xs ++ t ≡ gap ++ (lost ++ lay xs t)
 unfolding front-part
 front-is gap lost xs t =
@@ -65,12 +69,14 @@ front-is gap lost xs t =
     ∙ ap (λ (l : List ℕ). gap ++ l) (append-assoc lost (lay xs []) t ∙ ap (λ (l : List ℕ). lost ++ l) (sym (lay-is xs t)))
 
 module _ {im : List ℕ} {a l : ℕ} {gap lost : List ℕ} {h : ℕ} {rs : List Rec} (xs ys : List Rec) {seg : Seg} {free : List ℕ} (e : rs ≡ xs ++ ys) (s : Straight im a l gap lost h rs seg free) where
+  -- how long it is
   pub front-length : length (front-part gap lost xs) ≡ h + sizes xs
   unfolding front-part
   front-length =
       length-append gap (lost ++ lay xs []) ∙ ap (λ (n : ℕ). length gap + n) (length-append lost (lay xs []))
       ∙ omega (arith, s .gap-length, s .lost-length, s .at, length-lay xs [])
 
+  -- the image in two parts
   pub split-at : im ≡ front-part gap lost xs ++ lay ys (seg-onto seg free)
   split-at =
       s .is ∙ ap (λ (l : List ℕ). gap ++ (lost ++ l)) (ap (λ (zs : List Rec). lay zs (seg-onto seg free)) e ∙ lay-append xs ys (seg-onto seg free))
@@ -82,68 +88,23 @@ module _ {im : List ℕ} {a l : ℕ} {gap lost : List ℕ} {h : ℕ} {rs : List 
       ap (λ (l : List ℕ). run l (moved (h + sizes xs) ss)) split-at ∙ run-past (front-part gap lost xs) (lay ys (seg-onto seg free)) ss (h + sizes xs) front-length p
       ∙ front-is gap lost xs (run (lay ys (seg-onto seg free)) ss)
 
--- ---- a status byte, a low byte
+-- ---- a record changed
 
+-- with another status
 abbrev pub restatus : ℕ → Rec → Rec
 restatus b r = record { low = r .low; status = b; name = r .name; content = r .content }
 
+-- with another low byte
 abbrev pub relow : ℕ → Rec → Rec
 relow b r = record { low = b; status = r .status; name = r .name; content = r .content }
 
-module _ {im : List ℕ} {a l : ℕ} {gap lost : List ℕ} {h : ℕ} (xs : List Rec) (r : Rec) (ys : List Rec) {seg : Seg} {free : List ℕ} (s : Straight im a l gap lost h (xs ++ r ∷ ys) seg free) where
-  r-fine : Fine r
-  r-fine = fine-right xs (r ∷ ys) (s .fine) .0
+-- with other data
+abbrev pub recontent : List ℕ → Rec → Rec
+recontent c r = record { low = r .low; status = r .status; name = r .name; content = c }
 
-  pub set-status : (b : ℕ) → Stat b → Straight (set im (h + sizes xs + 2) b) a l gap lost h (xs ++ restatus b r ∷ ys) seg free
-  set-status b k =
-      other (set im (h + sizes xs + 2) b) s
-      (run-behind xs (r ∷ ys) refl s (program 2 b ∷ []) tt ∙ ap (λ (l : List ℕ). gap ++ (lost ++ l)) (sym (lay-append xs (restatus b r ∷ ys) (seg-onto seg free))))
-      (fine-append xs (restatus b r ∷ ys) (fine-left xs (r ∷ ys) (s .fine))
-      (record { low-ok = r-fine .low-ok; status-ok = k; fit = r-fine .fit }, fine-right xs (r ∷ ys) (s .fine) .1))
+-- ---- its length
 
-  pub set-low : (b : ℕ) → Low b → Straight (set im (h + sizes xs + 0) b) a l gap lost h (xs ++ relow b r ∷ ys) seg free
-  set-low b k =
-      other (set im (h + sizes xs + 0) b) s
-      (run-behind xs (r ∷ ys) refl s (program 0 b ∷ []) tt ∙ ap (λ (l : List ℕ). gap ++ (lost ++ l)) (sym (lay-append xs (relow b r ∷ ys) (seg-onto seg free))))
-      (fine-append xs (relow b r ∷ ys) (fine-left xs (r ∷ ys) (s .fine))
-      (record { low-ok = k; status-ok = r-fine .status-ok; fit = r-fine .fit }, fine-right xs (r ∷ ys) (s .fine) .1))
-
--- ---- a record written at T
-
-pub record Underway (M : ℕ) (im : List ℕ) (a l : ℕ) (gap lost : List ℕ) (h : ℕ) (high : List Rec) (f : ℕ) : Type 0 where
-  pub seg : Seg
-  pub left : ℕ
-  pub laid : Straight im a l gap lost h high seg (blanks left)
-  pub sum : seg-size seg + left ≡ f
-  pub bound : seg-size seg ≤ M
-
-module _ {im : List ℕ} {a l : ℕ} {gap lost : List ℕ} {h : ℕ} (high : List Rec) (f : ℕ) (n c : List ℕ) (s : Straight im a l gap lost h high seg-none (blanks f)) (g : Fit (length c) n) (room : size-of (length n) (length c) ≤ f) where
-  pub at-end : (ss : List Step) → Programs ss → run im (moved (h + sizes high) ss) ≡ gap ++ (lost ++ lay high (run (blanks f ++ []) ss))
-  at-end ss p =
-      run-behind high [] (sym (append-nil high)) s ss p ∙ ap (λ (l : List ℕ). gap ++ (lost ++ lay high (run l ss))) (sym (append-nil (blanks f)))
-
-  pub write-cut : (k : ℕ) → k ≤ 8 + length n + length c → Underway (size-of (length n) (length c)) (run im (take k (moved (h + sizes high) (record-steps n c)))) a l gap lost h high f
-  write-cut k l =
-      let o : Opened (size-of (length n) (length c)) f [] (run (blanks f ++ []) (take k (open-steps n c))) = open-cut n c [] f g room k l in
-      let cut : take k (record-steps n c) ≡ take k (open-steps n c) = take-open n c k l in
-      record {
-        seg = o .seg;
-        left = o .left;
-        laid = other (run im (take k (moved (h + sizes high) (record-steps n c)))) s
-            (ap (run im) (take-moved k (h + sizes high) (record-steps n c)) ∙ at-end (take k (record-steps n c)) (take-programs k (record-steps n c) (record-programs n c))
-            ∙ ap (λ (l : List ℕ). gap ++ (lost ++ lay high l)) (ap (run (blanks f ++ [])) cut ∙ o .is ∙ ap (seg-onto (o .seg)) (append-nil (blanks (o .left))))) (s .fine);
-        sum = o .sum;
-        bound = o .bound;
-      }
-
-  pub write-done : Straight (run im (moved (h + sizes high) (record-steps n c))) a l gap lost h (high ++ file n c ∷ []) seg-none (blanks (f - size-of (length n) (length c)))
-  write-done =
-      other (run im (moved (h + sizes high) (record-steps n c))) s
-      (at-end (record-steps n c) (record-programs n c)
-      ∙ ap (λ (l : List ℕ). gap ++ (lost ++ lay high l)) (record-done n c [] f room ∙ ap (onto (file n c)) (append-nil (blanks (f - size-of (length n) (length c)))))
-      ∙ ap (λ (l : List ℕ). gap ++ (lost ++ l)) (sym (lay-append high (file n c ∷ []) (blanks (f - size-of (length n) (length c))))))
-      (fine-append high (file n c ∷ []) (s .fine) (record { low-ok = low-record; status-ok = st-fc; fit = g }, tt))
-
+-- how long the image is
 pub straight-length : {im : List ℕ} {a l : ℕ} {gap lost : List ℕ} {h : ℕ} {high : List Rec} {seg : Seg} {free : List ℕ} → Straight im a l gap lost h high seg free →
     length im ≡ h + sizes high + seg-size seg + length free
 straight-length {gap = gap} {lost = lost} {high = high} {seg = seg} {free = free} s =

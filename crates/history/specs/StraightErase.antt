@@ -1,20 +1,24 @@
--- Step (d) of a move on an image that has not turned, Y in a later sector: cut anywhere, the head is Y and the gap has no mark.
+-- Step (d) of a move on an image that has not turned, Y in a later sector: which sectors are erased, and that cut anywhere the head is Y and the gap has no mark.
 use Prim.Native.Nat.{ℕ, zero, suc, _+_, _-_, _*_, _/_, _≤_, _<_}
 use native.Mathlib.Omega.{arith}
 use native.Mathlib.Nat.{not-suc-le-zero}
-use mathlib.Core.Path.{_≡_, sym, ap, _∙_, subst}
-use mathlib.Core.List.{List, [], _∷_, _++_, append-assoc}
+use mathlib.Core.Path.{_≡_, sym, ap, _∙_, subst, refl, ap₂}
+use mathlib.Core.List.{List, [], _∷_, _++_, append-assoc, map}
 use lib.ListN.{length, take, drop, getD, length-append, length-drop}
-use Rattle.spec.specs.Step.{run}
-use Rattle.spec.specs.Record.{Rec}
+use Rattle.spec.specs.Step.{run, Image, Step, erase}
+use Rattle.spec.specs.Record.{Rec, Entry}
+use borrow.Author.Tests.{ne-eqb}
+use Rattle.spec.specs.Geometry.{floor, sectors}
+use Rattle.spec.specs.Move.{vacated-end, vacated}
 use Rattle.history.specs.Lay.{blanks, body, onto, lay, rsize, lay-is, length-lay}
 use Rattle.history.specs.Walk.{Quiet}
 use Rattle.history.specs.Quiet.{quiet-append}
-use Rattle.history.specs.Erase.{erases, half-erased, half-erased-length, erase-cut, quiet-lost, half-erased-quiet, quiet-second}
+use Rattle.history.specs.Erase.{erases, half-erased, half-erased-length, erase-cut, quiet-lost, half-erased-quiet, quiet-second, sectors-are, all-erased, take-erases}
 use Rattle.history.specs.Seg.{seg-none}
 use Rattle.history.specs.Straight.{Straight}
 
-second-ff : (n : ℕ) (p q : List ℕ) → 2 ≤ n → getD ((blanks n ++ p) ++ q) 1 0 ≡ 90 → ⊥
+-- the second byte is FF, so no record stands at 0
+pub second-ff : (n : ℕ) (p q : List ℕ) → 2 ≤ n → getD ((blanks n ++ p) ++ q) 1 0 ≡ 90 → ⊥
 second-ff zero p q h e = not-suc-le-zero h
 second-ff (suc zero) p q h e = omega arith
 second-ff (suc (suc n)) p q h e = omega arith
@@ -24,6 +28,7 @@ front-keep [] lost D L a l f g = g
 front-keep (x ∷ []) lost D L a l f g = absurd (omega arith)
 front-keep (x ∷ y ∷ gap) lost D L a l f g = f
 
+-- a record is words
 pub rsize-words : (r : Rec) → rsize r ≡ 8 * (rsize r / 8)
 rsize-words r = omega arith
 
@@ -59,7 +64,9 @@ module _ {im : List ℕ} {a l : ℕ} {gap lost : List ℕ} {h : ℕ} {x y : Rec}
         quiet-second x lost [] l (512 * k + r) (s .lost-length) (omega (arith, s .lost-small)) (subst (λ (m : ℕ). Quiet m (body (x .name) (x .content) [])) n c)
 
     -- after at least one erase: the head is Y, the free run may hold remains, without marks
-    pub to-m3 : (i : ℕ) → i ≤ k → Straight (run im (take (suc i) (erases (4096 * a) (suc k)))) (a + suc k) r (gap ++ half-erased (suc i) (suc k) (old-head lost x)) (drop (4096 * suc k) (old-head lost x)) (h + rsize x) (y ∷ ys) seg-none free
+    pub to-m3 : (i : ℕ) → i ≤ k →
+        Straight (run im (take (suc i) (erases (4096 * a) (suc k)))) (a + suc k) r (gap ++ half-erased (suc i) (suc k) (old-head lost x)) (drop (4096 * suc k) (old-head lost x)) (h + rsize x)
+        (y ∷ ys) seg-none free
     to-m3 i e =
         let D : List ℕ = half-erased (suc i) (suc k) q in
         let L : List ℕ = drop (4096 * suc k) q in
@@ -77,3 +84,34 @@ module _ {im : List ℕ} {a l : ℕ} {gap lost : List ℕ} {h : ℕ} {x y : Rec}
           front = front-keep gap lost D L a (s .gap-length) (s .front) (second-ff (4096 * suc i) (take (4096 * (suc k - suc i)) (drop (4096 * suc i) q)) L (omega arith));
           fine = s .fine .1;
         }
+
+-- ---- the sectors to erase
+
+vacated-to : (N : ℕ) (y : Entry) → (y .at ≡ 0 → ⊥) → vacated-end N y ≡ floor (y .at)
+unfolding vacated-end
+vacated-to N y n = rw (vacated-end, ne-eqb (y .at) 0 n)
+
+-- the sectors that a move erases
+pub vacated-are : (N h : ℕ) (x y : Rec) (a l k r : ℕ) → 4096 * a + 8 * l ≡ h → l < 512 → 512 * suc k + r ≡ l + rsize x / 8 → r < 512 →
+    map erase (vacated N (record { at = h; it = x }) (record { at = h + rsize x; it = y })) ≡ erases (4096 * a) (suc k)
+vacated-are N h x y a l k r e s t u =
+    let f : floor h ≡ 4096 * a = omega arith in
+    let g : floor (h + rsize x) ≡ 4096 * a + 4096 * suc k = omega (arith, rsize-words x) in
+    ap (λ (b : ℕ). map erase (sectors (floor h) b)) (vacated-to N (record { at = h + rsize x; it = y }) (λ z. omega arith))
+    ∙ ap₂ (λ (b c : ℕ). map erase (sectors b c)) f g ∙ sectors-are (suc k) (4096 * a) (4096 * a + 4096 * suc k) refl
+
+-- ---- after (c): X's data is cleaned
+
+module _ {im : Image} {a l : ℕ} {gap lost : List ℕ} {h : ℕ} {x y : Rec} {ys : List Rec} {free : List ℕ} (s : Straight im a l gap lost h (x ∷ y ∷ ys) seg-none free) (c : Cleaned x)
+    (k r : ℕ) (all : 512 * suc k + r ≡ l + rsize x / 8) (short : r < 512) where
+  abbrev A : ℕ
+  A = 4096 * a
+
+  -- all of (d): the gap's new sectors are FF
+  pub done : Straight (run im (erases A (suc k))) (a + suc k) r (gap ++ blanks (4096 * suc k)) (drop (4096 * suc k) (old-head lost x)) (h + rsize x) (y ∷ ys) seg-none free
+  done =
+      subst (λ (g : List ℕ). Straight (run im (erases A (suc k))) (a + suc k) r (gap ++ g) (drop (4096 * suc k) (old-head lost x)) (h + rsize x) (y ∷ ys) seg-none free)
+      (all-erased (suc k) (old-head lost x))
+      (subst (λ (ss : List Step). Straight (run im ss) (a + suc k) r (gap ++ half-erased (suc k) (suc k) (old-head lost x)) (drop (4096 * suc k) (old-head lost x)) (h + rsize x)
+      (y ∷ ys) seg-none free)
+      (take-erases (suc k) (suc k) A (omega arith)) (to-m3 s c k r all short k (omega arith)))

@@ -15,7 +15,7 @@ use Rattle.history.specs.Entries.{entries-append, Among, among-fine, ent
 use Rattle.history.specs.Laid.{Laid, laid-straight, Hole, Inside}
 
 -- with one record at least
-pub laid-of : {im : List ℕ} {a l : ℕ} {gap lost : List ℕ} {h : ℕ} (xs : List Rec) (r : Rec) (ys : List Rec) {seg : Seg} {free : List ℕ} {S : ℕ} {es : List Entry} (f : ℕ) →
+laid-of : {im : List ℕ} {a l : ℕ} {gap lost : List ℕ} {h : ℕ} (xs : List Rec) (r : Rec) (ys : List Rec) {seg : Seg} {free : List ℕ} {S : ℕ} {es : List Entry} (f : ℕ) →
     Straight im a l gap lost h (xs ++ (r ∷ ys)) seg free → S ≡ h + sizes (xs ++ (r ∷ ys)) → es ≡ entries-of h (xs ++ (r ∷ ys)) → length free ≡ 8 * f → Quiet f free →
     Laid im h S false es seg gap free
 laid-of [] r ys f s p q m n = laid-straight f s refl p q m n
@@ -31,6 +31,7 @@ module _ {im : List ℕ} {a l : ℕ} {gap lost : List ℕ} {h : ℕ} {x : Rec} {
   at-end : (t : List ℕ) → pre ++ (t ++ []) ≡ gap ++ (lost ++ lay rs t)
   at-end t = ap (λ (l : List ℕ). pre ++ l) (append-nil t) ∙ front-is gap lost rs t
 
+  -- what stands at S may be replaced
   pub straight-hole : Hole im h (h + sizes rs) false (entries-of h rs) seg gap free
   straight-hole =
       record {
@@ -49,6 +50,7 @@ module _ {im : List ℕ} {a l : ℕ} {gap lost : List ℕ} {h : ℕ} {x : Rec} {
             (sym (entries-append h rs (r ∷ []))) m n;
       }
 
+  -- and any record by one of its size
   pub straight-inside : (f : ℕ) → length free ≡ 8 * f → Quiet f free → {xs zs : List Entry} {e : Entry} → Among h rs xs e zs → Inside im h (h + sizes rs) false xs e zs seg gap free
   straight-inside f m n {xs} {zs} {e} q =
       let tail : List ℕ = seg-onto seg free in

@@ -36,6 +36,7 @@ use Rattle.history.specs.Copying.{Dead-first, copy-safe, copy-some, copi
 
 -- ---- remove
 
+-- remove's one step
 pub remove-keeps :
     {l : Ledger} {im : Image} {r : Reading} (n : List ℕ) (e : Entry) → Rested l im r → file-named n (r .entries) ≡ some e →
     Sound im (status-step e 0) × Inv (without n l) (run im (status-step e 0 ∷ []))
@@ -63,7 +64,8 @@ record Done (l : Ledger) (im : Image) (w : Work) : Type 0 where
   pub image : w .image ≡ run im (w .steps)
   pub rested : Rested l (w .image) (w .reading)
 
-two-on : (w : Work) (x y : Entry) (es : List Entry) → w .reading .entries ≡ x ∷ y ∷ es → moved-on w ≡ reread w (program (y .at) 160 ∷ close-steps (w .reading .place .length) x y) (run (w .image) (program (y .at) 160 ∷ close-steps (w .reading .place .length) x y)) (y .at)
+two-on : (w : Work) (x y : Entry) (es : List Entry) → w .reading .entries ≡ x ∷ y ∷ es →
+    moved-on w ≡ reread w (program (y .at) 160 ∷ close-steps (w .reading .place .length) x y) (run (w .image) (program (y .at) 160 ∷ close-steps (w .reading .place .length) x y)) (y .at)
 unfolding hand-over after
 two-on w x y es e = ap (hand-over w) e
 
@@ -125,7 +127,8 @@ copy-dead : (r : Reading) (x : Entry) (es : List Entry) → live (x ∷ es) x �
 unfolding copy-steps
 copy-dead r x es e = rw (copy-steps, e)
 
-move-by : (im : Image) (r : Reading) (es : List Entry) (ss : List Step) (w : Work) → r .entries ≡ es → copy-steps r es ≡ ss → after (begin im r) ss (r .place .head) ≡ w → move (begin im r) ≡ moved-on w
+move-by : (im : Image) (r : Reading) (es : List Entry) (ss : List Step) (w : Work) → r .entries ≡ es → copy-steps r es ≡ ss → after (begin im r) ss (r .place .head) ≡ w →
+    move (begin im r) ≡ moved-on w
 unfolding move
 move-by im r es ss w e k a = ap moved-on (ap (λ (fs : List Entry). after (begin im r) (copy-steps r fs) (r .place .head)) e ∙ ap (λ (ts : List Step). after (begin im r) ts (r .place .head)) k ∙ a)
 
@@ -142,7 +145,8 @@ module _ {l : Ledger} {im : Image} {r : Reading} (q : Rested l im r) (free : stu
       let room : fits (r .place) (size x) ≡ true = has-room r x es (entries-is ∙ i) free (live-is x es i ∙ a) in
       let c : (p : Rested l (run im ss) (reading-from (run im ss) (r .place .head))) × Dead-first (p .es) = copied q x es i a room in
       let d : Done l im (reread (begin im r) ss (run im ss) (r .place .head)) = record { safe = copy-safe q x es i a room; image = refl; rested = c .0 } in
-      subst (Done l im) (sym (move-by im r (x ∷ es) ss (reread (begin im r) ss (run im ss) (r .place .head)) (entries-is ∙ i) (copy-live r x es (live-is x es i ∙ a)) (after-some (begin im r) ss (r .place .head) (copy-some q x es i a room))))
+      subst (Done l im) (sym (move-by im r (x ∷ es) ss (reread (begin im r) ss (run im ss) (r .place .head)) (entries-is ∙ i) (copy-live r x es (live-is x es i ∙ a))
+      (after-some (begin im r) ss (r .place .head) (copy-some q x es i a room))))
       (moved-done l im (reread (begin im r) ss (run im ss) (r .place .head)) d (c .1))
 
   move-dead : (x : Entry) (es : List Entry) → q .es ≡ x ∷ es → alive x ≡ false → Done l im (move (begin im r))
@@ -172,6 +176,7 @@ moves-on : (k : ℕ) (im : Image) (r : Reading) → stuck r ≡ false → moves 
 unfolding moves
 moves-on k im r e = rw (moves, e)
 
+-- k moves, cut anywhere
 pub moves-safe : (k : ℕ) {l : Ledger} {im : Image} {r : Reading} → Rested l im r → Safe (Inv l) im (concat (moves k im r))
 unfolding moves
 moves-safe zero q = rested-inv q

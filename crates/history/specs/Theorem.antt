@@ -24,8 +24,7 @@ use Rattle.spec.specs.History.{Request, plan, steps-of, Ledger, with-file, with
 use Rattle.spec.specs.Demand.{Steps-sound, Mounted, Shows, Bytes-put, Demand-3}
 use Rattle.history.specs.Steps.{run-append}
 use Rattle.history.specs.Safe.{Safe, safe-cut, safe-end, safe-sound, sound-append}
-use Rattle.history.specs.Carry.{carried-done, carried-cut}
-use Rattle.history.specs.Top.{still-keeps, demand-by}
+use Rattle.history.specs.Top.{still-keeps, demand-by, carried-done, carried-cut}
 use Rattle.history.specs.Kinds.{Inv, Bytes, Rested}
 use Rattle.history.specs.Settling.{rested-reads}
 use Rattle.history.specs.OkLaws.{old-file, Old}
@@ -112,7 +111,9 @@ module _ (im : Image) (l : Ledger) (n c : List ℕ) (k : ℕ) (ss : List Step) (
   put-given = go (leb (length ss) k) refl
     where
       go : (b : Bool) → leb (length ss) k ≡ b → Fits (carry-out im k (give P))
-      go true e = subst Fits (sym (carried-done im k P (leb-true (length ss) k e))) (subst (λ (x : Ledger). Inv x (run im ss)) (sym (fed-yes im n c (success 0 0 0 ss) l (done-whole im n c ss))) (commits-end m))
+      go true e =
+          subst Fits (sym (carried-done im k P (leb-true (length ss) k e)))
+          (subst (λ (x : Ledger). Inv x (run im ss)) (sym (fed-yes im n c (success 0 0 0 ss) l (done-whole im n c ss))) (commits-end m))
       go false e = subst Fits (sym (carried-cut im k P (leb-false (length ss) k e))) (cut-fits (leb at k) refl)
 
 place-is : (im : Image) (r : Reading) (n c : List ℕ) → reading im ≡ give r →
@@ -208,7 +209,8 @@ mount-safe im l i =
 abbrev Shown : Ledger → Outcome → Type 0
 Shown l o = (o .numbers .answer ≡ 0) × Shows (o .image) (o .numbers .third) l
 
-mounted-by : (im : Image) (l : Ledger) (k : ℕ) (p : Answer Plan) (q : Plan) → p ≡ give q → length (steps-of p) ≤ k → q .done .answer ≡ 0 → Shows (run im (q .steps)) (q .done .third) l → Shown l (carry-out im k p)
+mounted-by : (im : Image) (l : Ledger) (k : ℕ) (p : Answer Plan) (q : Plan) → p ≡ give q → length (steps-of p) ≤ k → q .done .answer ≡ 0 → Shows (run im (q .steps)) (q .done .third) l →
+    Shown l (carry-out im k p)
 mounted-by im l k p q e h a s =
     subst (λ (p : Answer Plan). length (steps-of p) ≤ k → Shown l (carry-out im k p)) (sym e) (λ j. subst (Shown l) (sym (carried-done im k q j)) (a, s)) h
 
@@ -238,5 +240,6 @@ sound-by im l Request.mount i b = safe-sound (Inv l) im (steps-of (mount-plan im
 sound-by im l (Request.get n) i b = safe-sound (Inv l) im (steps-of (get-plan n im)) (none-safe im l (get-plan n im) (get-none n im) i)
 sound-by im l (Request.list j) i b = safe-sound (Inv l) im (steps-of (list-plan j im)) (none-safe im l (list-plan j im) (list-none j im) i)
 
+-- the theorem
 pub demand-3 : Demand-3
 demand-3 = demand-by Inv formatted (λ im l c. keeps-by im l (c .request) (c .allowance)) sound-by mounts

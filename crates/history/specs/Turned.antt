@@ -1,5 +1,5 @@
 -- Images whose chain has turned: where the bytes are, that the head is found, and what is read from it.
-use Prim.Native.Nat.{ℕ, suc, _+_, _*_, _≤_, _<_}
+use Prim.Native.Nat.{ℕ, suc, _+_, _*_, _≤_, _<_, _-_, zero}
 use native.Mathlib.Omega.{arith}
 use mathlib.Core.Path.{_≡_, sym, ap, _∙_, subst}
 use mathlib.Core.Bool.{true, false}
@@ -17,7 +17,7 @@ use Rattle.history.specs.Last.{Ends, Stops, stops-clear, stops-over, wra
 use Rattle.history.specs.Walk.{Quiet, Walked, Head-low, is-START, is-CLEAN}
 use Rattle.history.specs.Head.{Front, front-gap, front-begun, front-low, Reaches, head-start, head-clean}
 use Rattle.history.specs.Shape.{chain-of, image, shape-turned, turns-wrap, turns-over, Low-end, low-clear, low-over}
-use Rattle.history.specs.Quiet.{quiet-append}
+use Rattle.history.specs.Quiet.{quiet-append, blank-split}
 use Rattle.history.specs.Seg.{Seg, seg-none, seg-torn, seg-cut, seg-held, seg-onto, seg-size, seg-entries, seg-open, seg-append, length-seg, seg-ends, seg-reaches}
 
 -- what stands behind the records from the head on
@@ -25,6 +25,7 @@ pub data End : Type 0 where
   exact : End
   marker : ℕ → End
 
+-- its bytes
 abbrev pub end-bytes : End → List ℕ
 end-bytes exact = []
 end-bytes (marker k) = wrap (blanks k)
@@ -75,7 +76,23 @@ opens-end : {free : List ℕ} {x : Next} → Opens free x → Low-end x
 opens-end opens-ff = low-clear
 opens-end opens-none = low-over
 
-module _ {im : List ℕ} {a l : ℕ} {lost : List ℕ} {h : ℕ} {low : List Rec} {seg : Seg} {f : ℕ} {free : List ℕ} {x : Rec} {ys : List Rec} {end : End} (s : Turned im a l lost h low seg f free (x ∷ ys) end) where
+-- with eight FF at least
+pub open-ff : (n : ℕ) (s free : List ℕ) → free ≡ blanks n ++ s → 8 ≤ n → Opens free Next.Clear
+open-ff n s free e h =
+    subst (λ (l : List ℕ). Opens l Next.Clear)
+    (sym (e ∙ ap (λ (l : List ℕ). l ++ s) (blank-split 8 (n - 8) n (omega arith)) ∙ append-assoc (blanks 8) (blanks (n - 8)) s)) opens-ff
+
+-- so many FF
+pub opens-blanks : (k : ℕ) → 8 ≤ k → Opens (blanks k) Next.Clear
+opens-blanks k h = subst (λ (l : List ℕ). Opens l Next.Clear) (sym (blank-split 8 (k - 8) k (omega arith))) opens-ff
+
+-- m words of FF
+pub opens-words : (m k : ℕ) → k ≡ 8 * m → (x : Next) × Opens (blanks k) x
+opens-words zero k e = (Next.Over, subst (λ (i : ℕ). Opens (blanks i) Next.Over) (sym e) opens-none)
+opens-words (suc m) k e = (Next.Clear, opens-blanks k (omega arith))
+
+module _ {im : List ℕ} {a l : ℕ} {lost : List ℕ} {h : ℕ} {low : List Rec} {seg : Seg} {f : ℕ} {free : List ℕ} {x : Rec} {ys : List Rec} {end : End}
+    (s : Turned im a l lost h low seg f free (x ∷ ys) end) where
   abbrev rest : List ℕ
   rest = lay (x ∷ ys) (end-bytes end)
 
@@ -88,45 +105,55 @@ module _ {im : List ℕ} {a l : ℕ} {lost : List ℕ} {h : ℕ} {low : List Rec
   reached : {b : ℕ} → x .low ≡ b → Head-low b → Reaches (sizes low) (seg-onto seg ((free ++ lost) ++ rest)) (b ∷ 90 ∷ drop 2 rest) (seg-size seg + 8 * (f + l))
   reached {b} e k =
       subst (λ (c : ℕ). Reaches (sizes low) (seg-onto seg ((free ++ lost) ++ (c ∷ 90 ∷ drop 2 rest))) (b ∷ 90 ∷ drop 2 rest) (seg-size seg + 8 * (f + l))) (sym e)
-      (seg-reaches (sizes low) (f + l) seg (free ++ lost) (drop 2 rest) word-count (quiet-append f l free lost (s .free-length) (s .free-quiet) (s .lost-quiet)) k (λ i. omega (arith, s .below, s .some-below)))
+      (seg-reaches (sizes low) (f + l) seg (free ++ lost) (drop 2 rest) word-count (quiet-append f l free lost (s .free-length) (s .free-quiet) (s .lost-quiet)) k
+      (λ i. omega (arith, s .below, s .some-below)))
 
   fronted : Front low (seg-onto seg ((free ++ lost) ++ rest))
   fronted = rw (append-assoc free lost rest) (front-seg low seg free (lost ++ rest) (s .opened) (s .opens) (omega (arith, s .below, s .free-length, s .some-below)))
 
+  -- START is found
   pub turned-start : x .low ≡ 0 → head im ≡ give h
   turned-start e =
       ap head seg-whole ∙ head-start low (seg-onto seg ((free ++ lost) ++ rest)) (drop 2 rest) (seg-size seg + 8 * (f + l)) (s .fine-low) (s .walked) fronted (reached e is-START)
       ∙ ap give (omega (arith, s .below, s .at))
 
+  -- CLEAN is found, if none stands at 0
   pub turned-clean : x .low ≡ 160 → clean-here im ≡ false → head im ≡ give h
   turned-clean e c =
-      ap head seg-whole ∙ head-clean low (seg-onto seg ((free ++ lost) ++ rest)) (drop 2 rest) (seg-size seg + 8 * (f + l)) (s .fine-low) (s .walked) fronted (sym (ap clean-here seg-whole) ∙ c) (reached e is-CLEAN)
+      ap head seg-whole ∙ head-clean low (seg-onto seg ((free ++ lost) ++ rest)) (drop 2 rest) (seg-size seg + 8 * (f + l)) (s .fine-low) (s .walked) fronted (sym (ap clean-here seg-whole) ∙ c)
+      (reached e is-CLEAN)
       ∙ ap give (omega (arith, s .below, s .at))
 
   -- ---- the reading
   bottom : floor h ≡ 4096 * a
   bottom = omega (arith, s .at, s .lost-small)
 
+  -- the bytes below the head's sector
   pub low-part : sizes low + length (seg-onto seg free) ≡ floor h
   low-part = ap (λ (n : ℕ). sizes low + n) (length-seg seg free) ∙ omega (arith, s .below, s .free-length, bottom)
 
+  -- the lost bytes before the head
   pub high-part : floor h + length lost ≡ h
   high-part = omega (arith, bottom, s .at, s .lost-length)
 
+  -- the image in the general shape
   pub shaped : im ≡ image low (x ∷ ys) (seg-onto seg free) lost (end-bytes end) h low-part high-part
   shaped = s .is ∙ ap (lay low) (seg-append seg free (lost ++ rest))
 
   low-ends : Ends (sizes low) (seg-onto seg free) (chain-of (seg-entries (sizes low) seg) (seg-open seg) (sizes low + seg-size seg) (s .opened))
   low-ends = seg-ends (s .opened) (sizes low) seg free (opens-stops (sizes low + seg-size seg) (s .opens))
 
+  -- what is read
   pub turned-reading : reading-from im h ≡ read (length im) h (sizes low + seg-size seg) true (entries-of h (x ∷ ys) ++ (entries-of 0 low ++ seg-entries (sizes low) seg)) Ending.Tail
   turned-reading = go end shaped
     where
       go : (en : End) → im ≡ lay low (seg-onto seg free ++ (lost ++ lay (x ∷ ys) (end-bytes en))) →
           reading-from im h ≡ read (length im) h (sizes low + seg-size seg) true (entries-of h (x ∷ ys) ++ (entries-of 0 low ++ seg-entries (sizes low) seg)) Ending.Tail
       go exact e =
-          rw e (shape-turned low (x ∷ ys) (seg-onto seg free) lost [] h low-part high-part (s .fine-low) (s .fine-high) (omega arith) (seg-entries (sizes low) seg) (seg-open seg) (h + sizes (x ∷ ys)) (sizes low + seg-size seg)
+          rw e (shape-turned low (x ∷ ys) (seg-onto seg free) lost [] h low-part high-part (s .fine-low) (s .fine-high) (omega arith) (seg-entries (sizes low) seg) (seg-open seg)
+          (h + sizes (x ∷ ys)) (sizes low + seg-size seg)
           (λ z. omega (arith, bottom, s .some-below)) turns-over (λ k. stops-over (h + sizes (x ∷ ys)) false (suc k)) (opens-end (s .opens)) low-ends)
       go (marker k) e =
-          rw e (shape-turned low (x ∷ ys) (seg-onto seg free) lost (wrap (blanks k)) h low-part high-part (s .fine-low) (s .fine-high) (omega arith) (seg-entries (sizes low) seg) (seg-open seg) (h + sizes (x ∷ ys)) (sizes low + seg-size seg)
+          rw e (shape-turned low (x ∷ ys) (seg-onto seg free) lost (wrap (blanks k)) h low-part high-part (s .fine-low) (s .fine-high) (omega arith) (seg-entries (sizes low) seg) (seg-open seg)
+          (h + sizes (x ∷ ys)) (sizes low + seg-size seg)
           (λ z. omega (arith, bottom, s .some-below)) turns-wrap (ends-wrap (h + sizes (x ∷ ys)) (blanks k)) (opens-end (s .opens)) low-ends)

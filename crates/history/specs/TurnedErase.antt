@@ -7,7 +7,7 @@ use lib.ListN.{length, take, drop, length-append, length-drop, drop-of-length-le
 use Rattle.spec.specs.declared.Next.{Next}
 use Rattle.spec.specs.Step.{run}
 use Rattle.spec.specs.Record.{Rec}
-use Rattle.history.specs.Lay.{body, onto, lay, rsize, lay-is, length-lay}
+use Rattle.history.specs.Lay.{body, onto, lay, rsize, lay-is, length-lay, lay-past}
 use Rattle.history.specs.Walk.{Quiet}
 use Rattle.history.specs.Quiet.{blank-split, quiet-append}
 use Rattle.history.specs.Erase.{erases, half-erased, half-erased-length, erase-cut, quiet-lost, half-erased-quiet, quiet-second}
@@ -23,8 +23,14 @@ more-open i k q opens-none =
     subst (λ (l : List ℕ). Opens l Next.Clear)
     (sym (ap (λ (l : List ℕ). l ++ take (4096 * (k - suc i)) (drop (4096 * suc i) q)) (blank-split 8 (4096 * suc i - 8) (4096 * suc i) (omega arith)))) opens-ff
 
+-- the bytes below the head's sector
+pre-length : {im : List ℕ} {a l : ℕ} {lost : List ℕ} {h : ℕ} {low : List Rec} {f : ℕ} {free : List ℕ} {high : List Rec} {end : End} → Turned im a l lost h low seg-none f free high end →
+    length (lay low free) ≡ 4096 * a
+pre-length {low = low} {free = free} s = length-lay low free ∙ omega (arith, s .free-length, s .below)
+
 -- Y behind X, in a later sector
-module _ {im : List ℕ} {a l : ℕ} {lost : List ℕ} {h : ℕ} {low : List Rec} {f : ℕ} {free : List ℕ} {x y : Rec} {ys : List Rec} {end : End} (s : Turned im a l lost h low seg-none f free (x ∷ y ∷ ys) end) (c : Cleaned x)
+module _ {im : List ℕ} {a l : ℕ} {lost : List ℕ} {h : ℕ} {low : List Rec} {f : ℕ} {free : List ℕ} {x y : Rec} {ys : List Rec} {end : End}
+    (s : Turned im a l lost h low seg-none f free (x ∷ y ∷ ys) end) (c : Cleaned x)
     (k r : ℕ) (all : 512 * suc k + r ≡ l + rsize x / 8) (short : r < 512) where
   abbrev q : List ℕ
   q = old-head lost x
@@ -33,21 +39,15 @@ module _ {im : List ℕ} {a l : ℕ} {lost : List ℕ} {h : ℕ} {low : List Rec
   unfolding old-head
   q-length = length-append lost (onto x []) ∙ omega (arith, s .lost-length, length-lay (x ∷ []) [], rsize-words x)
 
-  pre-length : length (lay low free) ≡ 4096 * a
-  pre-length = length-lay low free ∙ omega (arith, s .free-length, s .below)
-
-  -- low and free in front of anything
-  pre-is : (t : List ℕ) → lay low free ++ t ≡ lay low (free ++ t)
-  pre-is t = ap (λ (l : List ℕ). l ++ t) (lay-is low free) ∙ append-assoc (lay low []) free t ∙ sym (lay-is low (free ++ t))
-
   rest : List ℕ
   rest = lay (y ∷ ys) (end-bytes end)
 
   im-is : im ≡ lay low free ++ (q ++ rest)
   unfolding old-head rest
   im-is =
-      s .is ∙ ap (λ (l : List ℕ). lay low (free ++ l)) (ap (λ (l : List ℕ). lost ++ l) (lay-is (x ∷ []) (lay (y ∷ ys) (end-bytes end))) ∙ sym (append-assoc lost (onto x []) (lay (y ∷ ys) (end-bytes end))))
-      ∙ sym (pre-is ((lost ++ onto x []) ++ lay (y ∷ ys) (end-bytes end)))
+      s .is ∙ ap (λ (l : List ℕ). lay low (free ++ l)) (ap (λ (l : List ℕ). lost ++ l) (lay-is (x ∷ []) (lay (y ∷ ys) (end-bytes end))) ∙ sym
+      (append-assoc lost (onto x []) (lay (y ∷ ys) (end-bytes end))))
+      ∙ sym (lay-past low free ((lost ++ onto x []) ++ lay (y ∷ ys) (end-bytes end)))
 
   quiet-q : Quiet (512 * k + r) (drop 4096 q)
   unfolding old-head
@@ -55,7 +55,10 @@ module _ {im : List ℕ} {a l : ℕ} {lost : List ℕ} {h : ℕ} {low : List Rec
       let n : rsize x / 8 - 1 ≡ 511 - l + (512 * k + r) = omega (arith, s .lost-small) in
       quiet-second x lost [] l (512 * k + r) (s .lost-length) (omega (arith, s .lost-small)) (subst (λ (m : ℕ). Quiet m (body (x .name) (x .content) [])) n c)
 
-  pub turned-m3 : (i : ℕ) → i ≤ k → Turned (run im (take (suc i) (erases (4096 * a) (suc k)))) (a + suc k) r (drop (4096 * suc k) (old-head lost x)) (h + rsize x) low seg-none (f + 512 * suc k) (free ++ half-erased (suc i) (suc k) (old-head lost x)) (y ∷ ys) end
+  -- after at least one erase: the head is Y
+  pub turned-m3 : (i : ℕ) → i ≤ k →
+      Turned (run im (take (suc i) (erases (4096 * a) (suc k)))) (a + suc k) r (drop (4096 * suc k) (old-head lost x)) (h + rsize x) low seg-none (f + 512 * suc k)
+      (free ++ half-erased (suc i) (suc k) (old-head lost x)) (y ∷ ys) end
   unfolding rest
   turned-m3 i e =
       let D : List ℕ = half-erased (suc i) (suc k) q in
@@ -63,8 +66,8 @@ module _ {im : List ℕ} {a l : ℕ} {lost : List ℕ} {h : ℕ} {low : List Rec
       let ld : length D ≡ 4096 * suc k = half-erased-length (suc i) (suc k) q (omega arith) (omega (arith, q-length)) in
       record {
         is = ap (λ (m : List ℕ). run m (take (suc i) (erases (4096 * a) (suc k)))) im-is
-            ∙ erase-cut (suc i) (suc k) (4096 * a) (lay low free) q rest pre-length (omega (arith, q-length)) (omega arith)
-            ∙ pre-is (D ++ (L ++ rest)) ∙ ap (lay low) (sym (append-assoc free D (L ++ rest)));
+            ∙ erase-cut (suc i) (suc k) (4096 * a) (lay low free) q rest (pre-length s) (omega (arith, q-length)) (omega arith)
+            ∙ lay-past low free (D ++ (L ++ rest)) ∙ ap (lay low) (sym (append-assoc free D (L ++ rest)));
         at = omega (arith, s .at, rsize-words x);
         some-below = omega arith;
         below = omega (arith, s .below);
@@ -90,20 +93,14 @@ module _ {im : List ℕ} {a l : ℕ} {lost : List ℕ} {h : ℕ} {low : List Rec
   abbrev q₀ : List ℕ
   q₀ = last-head lost x end
 
-  pre₀-length : length (lay low free) ≡ 4096 * a
-  pre₀-length = length-lay low free ∙ omega (arith, s .free-length, s .below)
-
-  pre₀-is : (t : List ℕ) → lay low free ++ t ≡ lay low (free ++ t)
-  pre₀-is t = ap (λ (l : List ℕ). l ++ t) (lay-is low free) ∙ append-assoc (lay low []) free t ∙ sym (lay-is low (free ++ t))
-
   im₀-is : im ≡ lay low free ++ (q₀ ++ [])
   unfolding last-head
-  im₀-is = s .is ∙ sym (pre₀-is (lost ++ onto x (end-bytes end))) ∙ ap (λ (l : List ℕ). lay low free ++ l) (sym (append-nil (lost ++ onto x (end-bytes end))))
+  im₀-is = s .is ∙ sym (lay-past low free (lost ++ onto x (end-bytes end))) ∙ ap (λ (l : List ℕ). lay low free ++ l) (sym (append-nil (lost ++ onto x (end-bytes end))))
 
   q₀-length : length q₀ ≡ 4096 * suc k + 8 * 0
   q₀-length =
       let e : length im ≡ length (lay low free) + length (q₀ ++ []) = ap length im₀-is ∙ length-append (lay low free) (q₀ ++ []) in
-      omega (arith, e, pre₀-length, length-append q₀ [])
+      omega (arith, e, pre-length s, length-append q₀ [])
 
   quiet-q₀ : Quiet (512 * k + 0) (drop 4096 q₀)
   unfolding last-head
@@ -111,14 +108,15 @@ module _ {im : List ℕ} {a l : ℕ} {lost : List ℕ} {h : ℕ} {low : List Rec
       let n : 511 - l + 512 * k ≡ 511 - l + (512 * k + 0) = omega arith in
       quiet-second x lost (end-bytes end) l (512 * k + 0) (s .lost-length) (omega (arith, s .lost-small)) (subst (λ (m : ℕ). Quiet m (body (x .name) (x .content) (end-bytes end))) n c)
 
+  -- after at least one erase: not turned, the head is at 0
   pub zero-m3 : (i : ℕ) → i ≤ k → Straight (run im (take (suc i) (erases (4096 * a) (suc k)))) 0 0 [] [] 0 low seg-none (free ++ half-erased (suc i) (suc k) (last-head lost x end))
   zero-m3 i e =
       let D : List ℕ = half-erased (suc i) (suc k) q₀ in
       let L : drop (4096 * suc k) q₀ ≡ [] = drop-of-length-le q₀ {i = 4096 * suc k} (omega (arith, q₀-length)) in
       record {
         is = ap (λ (m : List ℕ). run m (take (suc i) (erases (4096 * a) (suc k)))) im₀-is
-            ∙ erase-cut (suc i) (suc k) (4096 * a) (lay low free) q₀ [] pre₀-length (omega (arith, q₀-length)) (omega arith)
-            ∙ ap (λ (l : List ℕ). lay low free ++ (D ++ (l ++ []))) L ∙ ap (λ (l : List ℕ). lay low free ++ l) (append-nil D) ∙ pre₀-is D;
+            ∙ erase-cut (suc i) (suc k) (4096 * a) (lay low free) q₀ [] (pre-length s) (omega (arith, q₀-length)) (omega arith)
+            ∙ ap (λ (l : List ℕ). lay low free ++ (D ++ (l ++ []))) L ∙ ap (λ (l : List ℕ). lay low free ++ l) (append-nil D) ∙ lay-past low free D;
         at = refl;
         gap-length = refl;
         gap-quiet = tt;

@@ -8,7 +8,7 @@ use mathlib.Core.List.{List, [], _∷_, _++_, append-assoc}
 use lib.ListN.{length, length-append}
 use Rattle.spec.specs.declared.Next.{Next}
 use Rattle.spec.specs.Record.{Rec, Entry}
-use Rattle.history.specs.Lay.{onto, lay, rsize, sizes, entries-of, lay-is, length-lay, All-fine}
+use Rattle.history.specs.Lay.{onto, lay, rsize, sizes, entries-of, lay-is, length-lay, All-fine, lay-past}
 use Rattle.history.specs.Walk.{Quiet, Walks, walks-record, walks-clean, Walked}
 use Rattle.history.specs.Seg.{Seg, seg-onto, seg-size, seg-append, length-seg}
 use Rattle.history.specs.Turned.{Turned, End, end-bytes, Opens}
@@ -36,7 +36,7 @@ walked-right at (r ∷ xs) ys p = subst (λ (n : ℕ). Walked n ys) (omega arith
 -- ---- the same place with other bytes
 
 -- other records from the head on
-pub with-high : {im : List ℕ} {a l : ℕ} {lost : List ℕ} {h : ℕ} {low : List Rec} {seg : Seg} {f : ℕ} {free : List ℕ} {high high′ : List Rec} {end : End} (im′ : List ℕ) →
+with-high : {im : List ℕ} {a l : ℕ} {lost : List ℕ} {h : ℕ} {low : List Rec} {seg : Seg} {f : ℕ} {free : List ℕ} {high high′ : List Rec} {end : End} (im′ : List ℕ) →
     Turned im a l lost h low seg f free high end → im′ ≡ lay low (seg-onto seg (free ++ (lost ++ lay high′ (end-bytes end)))) → All-fine high′ → Turned im′ a l lost h low seg f free high′ end
 with-high im′ s e f =
     record {
@@ -57,7 +57,7 @@ with-high im′ s e f =
     }
 
 -- other records from 0 on, something else behind them, another free run
-pub with-low : {im : List ℕ} {a l : ℕ} {lost : List ℕ} {h : ℕ} {low low′ : List Rec} {seg seg′ : Seg} {f : ℕ} {free new : List ℕ} {high : List Rec} {end : End} {x : Next} (im′ : List ℕ) (f′ : ℕ) →
+with-low : {im : List ℕ} {a l : ℕ} {lost : List ℕ} {h : ℕ} {low low′ : List Rec} {seg seg′ : Seg} {f : ℕ} {free new : List ℕ} {high : List Rec} {end : End} {x : Next} (im′ : List ℕ) (f′ : ℕ) →
     Turned im a l lost h low seg f free high end → im′ ≡ lay low′ (seg-onto seg′ (new ++ (lost ++ lay high (end-bytes end)))) →
     sizes low′ + seg-size seg′ + length new ≡ sizes low + seg-size seg + length free → length new ≡ 8 * f′ → Quiet f′ new → Opens new x → All-fine low′ → Walked 0 low′ →
     Turned im′ a l lost h low′ seg′ f′ new high end
@@ -87,10 +87,12 @@ high-laid (x ∷ xs) r ys s e = laid-turned s refl refl e refl
 
 -- ---- the edits
 
-module _ {im : List ℕ} {a l : ℕ} {lost : List ℕ} {h : ℕ} {low : List Rec} {seg : Seg} {f : ℕ} {free : List ℕ} {x : Rec} {ys : List Rec} {end : End} (s : Turned im a l lost h low seg f free (x ∷ ys) end) where
+module _ {im : List ℕ} {a l : ℕ} {lost : List ℕ} {h : ℕ} {low : List Rec} {seg : Seg} {f : ℕ} {free : List ℕ} {x : Rec} {ys : List Rec} {end : End}
+    (s : Turned im a l lost h low seg f free (x ∷ ys) end) where
   abbrev rest : List ℕ
   rest = lost ++ lay (x ∷ ys) (end-bytes end)
 
+  -- what stands at S may be replaced
   pub turned-hole : Hole im h (sizes low) true (entries-of h (x ∷ ys) ++ entries-of 0 low) seg [] free
   turned-hole =
       record {
@@ -99,7 +101,8 @@ module _ {im : List ℕ} {a l : ℕ} {lost : List ℕ} {h : ℕ} {low : List Rec
         is = s .is ∙ lay-is low (seg-onto seg (free ++ rest));
         at = length-lay low [] ∙ omega arith;
         plug = λ g k new y m q o z.
-            laid-turned {low = low} (with-low (lay low [] ++ seg-onto g (new ++ rest)) k s (sym (lay-is low (seg-onto g (new ++ rest)))) (omega arith) m q o (s .fine-low) (s .walked)) refl refl refl refl;
+            laid-turned {low = low}
+            (with-low (lay low [] ++ seg-onto g (new ++ rest)) k s (sym (lay-is low (seg-onto g (new ++ rest)))) (omega arith) m q o (s .fine-low) (s .walked)) refl refl refl refl;
         grow = λ r k new y fine w m q o z.
             laid-turned {low = low ++ (r ∷ [])}
             (with-low (lay low [] ++ onto r (new ++ rest)) k s
@@ -115,37 +118,52 @@ module _ {im : List ℕ} {a l : ℕ} {lost : List ℕ} {h : ℕ} {low : List Rec
       }
 
   -- all that stands before what follows the records xs from the head on
-  high-front : List Rec → List ℕ
+  pub high-front : List Rec → List ℕ
   high-front xs = lay low (seg-onto seg (free ++ (lost ++ lay xs [])))
 
-  high-front-is : (xs : List Rec) (t : List ℕ) → high-front xs ++ t ≡ lay low (seg-onto seg (free ++ (lost ++ lay xs t)))
+  -- it, and t behind it
+  pub high-front-is : (xs : List Rec) (t : List ℕ) → high-front xs ++ t ≡ lay low (seg-onto seg (free ++ (lost ++ lay xs t)))
   unfolding high-front
   high-front-is xs t =
       let u : List ℕ = free ++ (lost ++ lay xs []) in
-      ap (λ (l : List ℕ). l ++ t) (lay-is low (seg-onto seg u)) ∙ append-assoc (lay low []) (seg-onto seg u) t ∙ sym (lay-is low (seg-onto seg u ++ t))
+      lay-past low (seg-onto seg u) t
       ∙ ap (lay low)
       (sym (seg-append seg u t)
       ∙ ap (seg-onto seg) (append-assoc free (lost ++ lay xs []) t ∙ ap (λ (l : List ℕ). free ++ l) (append-assoc lost (lay xs []) t ∙ ap (λ (l : List ℕ). lost ++ l) (sym (lay-is xs t)))))
 
-  high-front-length : (xs : List Rec) → length (high-front xs) ≡ h + sizes xs
+  -- how long it is
+  pub high-front-length : (xs : List Rec) → length (high-front xs) ≡ h + sizes xs
   unfolding high-front
   high-front-length xs =
       length-lay low (seg-onto seg (free ++ (lost ++ lay xs [])))
-      ∙ omega (arith, length-seg seg (free ++ (lost ++ lay xs [])), length-append free (lost ++ lay xs []), length-append lost (lay xs []), length-lay xs [], s .free-length, s .lost-length, s .below, s .at)
+      ∙ omega (
+        arith,
+        length-seg seg (free ++ (lost ++ lay xs [])),
+        length-append free (lost ++ lay xs []),
+        length-append lost (lay xs []),
+        length-lay xs [],
+        s .free-length,
+        s .lost-length,
+        s .below,
+        s .at,
+      )
 
+  -- a record from the head on may be replaced
   pub high-inside : {xs zs : List Entry} {e : Entry} → Among h (x ∷ ys) xs e zs → Inside im h (sizes low) true xs e (zs ++ entries-of 0 low) seg [] free
   high-inside {xs} {zs} {e} q =
       record {
         pre = high-front (q .before);
         post = lay (q .after) (end-bytes end);
-        is = s .is ∙ ap (λ (l : List ℕ). lay low (seg-onto seg (free ++ (lost ++ l)))) (ap (λ (k : List Rec). lay k (end-bytes end)) (q .is) ∙ lay-append (q .before) (e .it ∷ q .after) (end-bytes end))
+        is =
+            s .is ∙ ap (λ (l : List ℕ). lay low (seg-onto seg (free ++ (lost ++ l)))) (ap (λ (k : List Rec). lay k (end-bytes end)) (q .is) ∙ lay-append (q .before) (e .it ∷ q .after) (end-bytes end))
             ∙ sym (high-front-is (q .before) (lay (e .it ∷ q .after) (end-bytes end)));
         at = high-front-length (q .before) ∙ sym (q .there);
         fine = among-fine q (s .fine-high);
         swap = λ r z fine w.
             high-laid (q .before) r (q .after)
             (with-high (high-front (q .before) ++ onto r (lay (q .after) (end-bytes end))) s
-            (high-front-is (q .before) (lay (r ∷ q .after) (end-bytes end)) ∙ ap (λ (l : List ℕ). lay low (seg-onto seg (free ++ (lost ++ l)))) (sym (lay-append (q .before) (r ∷ q .after) (end-bytes end))))
+            (high-front-is (q .before) (lay (r ∷ q .after) (end-bytes end)) ∙ ap (λ (l : List ℕ). lay low (seg-onto seg (free ++ (lost ++ l))))
+            (sym (lay-append (q .before) (r ∷ q .after) (end-bytes end))))
             (fine-with q r z (s .fine-high) fine))
             (sym (append-assoc xs (record { at = e .at; it = r } ∷ zs) (entries-of 0 low)) ∙ ap (λ (l : List Entry). l ++ entries-of 0 low) (entries-with q r z));
       }
@@ -156,6 +174,7 @@ module _ {im : List ℕ} {a l : ℕ} {lost : List ℕ} {h : ℕ} {low : List Rec
   walks-still k (low-high p) w = absurd (omega arith)
   walks-still {e} k (low-zero p u) w = subst (λ (c : ℕ). Walks (e .at) c) (sym u) (walks-at (sym p) walks-clean)
 
+  -- a record from 0 on may be replaced
   pub low-inside : {xs zs : List Entry} {e : Entry} → Among 0 low xs e zs → Inside im h (sizes low) true (entries-of h (x ∷ ys) ++ xs) e zs seg [] free
   low-inside {xs} {zs} {e} q =
       let t : List ℕ = seg-onto seg (free ++ rest) in
@@ -183,6 +202,7 @@ module _ {im : List ℕ} {a l : ℕ} {lost : List ℕ} {h : ℕ} {low : List Rec
             refl;
       }
 
+  -- how long the image is
   pub turned-length : length im ≡ h + sizes (x ∷ ys) + length (end-bytes end)
   turned-length =
       ap length (s .is ∙ sym (high-front-is [] (lay (x ∷ ys) (end-bytes end)))) ∙ length-append (high-front []) (lay (x ∷ ys) (end-bytes end))

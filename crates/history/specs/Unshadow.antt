@@ -26,16 +26,19 @@ use Rattle.history.specs.OkLaws.{ok-unshadow}
 use Rattle.history.specs.Kinds.{Ok, Starts, Inv, Rested}
 use Rattle.history.specs.Closes.{Rests}
 use Rattle.history.specs.Rules.{shadow-ruled, fine-finished}
-use Rattle.history.specs.Idle.{some-behind, Mends, mends-4, starts-clean, two-plain}
+use Rattle.history.specs.Idle.{Mends, mends-4, starts-clean, two-plain}
 use Rattle.history.specs.Resting.{starts-read}
 use Rattle.history.specs.Vacant.{tail-here, rested-of, rested-inv}
 use Rattle.history.specs.PutOld.{gone, gone-dead, starts-swap, status-sound}
+use Rattle.history.specs.Lists.{some-behind}
 
 module _ {im : Image} {h S T : ℕ} (B F : ℕ) {t u : Bool} (xs ys : List Entry) (e : Entry) (good : good-length (length im) ≡ true)
     (d : Laid im h S t (xs ++ (e ∷ ys)) seg-none (blanks B) (blanks F)) (tail : Tail h S t seg-none (blanks B) (blanks F) T u) where
+  -- the step is sound
   pub delete-sound : Sound im (status-step e 0)
   delete-sound = status-sound xs ys e d 0 refl
 
+  -- and leaves a rested image
   pub delete-rests : {l : Ledger} → Starts (xs ++ (e ∷ ys)) → Ok (xs ++ (gone e ∷ ys)) l → Rested l (set im (e .at + 2) 0) (reading-from (set im (e .at + 2) 0) h)
   delete-rests s o = rested-of B F (ap good-length (length-set im (e .at + 2) 0) ∙ good) (restatus-laid xs ys e d 0 st-00) (tail-here tail .tail) (starts-swap xs ys e (gone e) refl s) o
 
@@ -44,6 +47,7 @@ unfolding repair-4 drop-steps
 drop-one w es o e k =
     ap (λ (fs : List Entry). after w (map delete-step (keep (superseded fs) fs)) (w .reading .place .head)) e ∙ ap (λ (fs : List Entry). after w (map delete-step fs) (w .reading .place .head)) k
 
+-- the kind shadow: mount deletes the F8 record
 pub mends-shadow :
     {l : Ledger} {im : Image} {h S T : ℕ} (B F : ℕ) {t u : Bool} (xs ys : List Entry) (o : Entry) → Inv l im → Laid im h S t (xs ++ (o ∷ ys)) seg-none (blanks B) (blanks F) →
     Tail h S t seg-none (blanks B) (blanks F) T u → Starts (xs ++ (o ∷ ys)) → Shadowed xs ys o → Ok (xs ++ ys) l → Mends l im

@@ -1,4 +1,4 @@
--- Images whose head is CLEAN with T's own sector FF (Vacant), and those whose free run is all FF (Bare): from these the head's low byte makes a rested image.
+-- Images whose head is CLEAN with T's own sector FF (Vacant), and those that are bare: from these the head's low byte makes a rested image.
 use Prim.Native.Nat.{ℕ, _+_, _-_, _%_, min, _≤_}
 use native.Mathlib.Omega.{arith}
 use native.Mathlib.Nat.{add-zero}
@@ -10,7 +10,7 @@ use lib.Seq.{take-append-add, take-append-le, drop-append-seam, take-at, length-
 use lib.Dec.{eqb, leb}
 use borrow.Author.Tests.{eqb-true}
 use Rattle.spec.specs.declared.Ending.{Ending}
-use Rattle.spec.specs.Step.{Image, program, run}
+use Rattle.spec.specs.Step.{Image, program}
 use Rattle.spec.specs.Basics.{Each, part, blank}
 use Rattle.spec.specs.Geometry.{good-length, floor}
 use Rattle.spec.specs.Record.{Rec, Entry}
@@ -27,7 +27,7 @@ use Rattle.history.specs.Safe.{Safe}
 use Rattle.history.specs.Store.{alive, Unmarked}
 use Rattle.history.specs.Lists.{and-left}
 use Rattle.history.specs.Repair.{blank-is}
-use Rattle.history.specs.Laid.{Laid, laid-straight, laid-turned, Hole, Tail, tail-clear, tail-floor, tail-N, tail-turn, low-high}
+use Rattle.history.specs.Laid.{Laid, laid-straight, laid-turned, Hole, Tail, tail-clear, tail-floor, tail-N, tail-turn, low-high, Bare}
 use Rattle.history.specs.Kinds.{Ok, Starts, place, quiet, vacated, Inv, Rested}
 use Rattle.history.specs.LaidEdit.{laid-first, laid-limit, laid-head, hole-of, relow-laid}
 use Rattle.history.specs.OkLaws.{ok-same}
@@ -35,11 +35,13 @@ use Rattle.history.specs.LaidRead.{laid-reads}
 
 -- ---- the tail with nothing at S
 
+-- T and the turn are S and its own
 pub record Here (h S : ℕ) (t : Bool) (below free : List ℕ) (T : ℕ) (u : Bool) : Type 0 where
   pub same : T ≡ S
   pub turn : u ≡ t
   pub tail : Tail h S t seg-none below free S t
 
+-- so they are, with nothing unfinished
 pub tail-here : {h S : ℕ} {t : Bool} {below free : List ℕ} {T : ℕ} {u : Bool} → Tail h S t seg-none below free T u → Here h S t below free T u
 tail-here {S = S} (tail-clear s e p q) = record { same = p ∙ add-zero S; turn = q; tail = tail-clear s e (sym (add-zero S)) refl }
 tail-here {S = S} (tail-floor e t p q) = record { same = p ∙ add-zero S; turn = q ∙ sym t; tail = tail-floor e t (sym (add-zero S)) t }
@@ -64,6 +66,7 @@ pub laid-eight : {im : Image} {h S : ℕ} {t : Bool} {es : List Entry} {seg : Se
 laid-eight (laid-straight {x = x} {ys} f s t e es l q) = omega (arith, s .at, sizes-eight (x ∷ ys))
 laid-eight (laid-turned {low = low} s t e es b) = omega (arith, sizes-eight low)
 
+-- some of the FF
 pub take-blanks : (j m : ℕ) → j ≤ m → take j (blanks m) ≡ blanks j
 take-blanks j m h = ap (take j) (blank-split j (m - j) m (omega arith)) ∙ take-at (blanks j) (blanks (m - j)) j (length-replicate j 255)
 
@@ -75,14 +78,16 @@ part-blanks pre s S m M e g l =
     ∙ ap (λ (x : List ℕ). blank (drop (length pre) x)) (take-append-add pre (blanks m ++ s) j)
     ∙ ap blank (drop-append-seam pre (take j (blanks m ++ s)) ∙ take-append-le j (blanks m) s (omega (arith, length-replicate {A = ℕ} m 255)) ∙ take-blanks j m (omega arith)) ∙ blank-blanks j
 
+-- a good length is sectors
 pub good-mod : (n : ℕ) → good-length n ≡ true → n % 4096 ≡ 0
 unfolding good-length
 good-mod n e = eqb-true (n % 4096) 0 (and-left (eqb (n % 4096) 0) (leb 8192 n) (and-left (eqb (n % 4096) 0 && leb 8192 n) (leb n 16777216) e))
 
-pub limit-mod : (im : Image) (h S : ℕ) (t : Bool) → length im % 4096 ≡ 0 → limit (place im h S t) % 4096 ≡ 0
+limit-mod : (im : Image) (h S : ℕ) (t : Bool) → length im % 4096 ≡ 0 → limit (place im h S t) % 4096 ≡ 0
 limit-mod im h S true e = omega arith
 limit-mod im h S false e = e
 
+-- where the free run ends
 pub limit-is : {im : Image} {h S : ℕ} {t : Bool} {es : List Entry} {below free : List ℕ} → Laid im h S t es seg-none below free → limit (place im h S t) ≡ S + length free
 limit-is {S = S} {free = free} d = laid-limit d ∙ ap (λ (n : ℕ). n + length free) (add-zero S)
 
@@ -97,6 +102,7 @@ free-part {im} {h} {S} {t} {es} {below} {free} d m s e M p q =
 
 -- ---- vacant
 
+-- the first m bytes of the free run, which fill the sector of T, are FF
 pub record Vacant (h S : ℕ) (t : Bool) (es : List Entry) (im : Image) : Type 0 where
   pub below : List ℕ
   pub free : List ℕ
@@ -107,20 +113,23 @@ pub record Vacant (h S : ℕ) (t : Bool) (es : List Entry) (im : Image) : Type 0
   pub ff : take m free ≡ blanks m
 
 module _ {h S : ℕ} {t : Bool} {es : List Entry} {im : Image} (v : Vacant h S t es im) where
+  -- at least a word of them
   pub vacant-long : 8 ≤ v .m
   vacant-long = omega (arith, v .own, laid-eight (v .laid))
 
-  pub vacant-free : v .free ≡ blanks (v .m) ++ drop (v .m) (v .free)
+  vacant-free : v .free ≡ blanks (v .m) ++ drop (v .m) (v .free)
   vacant-free = sym (take-append-drop (v .m) (v .free)) ∙ ap (λ (l : List ℕ). l ++ drop (v .m) (v .free)) (v .ff)
 
-  pub vacant-opens : v .free ≡ blanks 8 ++ (blanks (v .m - 8) ++ drop (v .m) (v .free))
+  vacant-opens : v .free ≡ blanks 8 ++ (blanks (v .m - 8) ++ drop (v .m) (v .free))
   vacant-opens =
       vacant-free ∙ ap (λ (l : List ℕ). l ++ drop (v .m) (v .free)) (blank-split 8 (v .m - 8) (v .m) (omega (arith, vacant-long)))
       ∙ append-assoc (blanks 8) (blanks (v .m - 8)) (drop (v .m) (v .free))
 
+  -- the tail is S
   pub vacant-tail : Tail h S t seg-none (v .below) (v .free) S t
   vacant-tail = tail-clear (blanks (v .m - 8) ++ drop (v .m) (v .free)) vacant-opens (sym (add-zero S)) refl
 
+  -- the test on the sector of T
   pub vacant-blank : tail-blank im (place im h S t) ≡ true
   unfolding tail-blank
   vacant-blank =
@@ -128,7 +137,8 @@ module _ {h S : ℕ} {t : Bool} {es : List Entry} {im : Image} (v : Vacant h S t
       (omega (arith, v .own, limit-is (v .laid))) (omega (arith, v .own))
 
 -- from so many FF at T that they fill its sector
-pub vacant-at : {im : Image} {h S : ℕ} {t : Bool} {es : List Entry} {below free : List ℕ} (d : Laid im h S t es seg-none below free) (n : ℕ) (s : List ℕ) → free ≡ blanks n ++ s → floor S + 4096 ≤ S + n →
+pub vacant-at : {im : Image} {h S : ℕ} {t : Bool} {es : List Entry} {below free : List ℕ} (d : Laid im h S t es seg-none below free) (n : ℕ) (s : List ℕ) → free ≡ blanks n ++ s →
+    floor S + 4096 ≤ S + n →
     Vacant h S t es im
 vacant-at {S = S} {below = below} {free} d n s e h =
     let m : ℕ = floor S + 4096 - S in
@@ -152,7 +162,9 @@ own-back im pre free post S m M e p q l b =
     ∙ ap (drop (length pre)) (take-append-add pre (free ++ post) m) ∙ drop-append-seam pre (take m (free ++ post)) ∙ take-append-le m free post l in
     blank-is (take m free) (sym (ap blank f) ∙ b) ∙ ap blanks (length-take-le m free l)
 
-pub vacant-of : {im : Image} {h S : ℕ} {t : Bool} {es : List Entry} {below free : List ℕ} (d : Laid im h S t es seg-none below free) → good-length (length im) ≡ true → (s : List ℕ) → free ≡ blanks 8 ++ s →
+-- from the test
+pub vacant-of : {im : Image} {h S : ℕ} {t : Bool} {es : List Entry} {below free : List ℕ} (d : Laid im h S t es seg-none below free) → good-length (length im) ≡ true → (s : List ℕ) →
+    free ≡ blanks 8 ++ s →
     tail-blank im (place im h S t) ≡ true → Vacant h S t es im
 unfolding tail-blank
 vacant-of {im} {h} {S} {t} {es} {below} {free} d g s e b =
@@ -174,14 +186,7 @@ vacant-of {im} {h} {S} {t} {es} {below} {free} d g s e b =
 
 -- ---- bare
 
-pub record Bare (h : ℕ) (es : List Entry) (im : Image) : Type 0 where
-  pub S : ℕ
-  pub B : ℕ
-  pub F : ℕ
-  pub t : Bool
-  pub laid : Laid im h S t es seg-none (blanks B) (blanks F)
-  pub tail : Tail h S t seg-none (blanks B) (blanks F) S t
-
+-- a rested image, as it is read
 pub rested-of : {l : Ledger} {im : Image} {h S : ℕ} (B F : ℕ) {t : Bool} {es : List Entry} → good-length (length im) ≡ true → Laid im h S t es seg-none (blanks B) (blanks F) →
     Tail h S t seg-none (blanks B) (blanks F) S t → Starts es → Ok es l → Rested l im (reading-from im h)
 rested-of {l} {im} {h} {S} B F {t} {es} g d e s o =
@@ -214,10 +219,11 @@ unfolding alive named
 relow-alive x b = refl
 
 module _ {l : Ledger} {h : ℕ} {im : Image} {x : Entry} {es : List Entry} (g : good-length (length im) ≡ true) (c : x .it .low ≡ 160) (u : Each Unmarked es) (o : Ok (x ∷ es) l) where
+  -- the kind vacated
   pub vacant-inv : {S : ℕ} {t : Bool} → Vacant h S t (x ∷ es) im → Inv l im
   vacant-inv v = record { good = g; kind = vacated (v .laid) (vacant-tail v) (vacant-blank v) c u o }
 
-  pub bare-inv : Bare h (x ∷ es) im → Inv l im
+  bare-inv : Bare h (x ∷ es) im → Inv l im
   unfolding tail-blank
   bare-inv b =
       let L : limit (place im h (b .S) (b .t)) ≡ b .S + length (blanks (b .F)) = limit-is (b .laid) in
@@ -232,6 +238,7 @@ module _ {l : Ledger} {h : ℕ} {im : Image} {x : Entry} {es : List Entry} (g : 
   pub bare-safe : Bare h (x ∷ es) im → Inv l (set im h 0) → Safe (Inv l) im (program h 0 ∷ [])
   bare-safe b i = (bare-inv b, (omega (arith, laid-head (b .laid)), refl), i)
 
+  -- and after it the image is rested
   pub bare-rested : Bare h (x ∷ es) im → Rested l (set im h 0) (reading-from (set im h 0) h)
   bare-rested b =
       let p : x .at ≡ h = first-is (b .laid) in
@@ -240,5 +247,6 @@ module _ {l : Ledger} {h : ℕ} {im : Image} {x : Entry} {es : List Entry} (g : 
       (relow-laid [] es x (b .laid) 0 low-start (low-high (omega arith))))
       (b .tail) (refl, u) (ok-same [] es x (record { at = x .at; it = relow 0 (x .it) }) l o (relow-alive x 0) refl refl)
 
+-- a rested image is of the invariant
 pub rested-inv : {l : Ledger} {im : Image} {r : Reading} → Rested l im r → Inv l im
 rested-inv q = record { good = q .good; kind = quiet (q .B) (q .F) (q .laid) (q .tail) (q .starts) (q .ok) }

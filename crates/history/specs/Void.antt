@@ -3,20 +3,18 @@ use Prim.Native.Nat.{ℕ, zero, suc, _+_, _<_}
 use native.Mathlib.Omega.{arith}
 use native.Mathlib.Nat.{not-suc-le-zero}
 use mathlib.Core.Path.{_≡_, refl, sym, ap, _∙_}
-use mathlib.Core.List.{List, [], _∷_, _++_, append-assoc, append-nil}
+use mathlib.Core.List.{List, [], _∷_, _++_, append-assoc}
 use lib.ListN.{length, take, set, length-append, length-replicate}
 use lib.Seq.{set-at}
-use Rattle.spec.specs.Step.{Image, Step, program, run, moved}
+use Rattle.spec.specs.Step.{Image, Step, program, run}
 use Rattle.spec.specs.Geometry.{up8}
 use Rattle.spec.specs.Record.{size-of, Rec, Entry}
 use Rattle.spec.specs.Mount.{torn-steps, void-steps, last-steps}
-use Rattle.history.specs.Lay.{blanks, pad, lens, onto, lay, sizes, All-fine, low-record, st-00}
+use Rattle.history.specs.Lay.{blanks, pad, onto, lay, All-fine, low-record, st-00, header}
 use Rattle.history.specs.Last.{begun-5a, begun-end, held, begun}
 use Rattle.history.specs.Quiet.{blank-split}
 use Rattle.history.specs.Seg.{Seg, seg-none, seg-torn, seg-cut, seg-held, seg-onto, seg-size}
 use Rattle.history.specs.Steps.{Programs}
-use Rattle.history.specs.Straight.{Straight}
-use Rattle.history.specs.StraightEdit.{run-behind, other, lay-append, fine-append}
 
 -- the steps of repair 3, from the start of the unfinished thing
 abbrev pub void-rel : Seg → List Step
@@ -29,15 +27,12 @@ void-rel (seg-held n c f) = program 2 0 ∷ []
 abbrev pub dead : List ℕ → List ℕ → Rec
 dead n c = record { low = 165; status = 0; name = n; content = c }
 
+-- a dead record of its size
 abbrev pub voided : Seg → List Rec
 voided seg-none = []
 voided (seg-torn c x y z w t b m) = dead [] [] ∷ []
 voided (seg-cut d n f) = dead n (blanks d) ∷ []
 voided (seg-held n c f) = dead n c ∷ []
-
--- the missing 00: behind the header and the name
-header : ℕ → List ℕ
-header d = 165 ∷ 90 ∷ 254 ∷ 255 ∷ lens d []
 
 set-end : (H n X : List ℕ) → length H ≡ 8 → set (H ++ (n ++ (255 ∷ X))) (8 + length n) 0 ≡ H ++ (n ++ (0 ∷ X))
 set-end H n X e =
@@ -45,38 +40,32 @@ set-end H n X e =
     ∙ append-assoc H n (0 ∷ X)
 
 end-name : (d : ℕ) (n s : List ℕ) → set (begun d n s) (8 + length n) 0 ≡ onto (held n (blanks d)) s
-unfolding header
 end-name d n s =
     let l : length (blanks d) ≡ d = length-replicate {A = ℕ} d 255 in
     let v : blanks (up8 d) ++ s ≡ blanks d ++ (blanks (pad d) ++ s) =
     ap (λ (x : List ℕ). x ++ s) (blank-split d (pad d) (up8 d) (omega arith)) ∙ append-assoc (blanks d) (blanks (pad d)) s in
-    set-end (header d) n (blanks (pad (length n + 1)) ++ (blanks (up8 d) ++ s)) refl ∙ rw (l, v)
+    set-end (header d []) n (blanks (pad (length n + 1)) ++ (blanks (up8 d) ++ s)) refl ∙ rw (l, v)
 
+-- the steps make it so
 pub void-run : (g : Seg) (s : List ℕ) → run (seg-onto g s) (void-rel g) ≡ lay (voided g) s
 void-run seg-none s = refl
 void-run (seg-torn c x y z w t b m) s = refl
 void-run (seg-cut d n f) s = ap (λ (l : List ℕ). set l 2 0) (end-name d n s)
 void-run (seg-held n c f) s = refl
 
+-- none erases
 pub void-programs : (g : Seg) → Programs (void-rel g)
 void-programs seg-none = tt
 void-programs (seg-torn c x y z w t b m) = tt
 void-programs (seg-cut d n f) = tt
 void-programs (seg-held n c f) = tt
 
+-- the dead record is fine
 pub void-fine : (g : Seg) → All-fine (voided g)
 void-fine seg-none = tt
 void-fine (seg-torn c x y z w t b m) = (record { low-ok = low-record; status-ok = st-00; fit = record { short = omega arith; plain = tt; small = omega arith } }, tt)
 void-fine (seg-cut d n f) = (record { low-ok = low-record; status-ok = st-00; fit = record { short = f .short; plain = f .plain; small = rw (length-replicate {A = ℕ} d 255) (f .small) } }, tt)
 void-fine (seg-held n c f) = (record { low-ok = low-record; status-ok = st-00; fit = f }, tt)
-
--- on the image
-pub void-straight : {im : List ℕ} {a l : ℕ} {gap lost : List ℕ} {h : ℕ} {high : List Rec} {g : Seg} {free : List ℕ} → Straight im a l gap lost h high g free → Straight (run im (moved (h + sizes high) (void-rel g))) a l gap lost h (high ++ voided g) seg-none free
-void-straight {im} {a} {l} {gap} {lost} {h} {high} {g} {free} s =
-    other (run im (moved (h + sizes high) (void-rel g))) s
-    (run-behind high [] (sym (append-nil high)) s (void-rel g) (void-programs g)
-    ∙ ap (λ (l : List ℕ). gap ++ (lost ++ l)) (ap (lay high) (void-run g free) ∙ sym (lay-append high (voided g) free)))
-    (fine-append high (voided g) (s .fine) (void-fine g))
 
 -- cut: still something unfinished, of the same size
 pub void-cut : (g : Seg) (s : List ℕ) (j : ℕ) → j < length (void-rel g) → (g′ : Seg) × (run (seg-onto g s) (take j (void-rel g)) ≡ seg-onto g′ s) × (seg-size g′ ≡ seg-size g)
@@ -90,8 +79,11 @@ void-cut (seg-torn c x y z w t b m) s (suc (suc (suc (suc (suc zero))))) h = (se
 void-cut (seg-torn c x y z w t b m) s (suc (suc (suc (suc (suc (suc zero)))))) h = (seg-torn 90 0 0 0 0 0 begun-5a begun-end, refl, refl)
 void-cut (seg-torn c x y z w t b m) s (suc (suc (suc (suc (suc (suc (suc j))))))) h = absurd (omega arith)
 void-cut (seg-cut d n f) s zero h = (seg-cut d n f, refl, refl)
-void-cut (seg-cut d n f) s (suc zero) h =
-    (seg-held n (blanks d) (record { short = f .short; plain = f .plain; small = rw (length-replicate {A = ℕ} d 255) (f .small) }), end-name d n s, ap (size-of (length n)) (length-replicate {A = ℕ} d 255))
+void-cut (seg-cut d n f) s (suc zero) h = (
+  seg-held n (blanks d) (record { short = f .short; plain = f .plain; small = rw (length-replicate {A = ℕ} d 255) (f .small) }),
+  end-name d n s,
+  ap (size-of (length n)) (length-replicate {A = ℕ} d 255),
+)
 void-cut (seg-cut d n f) s (suc (suc j)) h = absurd (omega arith)
 void-cut (seg-held n c f) s zero h = (seg-held n c f, refl, refl)
 void-cut (seg-held n c f) s (suc j) h = absurd (omega arith)

@@ -33,8 +33,8 @@ use Rattle.history.specs.Settled.{one-none, two-none}
 use Rattle.history.specs.Whole.{is-clean-0}
 use Rattle.history.specs.Legal.{Ruled}
 use Rattle.history.specs.Void.{void-rel, void-run, void-programs, void-cut, last-end}
-use Rattle.history.specs.Laid.{Laid, Tail, tail-clear, tail-floor, tail-N, tail-turn, Hole}
-use Rattle.history.specs.LaidEdit.{laid-fine, hole-of}
+use Rattle.history.specs.Laid.{Laid, Tail, tail-clear, tail-floor, tail-N, tail-turn, Hole, Bare}
+use Rattle.history.specs.LaidEdit.{laid-fine, hole-of, free-quiet}
 use Rattle.history.specs.LaidRead.{start-reads}
 use Rattle.history.specs.OkLaws.{ok-add}
 use Rattle.history.specs.Kinds.{Ok, Starts, quiet, Inv, Rested}
@@ -42,8 +42,7 @@ use Rattle.history.specs.Closes.{Rests}
 use Rattle.history.specs.Rules.{calm-of, seg-dead, seg-plain}
 use Rattle.history.specs.Idle.{Mends, mends-3}
 use Rattle.history.specs.Vacant.{rested-of, rested-inv}
-use Rattle.history.specs.EraseFree.{free-quiet}
-use Rattle.history.specs.PutWrite.{Rest, rest-of}
+use Rattle.history.specs.PutWrite.{bare-of}
 use Rattle.history.specs.PutOld.{starts-end}
 use Rattle.history.specs.Voiding.{Voids, voids}
 
@@ -122,7 +121,8 @@ module _ {l : Ledger} {im : Image} {h S T : ℕ} (B F : ℕ) {t u : Bool} {es : 
   unfolding rest
   left-good =
       ap good-length
-      (length-append (H .pre) (onto (v .rec) rest) ∙ ap (λ (n : ℕ). length (H .pre) + n) (length-lay (v .rec ∷ []) rest ∙ ap (λ (n : ℕ). n + length rest) (add-zero (rsize (v .rec)) ∙ v .size) ∙ sym (length-seg g rest))
+      (length-append (H .pre) (onto (v .rec) rest) ∙ ap (λ (n : ℕ). length (H .pre) + n)
+      (length-lay (v .rec ∷ []) rest ∙ ap (λ (n : ℕ). n + length rest) (add-zero (rsize (v .rec)) ∙ v .size) ∙ sym (length-seg g rest))
       ∙ sym (length-append (H .pre) (seg-onto g rest)) ∙ ap length (sym (H .is)))
       ∙ good
 
@@ -143,7 +143,7 @@ module _ {l : Ledger} {im : Image} {h S T : ℕ} (B F : ℕ) {t u : Bool} {es : 
 
   -- with sectors below and nothing free behind it the chain has turned
   left-rested : Rested l (H .pre ++ onto (v .rec) rest) (reading-from (H .pre ++ onto (v .rec) rest) h)
-  left-rested = let r : Rest (H .pre ++ onto (v .rec) rest) h (es ++ (gone ∷ [])) = rest-of B F left-laid in rested-of (r .B) (r .F) left-good (r .laid) (r .tail) left-starts left-ok
+  left-rested = let r : Bare h (es ++ (gone ∷ [])) (H .pre ++ onto (v .rec) rest) = bare-of B F left-laid in rested-of (r .B) (r .F) left-good (r .laid) (r .tail) left-starts left-ok
 
   void-rests : Rests l im (moved S (void-rel g)) h
   void-rests =
@@ -151,18 +151,21 @@ module _ {l : Ledger} {im : Image} {h S T : ℕ} (B F : ℕ) {t u : Bool} {es : 
       subst (λ (i : Image). Rested l i (reading-from i h)) (sym left-is) left-rested in
       record { rested = q; safe = safe-from (Inv l) im (moved S (void-rel g)) (λ k j. go q (leb (length (void-rel g)) k) k refl) sound }
     where
-      go : Rested l (run im (moved S (void-rel g))) (reading-from (run im (moved S (void-rel g))) h) → (b : Bool) (k : ℕ) → leb (length (void-rel g)) k ≡ b → Inv l (run im (take k (moved S (void-rel g))))
+      go : Rested l (run im (moved S (void-rel g))) (reading-from (run im (moved S (void-rel g))) h) → (b : Bool) (k : ℕ) → leb (length (void-rel g)) k ≡ b →
+          Inv l (run im (take k (moved S (void-rel g))))
       go q true k c =
           subst (λ (ss : List Step). Inv l (run im ss)) (sym (take-all k (moved S (void-rel g)) (omega (arith, length-moved S (void-rel g), leb-true (length (void-rel g)) k c)))) (rested-inv q)
       go q false k c = cut-inv k (leb-false (length (void-rel g)) k c)
 
 -- repair 3's steps are these
-third : (w : Work) (es : List Entry) (e : Entry) (ss : List Step) → w .reading .entries ≡ es ++ (e ∷ []) → w .reading .ending ≡ Ending.Tail → void-steps (w .image) e ≡ ss → repair-3 w ≡ after w ss (w .reading .place .head)
+third : (w : Work) (es : List Entry) (e : Entry) (ss : List Step) → w .reading .entries ≡ es ++ (e ∷ []) → w .reading .ending ≡ Ending.Tail → void-steps (w .image) e ≡ ss →
+    repair-3 w ≡ after w ss (w .reading .place .head)
 unfolding repair-3
 third w es e ss i j k =
     ap₂ (λ (a : List Step) (b : Ending). after w (a ++ torn-wrap-steps b) (w .reading .place .head)) (ap (last-steps (w .image)) i ∙ last-end (w .image) es e ∙ k) j
     ∙ ap (λ (a : List Step). after w a (w .reading .place .head)) (append-nil ss)
 
+-- the kind quiet with an unfinished record: mount voids it
 pub mends-void :
     {l : Ledger} {im : Image} {h S T : ℕ} (B F : ℕ) {t u : Bool} (es : List Entry) (g : Seg) → good-length (length im) ≡ true → Laid im h S t es g (blanks B) (blanks F) →
     Tail h S t g (blanks B) (blanks F) T u → Starts es → Ok es l → (g ≡ seg-none → ⊥) → Mends l im

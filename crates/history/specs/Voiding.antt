@@ -18,7 +18,7 @@ use Rattle.history.specs.Last.{Begun, begun-ff, begun-5a, torn-rec, cut-
 use Rattle.history.specs.Seg.{Seg, seg-none, seg-torn, seg-cut, seg-held, seg-onto, seg-size, seg-entries}
 use Rattle.history.specs.Store.{alive}
 use Rattle.history.specs.Void.{void-rel, dead, voided, void-fine}
-use Rattle.history.specs.Idle.{some-behind}
+use Rattle.history.specs.Lists.{some-behind}
 
 -- ---- the steps by the definitions
 
@@ -58,6 +58,7 @@ torn-sound x y z w t s begun-ff =
 torn-sound x y z w t s begun-5a =
     ((omega arith, refl), ((omega arith, refl), ((omega arith, refl), ((omega arith, refl), ((omega arith, refl), ((omega arith, refl), ((omega arith, refl), tt)))))))
 
+-- every unfinished record
 pub voids : (g : Seg) (S : ℕ) → (g ≡ seg-none → ⊥) → Voids g S
 unfolding alive named void-steps is-erased is-reserved
 voids seg-none S n = absurd (n refl)
@@ -88,7 +89,8 @@ voids (seg-cut d n f) S k =
       entries = refl;
       steps = λ pre s e.
           ap (λ (m : List Step). m ++ (program (S + 2) 0 ∷ []))
-          (missing-yes (pre ++ seg-onto (seg-cut d n f) s) (S + (8 + length n)) (byte-of pre (seg-onto (seg-cut d n f) s) S (8 + length n) e ∙ byte-behind d 255 n (blanks (pad (length n + 1)) ++ (blanks (up8 d) ++ s)) 254));
+          (missing-yes (pre ++ seg-onto (seg-cut d n f) s) (S + (8 + length n)) (byte-of pre (seg-onto (seg-cut d n f) s) S (8 + length n) e ∙ byte-behind d 255 n
+          (blanks (pad (length n + 1)) ++ (blanks (up8 d) ++ s)) 254));
       some = some-behind [] _ _;
       big = omega arith;
       sound = λ s. ((omega (arith, length-append n (255 ∷ (blanks (pad (length n + 1)) ++ (blanks (up8 d) ++ s)))), refl), ((omega (arith, length-set (begun d n s) (8 + length n) 0), refl), tt));

@@ -21,6 +21,7 @@ use Rattle.history.specs.Last.{held, begun, record-at-begun, drop-begun}
 
 -- ---- what has no mark
 
+-- k words, none of which begins with a mark
 abbrev pub Quiet : ℕ → List ℕ → Type 0
 Quiet zero s = Unit {0}
 Quiet (suc k) s = (mark-here s ≡ false) × Quiet k (drop 8 s)
@@ -32,6 +33,7 @@ pub data Walks : ℕ → ℕ → Type 0 where
   walks-record : {at : ℕ} → Walks at 165
   walks-clean : Walks 0 160
 
+-- records that the walk steps over
 abbrev pub Walked : ℕ → List Rec → Type 0
 Walked at [] = Unit {0}
 Walked at (r ∷ rs) = Walks at (r .low) × Walked (at + rsize r) rs
@@ -69,6 +71,7 @@ walk-onto r k at s f w =
     (steps-over (drop 3 (onto r s)) w (f .status-ok) ∙ record-at-onto false r s (f .fit))
     ∙ ap (walk k (at + rsize r)) (drop-onto r s)
 
+-- the walk over the records
 pub walk-lay : (rs : List Rec) (k at : ℕ) (s : List ℕ) → All-fine rs → Walked at rs → walk (length rs + k) at (lay rs s) ≡ walk k (at + sizes rs) s
 walk-lay [] k at s f w = rw (zero-add k, add-zero at)
 walk-lay (r ∷ rs) k at s f w =
@@ -84,11 +87,13 @@ over-reserved : (at : ℕ) (s : List ℕ) → walk-next at (165 ∷ 90 ∷ 254 �
 unfolding walk-next is-record is-high is-erased is-reserved
 over-reserved at s = refl
 
+-- over a record whose name was not ended
 pub walk-begun : (k at d : ℕ) (n s : List ℕ) → Fit d n → walk (suc k) at (begun d n s) ≡ walk k (at + size-of (length n) d) s
 walk-begun k at d n s f =
     walk-over k at (length n) d (begun d n s) (reserved-not-torn (drop 3 (begun d n s))) (over-reserved at (drop 3 (begun d n s)) ∙ record-at-begun d n s f)
     ∙ ap (walk k (at + size-of (length n) d)) (drop-begun d n s)
 
+-- over a record that was not committed
 pub walk-held : (k at : ℕ) (n c s : List ℕ) → Fit (length c) n → walk (suc k) at (onto (held n c) s) ≡ walk k (at + size-of (length n) (length c)) s
 walk-held k at n c s f =
     walk-over k at (length n) (length c) (onto (held n c) s) (reserved-not-torn (drop 3 (onto (held n c) s))) (over-reserved at (drop 3 (onto (held n c) s)) ∙ record-at-onto true (held n c) s f)
@@ -99,10 +104,12 @@ pub record Lands (at by : ℕ) (s g : List ℕ) : Type 0 where
   pub lands : (k : ℕ) → walk (suc (suc k)) at s ≡ at + by
   pub there : drop by s ≡ g
 
+-- the same, with fuel for one step
 pub record Lands₁ (at by : ℕ) (s g : List ℕ) : Type 0 where
   pub lands : (k : ℕ) → walk (suc k) at s ≡ at + by
   pub there : drop by s ≡ g
 
+-- more fuel
 pub lands-more : {at by : ℕ} {s g : List ℕ} → Lands₁ at by s g → Lands at by s g
 lands-more l = record { lands = λ k. l .lands (suc k); there = l .there }
 
@@ -117,9 +124,11 @@ none-of true b c true p = (p, cc, cc)
 none-of false true c true p = (refl, p, cc)
 none-of false false c true p = (refl, refl, p)
 
+-- no mark, so no START
 pub no-start : (s : List ℕ) → mark-here s ≡ false → start-here s ≡ false
 no-start s e = none-of (is-start (low-of s)) (is-clean (low-of s)) (is-record (low-of s)) (is-high (high-of s)) e .0
 
+-- no mark, so no CLEAN
 pub no-clean : (s : List ℕ) → mark-here s ≡ false → clean-here s ≡ false
 no-clean s e = none-of (is-start (low-of s)) (is-clean (low-of s)) (is-record (low-of s)) (is-high (high-of s)) e .1
 
@@ -138,6 +147,7 @@ pub data Head-low : ℕ → Type 0 where
 pub lands-quiet : (at : ℕ) (s : List ℕ) → mark-here s ≡ false → (torn-here s ≡ false) → Lands₁ at 0 s s
 lands-quiet at s e t = record { lands = λ k. walk-halt k at s t (quiet-bad at s e) ∙ sym (add-zero at); there = refl }
 
+-- a torn header is stepped over
 pub lands-torn-like : (at : ℕ) (s : List ℕ) → (torn-here s ≡ true) → Lands₁ at 8 s (drop 8 s)
 lands-torn-like at s t = record { lands = λ k. walk-torn k at s t; there = refl }
 
@@ -186,11 +196,12 @@ search-over : (k at : ℕ) → search (suc k) at [] ≡ at
 unfolding search is-start is-clean is-high long
 search-over k at = refl
 
+-- a mark is in the first 8 bytes
 pub mark-append : (p s : List ℕ) → 8 ≤ length p → mark-here (p ++ s) ≡ mark-here p
 mark-append p s h = rw (List·getD-append p s 0 0 (omega arith), List·getD-append p s 0 1 (omega arith))
 
 -- one law for every quiet region: the search goes through it
-pub search-through : (j k at : ℕ) (g s : List ℕ) → length g ≡ 8 * j → Quiet j g → search (j + k) at (g ++ s) ≡ search k (at + 8 * j) s
+search-through : (j k at : ℕ) (g s : List ℕ) → length g ≡ 8 * j → Quiet j g → search (j + k) at (g ++ s) ≡ search k (at + 8 * j) s
 search-through zero k at [] s e q = rw (zero-add k, add-zero at)
 search-through zero k at (x ∷ g) s e q = absurd (omega arith)
 search-through (suc j) k at g s e q =
@@ -204,11 +215,13 @@ search-through (suc j) k at g s e q =
       i,
     )
 
+-- the search stops at the first START or CLEAN
 pub search-found : {b : ℕ} (j k at : ℕ) (g t : List ℕ) → length g ≡ 8 * j → Quiet j g → Head-low b → j < k → search k at (g ++ (b ∷ 90 ∷ t)) ≡ at + 8 * j
 search-found {b} j k at g t e q h l =
     let i : k ≡ j + suc (k - suc j) = omega arith in
     ap (λ (m : ℕ). search m at (g ++ (b ∷ 90 ∷ t))) i ∙ search-through j (suc (k - suc j)) at g (b ∷ 90 ∷ t) e q ∙ search-hit (k - suc j) (at + 8 * j) (b ∷ 90 ∷ t) (head-low-hit t h)
 
+-- the search finds nothing
 pub search-none : (j k at : ℕ) (g : List ℕ) → length g ≡ 8 * j → Quiet j g → j < k → search k at g ≡ at + 8 * j
 search-none j k at g e q l =
     let i : k ≡ j + suc (k - suc j) = omega arith in
