@@ -27,7 +27,9 @@ shared-slice-read-program : tie.Need-shared-slice-read-program Inv-loop μ-loop
 shared-slice-read-program c = search needs
 
 program-requires : tie.Need-program-requires Inv-loop μ-loop
-program-requires c κs = omega (arith, length-bytes (c .before .before .before .before .before .before .args .at) (c .before .before .before .loop .i) (c .before .before .before .before .before .before .args .bytes .now) (omega arith))
+program-requires c κs =
+    let a = c .before .before .before .before .before .before .args in
+    omega (arith, length-bytes (a .at) (c .before .before .before .loop .i) (a .bytes .now) (omega arith))
 
 add-i : tie.Need-add-i Inv-loop μ-loop
 add-i c = search needs
@@ -36,7 +38,10 @@ loop-less : tie.Need-loop-less Inv-loop μ-loop
 loop-less c = search needs
 
 loop-again : tie.Need-loop-again Inv-loop μ-loop
-loop-again c = (omega arith, omega arith, rw (bytes-more (c .before .before .before .before .before .before .before .before .before .args .at) (c .before .before .before .before .before .before .before .before .before .args .bytes .now) (c .before .before .before .before .before .before .loop .i) (omega arith)) (did-both (c .before .before .before .before .before .before .loop .inv .2) (c .before .before .program .ensures)))
+loop-again c =
+    let l = c .before .before .before .before .before .before .loop in
+    let a = c .before .before .before .before .before .before .before .before .before .args in
+    (omega arith, omega arith, rw (bytes-more (a .at) (a .bytes .now) (l .i) (omega arith)) (did-both (l .inv .2) (c .before .before .program .ensures)))
 
 same-length : tie.Need-same-length Inv-loop μ-loop
 same-length c = search needs

@@ -16,16 +16,22 @@ same-length : tie.Need-same-length
 same-length c = search needs
 
 returns : tie.Need-returns
-returns c = format-done (c .before .before .before .before .before .before .before .before .before .args .image .now) _ (c .before .before .before .before .before .before .before .before .before .args .allowance) (c .before .before .before .before .wipe .result) _ refl refl (flag (c .before .before .before .before .before .before .before .good-length .ensures) (c .before .before .before .before .before .before .if1 .taken)) (c .before .before .before .before .wipe .ensures) (c .if2 .taken)
+returns c =
+    let a = c .before .before .before .before .before .before .before .before .before .args in
+    format-done (a .image .now) _ (a .allowance) (c .before .before .before .before .wipe .result) _ refl refl (flag (c .before .before .before .before .before .before .before .good-length .ensures) (c .before .before .before .before .before .before .if1 .taken)) (c .before .before .before .before .wipe .ensures) (c .if2 .taken)
 
 same-length-2 : tie.Need-same-length-2
 same-length-2 c = search needs
 
 returns-2 : tie.Need-returns-2
-returns-2 c = format-cut (c .before .before .before .before .before .before .before .before .before .args .image .now) _ (c .before .before .before .before .before .before .before .before .before .args .allowance) (c .before .before .before .before .wipe .result) _ refl refl (flag (c .before .before .before .before .before .before .before .good-length .ensures) (c .before .before .before .before .before .before .if1 .taken)) (c .before .before .before .before .wipe .ensures) (c .if2 .left)
+returns-2 c =
+    let a = c .before .before .before .before .before .before .before .before .before .args in
+    format-cut (a .image .now) _ (a .allowance) (c .before .before .before .before .wipe .result) _ refl refl (flag (c .before .before .before .before .before .before .before .good-length .ensures) (c .before .before .before .before .before .before .if1 .taken)) (c .before .before .before .before .wipe .ensures) (c .if2 .left)
 
 returns-3 : tie.Need-returns-3
-returns-3 c = format-bad (c .before .before .before .args .image .now) (c .before .before .before .args .allowance) (flag (c .before .good-length .ensures) (c .if1 .left))
+returns-3 c =
+    let a = c .before .before .before .args in
+    format-bad (a .image .now) (a .allowance) (flag (c .before .good-length .ensures) (c .if1 .left))
 
 pub format-spec : {M : Type 1} → statement M
 format-spec =

@@ -16,16 +16,21 @@ get-in-requires : tie.Need-get-in-requires
 get-in-requires c κs = flag (c .before .before .before .good-length .ensures) (c .before .before .if1 .taken)
 
 returns : tie.Need-returns
-returns c = (
-  c .get-in .ensures .0 ∙ get-on (c .before .before .before .before .before .before .before .args .image .now) (c .before .before .before .before .before .before .before .args .name .now) (flag (c .before .before .before .before .good-length .ensures) (c .before .before .before .if1 .taken)) (flag (c .before .before .name-ok .ensures) (c .before .if2 .taken)),
-  c .get-in .ensures .1,
-)
+returns c =
+    let a = c .before .before .before .before .before .before .before .args in (
+      c .get-in .ensures .0 ∙ get-on (a .image .now) (a .name .now) (flag (c .before .before .before .before .good-length .ensures) (c .before .before .before .if1 .taken)) (flag (c .before .before .name-ok .ensures) (c .before .if2 .taken)),
+      c .get-in .ensures .1,
+    )
 
 returns-2 : tie.Need-returns-2
-returns-2 c = (get-name (c .before .before .before .before .before .before .args .image .now) (c .before .before .before .before .before .before .args .name .now) (flag (c .before .before .before .good-length .ensures) (c .before .before .if1 .taken)) (flag (c .before .name-ok .ensures) (c .if2 .left)), omega arith)
+returns-2 c =
+    let a = c .before .before .before .before .before .before .args in
+    (get-name (a .image .now) (a .name .now) (flag (c .before .before .before .good-length .ensures) (c .before .before .if1 .taken)) (flag (c .before .name-ok .ensures) (c .if2 .left)), omega arith)
 
 returns-3 : tie.Need-returns-3
-returns-3 c = (get-length (c .before .before .before .before .args .image .now) (c .before .before .before .before .args .name .now) (flag (c .before .good-length .ensures) (c .if1 .left)), omega arith)
+returns-3 c =
+    let a = c .before .before .before .before .args in
+    (get-length (a .image .now) (a .name .now) (flag (c .before .good-length .ensures) (c .if1 .left)), omega arith)
 
 pub get-place-spec : {M : Type 1} → statement M
 get-place-spec =

@@ -13,10 +13,14 @@ list-in-requires : tie.Need-list-in-requires
 list-in-requires c κs = flag (c .before .good-length .ensures) (c .if1 .taken)
 
 returns : tie.Need-returns
-returns c = (c .list-in .ensures .0 ∙ list-on (c .before .before .before .before .args .image .now) (c .before .before .before .before .args .index) (flag (c .before .before .good-length .ensures) (c .before .if1 .taken)), c .list-in .ensures .1)
+returns c =
+    let a = c .before .before .before .before .args in
+    (c .list-in .ensures .0 ∙ list-on (a .image .now) (a .index) (flag (c .before .before .good-length .ensures) (c .before .if1 .taken)), c .list-in .ensures .1)
 
 returns-2 : tie.Need-returns-2
-returns-2 c = (list-length (c .before .before .before .args .image .now) (c .before .before .before .args .index) (flag (c .before .good-length .ensures) (c .if1 .left)), omega arith)
+returns-2 c =
+    let a = c .before .before .before .args in
+    (list-length (a .image .now) (a .index) (flag (c .before .good-length .ensures) (c .if1 .left)), omega arith)
 
 pub list-place-spec : {M : Type 1} → statement M
 list-place-spec = tie.close (tie.spec good-length-requires list-in-requires returns returns-2)

@@ -22,8 +22,9 @@ enum-told c = search needs
 
 returns : tie.Need-returns
 returns c =
-    let s = c .before .before .before .before .before .before .before .args .image .now in
-    let q = named-file s (c .before .before .before .before .before .before .before .args .s) (c .before .before .before .before .before .before .before .pre .1) (c .before .before .file-named .result) (c .before .before .before .before .before .before .before .args .name .now) (rw (c .before .before .before .first-cursor .ensures) at (c .before .before .file-named .ensures .0)) in
+    let a = c .before .before .before .before .before .before .before .args in
+    let s = a .image .now in
+    let q = named-file s (a .s) (c .before .before .before .before .before .before .before .pre .1) (c .before .before .file-named .result) (a .name .now) (rw (c .before .before .before .first-cursor .ensures) at (c .before .before .file-named .ensures .0)) in
     (found-none s _ getting (sym (ap (found-in s) (c .enum-told .given .1)) ∙ q), omega arith)
 
 add-up-8 : tie.Need-add-up-8
@@ -40,8 +41,9 @@ add-t11 c = let w = rw (c .before .before .before .before .f .given .1) at (c .b
 
 returns-2 : tie.Need-returns-2
 returns-2 c =
-    let s = c .before .before .before .before .before .before .before .before .before .before .before .args .image .now in
-    let q = named-file s (c .before .before .before .before .before .before .before .before .before .before .before .args .s) (c .before .before .before .before .before .before .before .before .before .before .before .pre .1) (c .before .before .before .before .before .before .file-named .result) (c .before .before .before .before .before .before .before .before .before .before .before .args .name .now) (rw (c .before .before .before .before .before .before .before .first-cursor .ensures) at (c .before .before .before .before .before .before .file-named .ensures .0)) in
+    let a = c .before .before .before .before .before .before .before .before .before .before .before .args in
+    let s = a .image .now in
+    let q = named-file s (a .s) (c .before .before .before .before .before .before .before .before .before .before .before .pre .1) (c .before .before .before .before .before .before .file-named .result) (a .name .now) (rw (c .before .before .before .before .before .before .before .first-cursor .ensures) at (c .before .before .before .before .before .before .file-named .ensures .0)) in
     let w = rw (c .before .before .before .before .f .given .1) at (c .before .before .before .before .before .before .file-named .ensures .1) in
     (found-get s _ (c .before .before .before .before .f .given .0 .0) w (sym (ap (found-in s) (c .before .before .before .before .f .given .1)) ∙ q) _ (rw (c .before .up-8 .ensures)), omega (arith, w .fits, c .before .up-8 .ensures))
 

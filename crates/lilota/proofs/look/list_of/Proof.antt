@@ -22,8 +22,9 @@ enum-told c = search needs
 
 returns : tie.Need-returns
 returns c =
-    let s = c .before .before .before .before .before .before .args .image .now in
-    let q = indexed-file s (c .before .before .before .before .before .before .args .s) (c .before .before .before .before .before .before .pre .1) (c .before .before .file-indexed .result) (c .before .before .before .before .before .before .args .index) (rw (c .before .before .before .first-cursor .ensures) at (c .before .before .file-indexed .ensures .0)) in
+    let a = c .before .before .before .before .before .before .args in
+    let s = a .image .now in
+    let q = indexed-file s (a .s) (c .before .before .before .before .before .before .pre .1) (c .before .before .file-indexed .result) (a .index) (rw (c .before .before .before .first-cursor .ensures) at (c .before .before .file-indexed .ensures .0)) in
     (found-none s _ listing (sym (ap (found-in s) (c .enum-told .given .1)) ∙ q), omega arith)
 
 add-t8 : tie.Need-add-t8
@@ -31,8 +32,9 @@ add-t8 c = let w = rw (c .before .before .f .given .1) at (c .before .before .be
 
 returns-2 : tie.Need-returns-2
 returns-2 c =
-    let s = c .before .before .before .before .before .before .before .before .args .image .now in
-    let q = indexed-file s (c .before .before .before .before .before .before .before .before .args .s) (c .before .before .before .before .before .before .before .before .pre .1) (c .before .before .before .before .file-indexed .result) (c .before .before .before .before .before .before .before .before .args .index) (rw (c .before .before .before .before .before .first-cursor .ensures) at (c .before .before .before .before .file-indexed .ensures .0)) in
+    let a = c .before .before .before .before .before .before .before .before .args in
+    let s = a .image .now in
+    let q = indexed-file s (a .s) (c .before .before .before .before .before .before .before .before .pre .1) (c .before .before .before .before .file-indexed .result) (a .index) (rw (c .before .before .before .before .before .first-cursor .ensures) at (c .before .before .before .before .file-indexed .ensures .0)) in
     let w = rw (c .before .before .f .given .1) at (c .before .before .before .before .file-indexed .ensures .1) in
     (found-listed s _ (c .before .before .f .given .0 .0) w (sym (ap (found-in s) (c .before .before .f .given .1)) ∙ q), omega (arith, w .fits))
 

@@ -16,7 +16,9 @@ loop-holds : tie.Need-loop-holds Inv-loop μ-loop
 loop-holds c = erasing-start (c .before .args .image .now) (c .before .args .m)
 
 erase-requires : tie.Need-erase-requires Inv-loop μ-loop
-erase-requires c κs = omega (arith, c .before .before .loop .inv .inside, c .before .before .loop .inv .whole, c .before .before .loop .inv .same, erasing-count (c .before .before .loop .inv), c .before .before .before .before .pre .0, c .before .before .before .before .pre .1, c .before .before .before .before .pre .2)
+erase-requires c κs =
+    let p = c .before .before .before .before .pre in
+    omega (arith, c .before .before .loop .inv .inside, c .before .before .loop .inv .whole, c .before .before .loop .inv .same, erasing-count (c .before .before .loop .inv), p .0, p .1, p .2)
 
 add-at : tie.Need-add-at Inv-loop μ-loop
 add-at c = omega (arith, c .before .before .before .before .before .loop .inv .inside, c .before .before .before .before .before .before .before .pre .1)
@@ -25,13 +27,17 @@ loop-less : tie.Need-loop-less Inv-loop μ-loop
 loop-less c = omega (arith, c .before .before .before .before .loop-test .taken, c .before .before .erase .kept)
 
 loop-again : tie.Need-loop-again Inv-loop μ-loop
-loop-again c = erasing-step (c .before .before .before .before .before .loop .inv) (c .before .before .before .before .before .before .before .pre .0) (omega (arith, c .before .before .before .before .before .loop .inv .same, c .before .before .before .before .loop-test .taken)) (c .before .before .erase .kept .0) (c .before .before .erase .ensures)
+loop-again c =
+    let l = c .before .before .before .before .before .loop in
+    erasing-step (l .inv) (c .before .before .before .before .before .before .before .pre .0) (omega (arith, l .inv .same, c .before .before .before .before .loop-test .taken)) (c .before .before .erase .kept .0) (c .before .before .erase .ensures)
 
 same-length : tie.Need-same-length Inv-loop μ-loop
 same-length c = c .before .loop .inv .same
 
 returns : tie.Need-returns Inv-loop μ-loop
-returns c = (erasing-end (c .before .loop .inv) (omega (arith, c .before .loop .inv .same, c .loop-test .left)), omega (arith, erasing-count (c .before .loop .inv), c .before .loop .inv .inside, c .before .before .before .pre .1, c .before .before .before .pre .2))
+returns c =
+    let p = c .before .before .before .pre in
+    (erasing-end (c .before .loop .inv) (omega (arith, c .before .loop .inv .same, c .loop-test .left)), omega (arith, erasing-count (c .before .loop .inv), c .before .loop .inv .inside, p .1, p .2))
 
 pub erase-all-spec : {M : Type 1} → statement M
 erase-all-spec =
