@@ -2,7 +2,7 @@
 -- and before the turn a wrap marker has its eight bytes there.
 use Prim.Native.Nat.{ℕ, zero, suc, _+_, _≤_, _<_}
 use native.Mathlib.Omega.{arith}
-use mathlib.Core.Path.{_≡_, refl, sym, ap, _∙_}
+use mathlib.Core.Path.{_≡_, refl, sym, _∙_}
 use mathlib.Core.Bool.{Bool, true, false, _&&_, false≢true, and-eq-true-iff}
 use mathlib.Core.List.{List}
 use lib.ListN.{length, take, drop, getD, length-drop, length-take, List·getD-eq-default}
@@ -19,7 +19,7 @@ use Rattle.spec.specs.Geometry.{floor}
 use Rattle.spec.specs.Record.{size-of, name-length, data-len-of, low-of, high-of, status-of, spare-of, start-here, clean-here, wrap-here}
 use Rattle.spec.specs.Next.{sized, torn-at, torn-wrap-at, clear-at, next-at, next, kind}
 use Rattle.spec.specs.Head.{sought, walk, chosen, head}
-use Rattle.spec.specs.Chain.{Chain, allowed, chain, Reading, ended, unturned, turned, turn-torn, joined, from-head, from-zero, read-on, reading-from}
+use Rattle.spec.specs.Chain.{Chain, allowed, chain, Reading, unturned, turned, turn-torn, joined, from-head, from-zero, read-on, reading-from}
 use Rattle.spec.specs.Reading.{limit, whole}
 use Rattle.record.specs.Suffix.{long-true, long-le}
 

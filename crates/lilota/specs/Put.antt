@@ -1,27 +1,25 @@
 -- Put: from what the code found to the definitions' room, steps and outcome.
-use Prim.Native.Nat.{ℕ, _+_, _≤_, _<_, max}
+use Prim.Native.Nat.{ℕ, _+_, _≤_, max}
 use native.Mathlib.Omega.{arith}
 use mathlib.Core.Path.{_≡_, refl, sym, ap, _∙_}
 use mathlib.Core.Bool.{Bool, true, false}
 use mathlib.Core.Option.{Option}
-use mathlib.Core.List.{List, [], _∷_}
-use lib.ListN.{length, drop, getD}
+use mathlib.Core.List.{List}
+use lib.ListN.{length, getD}
 use lib.Seq.{getD-drop}
 use Rattle.spec.specs.declared.Place.{Place}
-use Rattle.spec.specs.Step.{Image, Step}
-use Rattle.spec.specs.Basics.{Answer, refuse, give, checked, onward, keep, first-such, any}
+use Rattle.spec.specs.Step.{Image}
+use Rattle.spec.specs.Basics.{give, checked, onward, keep, first-such, any}
 use Rattle.spec.specs.Geometry.{good-length}
 use Rattle.spec.specs.Record.{Entry, size-of, name-ok}
-use Rattle.spec.specs.Files.{superseded, files, has-name, file-named}
+use Rattle.spec.specs.Files.{superseded, has-name, file-named}
 use Rattle.spec.specs.Chain.{Reading}
-use Rattle.spec.specs.Place.{fits, fits-all, place-after, largest, other-name, largest-with, room}
+use Rattle.spec.specs.Place.{fits, fits-all, largest, other-name, largest-with, room}
 use Rattle.spec.specs.Write.{put-steps}
-use Rattle.spec.specs.Answers.{Plan, refusal, carry-out, doing, settled-reading, put-into, put-plan, put}
+use Rattle.spec.specs.Answers.{refusal, carry-out, doing, settled-reading, put-into, put-plan, put}
 use Rattle.reading.specs.declared.Spot.{Spot}
 use Rattle.reading.specs.declared.Found.{Found}
 use Rattle.reading.specs.declared.Survey.{Survey}
-use Rattle.reading.specs.Rest.{entry-of}
-use Rattle.reading.specs.Fold.{Whole}
 use Rattle.reading.specs.FileLaws.{is-file}
 use Rattle.reading.specs.Seek.{found-in}
 use Rattle.reading.specs.NamesLaw.{files-are}
@@ -29,11 +27,10 @@ use Rattle.reading.specs.Largest.{others}
 use Rattle.reading.specs.Read.{reading-of}
 use Rattle.writing.specs.declared.Old.{Old}
 use Rattle.writing.specs.declared.Old.the-variants as old-as
-use Rattle.writing.specs.Old.{old-of, entry-of as entry-of-old, put-old, Lies}
+use Rattle.writing.specs.Old.{old-of, entry-of as entry-of-old, put-old}
 use Rattle.writing.specs.Room.{largest-max, placed-inside}
 use Rattle.writing.specs.Put.{Ready}
 use Rattle.lilota.specs.Numbers.{outcome}
-use Rattle.lilota.specs.Carry.{refused}
 use Rattle.lilota.specs.Settled.{Settled}
 
 -- ---- the room

@@ -1,20 +1,18 @@
 -- Remove: from what the code found to the definitions' outcome.
-use Prim.Native.Nat.{ℕ, _+_}
+use Prim.Native.Nat.{ℕ}
 use mathlib.Core.Path.{_≡_, sym, ap, _∙_}
 use mathlib.Core.Bool.{true, false}
-use mathlib.Core.Option.{Option, none, some}
-use mathlib.Core.List.{List, [], _∷_}
+use mathlib.Core.Option.{Option}
+use mathlib.Core.List.{List}
 use lib.ListN.{length}
-use Rattle.spec.specs.Step.{Image, program}
-use Rattle.spec.specs.Basics.{give, onward, keep, first-such}
+use Rattle.spec.specs.Step.{Image}
+use Rattle.spec.specs.Basics.{onward, keep, first-such}
 use Rattle.spec.specs.Geometry.{good-length}
 use Rattle.spec.specs.Record.{Entry, name-ok}
-use Rattle.spec.specs.Files.{has-name, file-named}
-use Rattle.spec.specs.Answers.{Plan, refusal, carry-out, doing, found, file-of, removing, settled-reading, file-plan, remove-plan, remove}
-use Rattle.reading.specs.declared.Spot.{Spot}
+use Rattle.spec.specs.Files.{has-name}
+use Rattle.spec.specs.Answers.{refusal, carry-out, found, file-of, removing, settled-reading, file-plan, remove-plan, remove}
 use Rattle.reading.specs.declared.Found.{Found}
 use Rattle.reading.specs.declared.Survey.{Survey}
-use Rattle.reading.specs.Rest.{entry-of}
 use Rattle.reading.specs.FileLaws.{is-file}
 use Rattle.reading.specs.Seek.{found-in}
 use Rattle.reading.specs.Read.{reading-of}

@@ -2,7 +2,7 @@
 use Prim.Native.Nat.{ℕ, _+_, _≤_, _<_}
 use native.Mathlib.Omega.{arith}
 use mathlib.Core.Path.{_≡_, refl, sym, ap, _∙_}
-use mathlib.Core.Bool.{Bool, true, false, _&&_, false≢true, and-eq-true-iff}
+use mathlib.Core.Bool.{Bool, true, false, _&&_, and-eq-true-iff}
 use mathlib.Core.List.{List}
 use lib.ListN.{length}
 use lib.Dec.{leb}
@@ -11,7 +11,7 @@ use Rattle.spec.specs.Step.{Image}
 use Rattle.spec.specs.Basics.{Answer, refuse, give, checked, onward, any, all}
 use Rattle.spec.specs.Geometry.{good-length}
 use Rattle.spec.specs.Bytes.{is-printable}
-use Rattle.spec.specs.Record.{name-ok, ends-in-slash}
+use Rattle.spec.specs.Record.{name-ok}
 use Rattle.spec.specs.Files.{superseded}
 use Rattle.spec.specs.Head.{head}
 use Rattle.spec.specs.Chain.{Reading, reading-from}

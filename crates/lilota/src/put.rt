@@ -1,20 +1,20 @@
 // Put: the file of a name gets a content, in the place of an older one.
+use crate::Written;
 use crate::carry::ended;
 use crate::good_length;
-use crate::Written;
 use flash::Meter;
-use reading::files::file_named;
-use reading::image::first_cursor;
-use reading::image::read_settled;
-use reading::largest::largest_other;
 use reading::Cursor;
 use reading::Found;
 use reading::Read;
 use reading::Survey;
+use reading::files::file_named;
+use reading::image::first_cursor;
+use reading::image::read_settled;
+use reading::largest::largest_other;
 use record::name::name_ok;
+use writing::Old;
 use writing::has_room_for;
 use writing::write_file;
-use writing::Old;
 ghost use mathlib.Core.Path.{_≡_};
 ghost use mathlib.Core.Bool.{true};
 ghost use Prim.Native.Nat.{_+_, _≤_};

@@ -1,14 +1,14 @@
 // Remove: the file of a name goes.
+use crate::Written;
 use crate::carry::ended;
 use crate::good_length;
-use crate::Written;
 use flash::Meter;
-use reading::files::file_named;
-use reading::image::first_cursor;
-use reading::image::read_settled;
 use reading::Found;
 use reading::Read;
 use reading::Survey;
+use reading::files::file_named;
+use reading::image::first_cursor;
+use reading::image::read_settled;
 use record::name::name_ok;
 use spec::Status;
 use writing::build::set_status;

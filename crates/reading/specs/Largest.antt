@@ -1,10 +1,8 @@
 -- The files that stay when a file of this name is put, and the largest of them, one record after another.
-use Prim.Native.Nat.{ℕ, _≤_, _<_, max}
-use native.Mathlib.Omega.{arith}
+use Prim.Native.Nat.{ℕ, max}
 use mathlib.Core.Path.{_≡_, refl, sym, ap, ap₂, _∙_}
-use mathlib.Core.Bool.{Bool, true, false, not}
+use mathlib.Core.Bool.{Bool, true, false}
 use mathlib.Core.List.{List, [], _∷_}
-use lib.ListN.{length}
 use Rattle.spec.specs.Basics.{keep}
 use Rattle.spec.specs.Record.{Entry, size-of, size}
 use Rattle.spec.specs.Files.{has-name}

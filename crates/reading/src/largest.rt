@@ -1,10 +1,10 @@
 // The room rule's other half: the largest of the files that stay when a file is put.
-use crate::chain::advance;
-use crate::files::has_name;
-use crate::files::is_file;
 use crate::Cursor;
 use crate::Spot;
 use crate::Step;
+use crate::chain::advance;
+use crate::files::has_name;
+use crate::files::is_file;
 use record::size;
 ghost use mathlib.Core.Path.{_≡_};
 ghost use mathlib.Core.List.{[], _∷_};

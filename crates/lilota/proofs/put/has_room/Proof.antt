@@ -19,9 +19,12 @@ has-room-for-requires : tie.Need-has-room-for-requires
 has-room-for-requires c κs = search needs
 
 returns : tie.Need-returns
-returns c = let a = c .before .before .before .before .before .before .args in let s = size-of (length (a .name .now)) (a .d) in
-    c .has-room-for .ensures
-    ∙ ap (λ (l : ℕ). room (a .s .place) s l) (ap (max s) (rw (c .before .before .first-cursor .ensures) at (c .before .largest-other .ensures)) ∙ largest-is (a .name .now) s (reading-of (a .image .now) (a .s) .entries) (c .before .before .before .before .before .before .pre .0 .quiet))
+returns c =
+    let a = c .before .before .before .before .before .before .args in
+    let size = size-of (length (a .name .now)) (a .d) in
+    let others = rw (c .before .before .first-cursor .ensures) at (c .before .largest-other .ensures) in
+    let most = ap (max size) others ∙ largest-is (a .name .now) size (reading-of (a .image .now) (a .s) .entries) (c .before .before .before .before .before .before .pre .0 .quiet) in
+    c .has-room-for .ensures ∙ ap (λ (l : ℕ). room (a .s .place) size l) most
 
 pub has-room-spec : {M : Type 1} → statement M
 has-room-spec =

@@ -18,13 +18,22 @@ same-length : tie.Need-same-length
 same-length c = search needs
 
 returns : tie.Need-returns
-returns c = let a = c .before .before .before .before .before .before .before .before .before .before .before .args in c .before .before .put-named .ensures ∙ put-on (a .image .now) (a .allowance) (a .name .now) (a .content .now) (flag (c .before .before .before .before .before .before .before .good-length .ensures) (c .before .before .before .before .before .before .if1 .taken)) (flag (c .before .before .before .before .before .name-ok .ensures) (c .before .before .before .before .if2 .taken))
+returns c =
+    let a = c .before .before .before .before .before .before .before .before .before .before .before .args in
+    let whole = flag (c .before .before .before .before .before .before .before .good-length .ensures) (c .before .before .before .before .before .before .if1 .taken) in
+    let named = flag (c .before .before .before .before .before .name-ok .ensures) (c .before .before .before .before .if2 .taken) in
+    c .before .before .put-named .ensures ∙ put-on (a .image .now) (a .allowance) (a .name .now) (a .content .now) whole named
 
 returns-2 : tie.Need-returns-2
-returns-2 c = let a = c .before .before .before .before .before .before .before .args in put-name (a .image .now) (a .allowance) (a .name .now) (a .content .now) (flag (c .before .before .before .good-length .ensures) (c .before .before .if1 .taken)) (flag (c .before .name-ok .ensures) (c .if2 .left))
+returns-2 c =
+    let a = c .before .before .before .before .before .before .before .args in
+    let whole = flag (c .before .before .before .good-length .ensures) (c .before .before .if1 .taken) in
+    put-name (a .image .now) (a .allowance) (a .name .now) (a .content .now) whole (flag (c .before .name-ok .ensures) (c .if2 .left))
 
 returns-3 : tie.Need-returns-3
-returns-3 c = let a = c .before .before .before .before .before .args in put-length (a .image .now) (a .allowance) (a .name .now) (a .content .now) (flag (c .before .good-length .ensures) (c .if1 .left))
+returns-3 c =
+    let a = c .before .before .before .before .before .args in
+    put-length (a .image .now) (a .allowance) (a .name .now) (a .content .now) (flag (c .before .good-length .ensures) (c .if1 .left))
 
 pub put-spec : {M : Type 1} → statement M
 put-spec =

@@ -25,11 +25,15 @@ same-length : tie.Need-same-length
 same-length c = search needs
 
 returns : tie.Need-returns
-returns c = let a = c .before .before .before .before .before .before .before .before .args in
-    refused (a .image .now) (a .allowance) 2 ∙ found-file (a .image .now) (a .allowance) (a .s) (a .name .now) (c .before .before .before .before .before .before .before .before .pre) (c .before .before .file-named .result) (rw (c .before .before .before .first-cursor .ensures) at (c .before .before .file-named .ensures .0)) none (ap (found-in (a .image .now)) (c .enum-told .given .1))
+returns c =
+    let a = c .before .before .before .before .before .before .before .before .args in
+    let q = rw (c .before .before .before .first-cursor .ensures) at (c .before .before .file-named .ensures .0) in
+    refused (a .image .now) (a .allowance) 2 ∙ found-file (a .image .now) (a .allowance) (a .s) (a .name .now) (c .before .before .before .before .before .before .before .before .pre) (c .before .before .file-named .result) q none (ap (found-in (a .image .now)) (c .enum-told .given .1))
 
 set-status-requires : tie.Need-set-status-requires
-set-status-requires c κs = let w = rw (c .before .before .f .given .1) at (c .before .before .before .before .file-named .ensures .1) in (omega (arith, w .fits), omega arith)
+set-status-requires c κs =
+    let w = rw (c .before .before .f .given .1) at (c .before .before .before .before .file-named .ensures .1) in
+    (omega (arith, w .fits), omega arith)
 
 ended-requires : tie.Need-ended-requires
 ended-requires c κs = search needs
@@ -38,8 +42,11 @@ same-length-2 : tie.Need-same-length-2
 same-length-2 c = search needs
 
 returns-2 : tie.Need-returns-2
-returns-2 c = let a = c .before .before .before .before .before .before .before .before .before .before .before .before .before .before .args in
-    rw (c .ended .ensures) (carried (a .allowance) refl refl (c .before .before .before .set-status .ensures) ∙ found-file (a .image .now) (a .allowance) (a .s) (a .name .now) (c .before .before .before .before .before .before .before .before .before .before .before .before .before .before .pre) (c .before .before .before .before .before .before .before .before .file-named .result) (rw (c .before .before .before .before .before .before .before .before .before .first-cursor .ensures) at (c .before .before .before .before .before .before .before .before .file-named .ensures .0)) (some (entry-of (a .image .now) (c .before .before .before .before .before .before .f .given .0 .0))) (ap (found-in (a .image .now)) (c .before .before .before .before .before .before .f .given .1)))
+returns-2 c =
+    let a = c .before .before .before .before .before .before .before .before .before .before .before .before .before .before .args in
+    let f = c .before .before .before .before .before .before .f .given in
+    let q = rw (c .before .before .before .before .before .before .before .before .before .first-cursor .ensures) at (c .before .before .before .before .before .before .before .before .file-named .ensures .0) in
+    rw (c .ended .ensures) (carried (a .allowance) refl refl (c .before .before .before .set-status .ensures) ∙ found-file (a .image .now) (a .allowance) (a .s) (a .name .now) (c .before .before .before .before .before .before .before .before .before .before .before .before .before .before .pre) (c .before .before .before .before .before .before .before .before .file-named .result) q (some (entry-of (a .image .now) (f .0 .0))) (ap (found-in (a .image .now)) (f .1)))
 
 pub remove-from-spec : {M : Type 1} → statement M
 remove-from-spec =

@@ -17,8 +17,11 @@ enum-known-x : tie.Need-enum-known-x
 enum-known-x c = search needs
 
 remove-from-requires : tie.Need-remove-from-requires
-remove-from-requires c κs = let a = c .before .before .before .before .before .before .before .before .args in
-    settled-of (a .image .now) (c .before .before .x .given .0 .0) (c .before .before .before .before .before .before .before .before .pre) (sym (ap (answered (a .image .now)) (c .before .before .x .given .1)) ∙ c .before .before .before .before .read-settled .ensures .0) (rw (c .before .before .x .given .1) at (c .before .before .before .before .read-settled .ensures .1)) (rw (c .before .before .x .given .1) at (c .before .before .before .before .read-settled .ensures .2))
+remove-from-requires c κs =
+    let a = c .before .before .before .before .before .before .before .before .args in
+    let x = c .before .before .x .given in
+    let r = c .before .before .before .before .read-settled .ensures in
+    settled-of (a .image .now) (x .0 .0) (c .before .before .before .before .before .before .before .before .pre) (sym (ap (answered (a .image .now)) (x .1)) ∙ r .0) (rw (x .1) at (r .1)) (rw (x .1) at (r .2))
 
 enum-known-x-2 : tie.Need-enum-known-x-2
 enum-known-x-2 c = search needs
@@ -27,15 +30,21 @@ same-length : tie.Need-same-length
 same-length c = search needs
 
 returns : tie.Need-returns
-returns c = let a = c .before .before .before .before .before .before .before .before .before .before .before .args in
-    c .before .before .remove-from .ensures ∙ read-on (a .image .now) (a .allowance) (reading-of (a .image .now) (c .before .before .before .before .before .x .given .0 .0)) (file-of (a .name .now) removing) (sym (ap (answered (a .image .now)) (c .before .before .before .before .before .x .given .1)) ∙ c .before .before .before .before .before .before .before .read-settled .ensures .0)
+returns c =
+    let a = c .before .before .before .before .before .before .before .before .before .before .before .args in
+    let x = c .before .before .before .before .before .x .given in
+    let told = sym (ap (answered (a .image .now)) (x .1)) ∙ c .before .before .before .before .before .before .before .read-settled .ensures .0 in
+    c .before .before .remove-from .ensures ∙ read-on (a .image .now) (a .allowance) (reading-of (a .image .now) (x .0 .0)) (file-of (a .name .now) removing) told
 
 same-length-2 : tie.Need-same-length-2
 same-length-2 c = search needs
 
 returns-2 : tie.Need-returns-2
-returns-2 c = let a = c .before .before .before .before .before .before .before .args in
-    read-refused (a .image .now) (a .allowance) (c .before .x2 .given .0 .0) (file-of (a .name .now) removing) (sym (ap (answered (a .image .now)) (c .before .x2 .given .1)) ∙ c .before .before .before .read-settled .ensures .0)
+returns-2 c =
+    let a = c .before .before .before .before .before .before .before .args in
+    let x = c .before .x2 .given in
+    let told = sym (ap (answered (a .image .now)) (x .1)) ∙ c .before .before .before .read-settled .ensures .0 in
+    read-refused (a .image .now) (a .allowance) (x .0 .0) (file-of (a .name .now) removing) told
 
 pub remove-named-spec : {M : Type 1} → statement M
 remove-named-spec =

@@ -18,10 +18,14 @@ size-requires : tie.Need-size-requires
 size-requires c κs = search needs
 
 returns-2 : tie.Need-returns-2
-returns-2 c = let a = c .before .before .before .before .before .before .before .before .args in omega (arith, larger-by (a .name .now) (a .image .now) (a .e) (a .most) (c .before .size .result) (c .before .before .before .before .before .before .before .before .pre .0) (c .before .size .ensures) (flag (c .before .before .before .before .before .is-file .ensures) (c .before .before .before .before .if1 .taken)) (flag (c .before .before .before .has-name .ensures) (c .before .before .if2 .left)))
+returns-2 c =
+    let a = c .before .before .before .before .before .before .before .before .args in
+    omega (arith, larger-by (a .name .now) (a .image .now) (a .e) (a .most) (c .before .size .result) (c .before .before .before .before .before .before .before .before .pre .0) (c .before .size .ensures) (flag (c .before .before .before .before .before .is-file .ensures) (c .before .before .before .before .if1 .taken)) (flag (c .before .before .before .has-name .ensures) (c .before .before .if2 .left)))
 
 returns-3 : tie.Need-returns-3
-returns-3 c = let a = c .before .before .before .before .before .before .before .before .args in omega (arith, larger-by (a .name .now) (a .image .now) (a .e) (a .most) (c .before .size .result) (c .before .before .before .before .before .before .before .before .pre .0) (c .before .size .ensures) (flag (c .before .before .before .before .before .is-file .ensures) (c .before .before .before .before .if1 .taken)) (flag (c .before .before .before .has-name .ensures) (c .before .before .if2 .left)))
+returns-3 c =
+    let a = c .before .before .before .before .before .before .before .before .args in
+    omega (arith, larger-by (a .name .now) (a .image .now) (a .e) (a .most) (c .before .size .result) (c .before .before .before .before .before .before .before .before .pre .0) (c .before .size .ensures) (flag (c .before .before .before .before .before .is-file .ensures) (c .before .before .before .before .if1 .taken)) (flag (c .before .before .before .has-name .ensures) (c .before .before .if2 .left)))
 
 returns-4 : tie.Need-returns-4
 returns-4 c = larger-no-file _ _ _ (flag (c .before .is-file .ensures) (c .if1 .left))
