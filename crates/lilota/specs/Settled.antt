@@ -97,6 +97,6 @@ settled-of image s g e v q =
     record {
       surveyed = v;
       quiet = q;
-      sound = record { free = p .1 .free; inside = omega (arith, p .0, v .place .whole); short = omega (arith, n .most, v .place .whole) };
+      sound = record { inside = omega (arith, p .0, v .place .whole); short = omega (arith, n .most, v .place .whole) };
       gap = p .1 .gap;
     }
