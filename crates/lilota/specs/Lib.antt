@@ -6,3 +6,4 @@ pub mod Ground
 pub mod Settled
 pub mod Put
 pub mod Remove
+pub mod Mount

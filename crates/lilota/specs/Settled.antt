@@ -82,6 +82,17 @@ module _ (image : Image) (r : Reading) (n : 0 < length image) where
       let same : r .place .head ≡ h = q .head in
       (rw same below, record { head = refl; free = q .free; gap = q .gap })
 
+  -- it is read again from its head
+  pub read-again : reading image ≡ give r → (r .place .head < length image) × (r ≡ reading-from image (r .place .head))
+  unfolding reading judged
+  read-again e =
+      let g = gave (head image) _ r e in
+      let h = g .value in
+      let below : h < length image = rw (g .from) at (head-below image n) in
+      let p = passed (legal image (reading-from image h)) 5 (reading-from image h) r (g .on) in
+      let q : Grounded h (r .place) = rw (p .1) at (grounded image h below (legal-whole image (reading-from image h) (p .0))) in
+      (rw (q .head) below, sym (p .1) ∙ ap (reading-from image) (sym (q .head)))
+
   pub settled-place : give r ≡ settled-reading image → (r .place .head < length image) × Grounded (r .place .head) (r .place)
   unfolding settled-reading if-settled
   settled-place e =

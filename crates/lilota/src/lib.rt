@@ -3,6 +3,7 @@
 mod c;
 mod carry;
 mod look;
+pub mod mount;
 pub mod put;
 pub mod remove;
 mod wipe;
