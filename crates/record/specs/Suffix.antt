@@ -17,6 +17,9 @@ drop-next s i h = rw (add-one, drop-cons s i 0)
 pub flag : {A : Type 0} {x y z : A} → x ≡ y → x ≡ z → y ≡ z
 flag p q = sym p ∙ q
 
+pub unflag : {A : Type 0} {x y z : A} → x ≡ y → (x ≡ z → ⊥) → y ≡ z → ⊥
+unflag p q e = q (p ∙ e)
+
 -- "at least k bytes", from the length
 pub long-le : (k : ℕ) (s : List ℕ) → k ≤ length s → long k s ≡ true
 unfolding long

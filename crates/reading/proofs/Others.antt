@@ -1,0 +1,15 @@
+-- What `let .. = x else ..` leaves where x is another variant.
+use types.Run.{OneOf, miss}
+use denote.Enum.Declared.{tagOf}
+use mathlib.Core.List.{[], _∷_}
+use Rattle.spec.proofs.Next.{the-type as next-type}
+use Rattle.spec.specs.declared.Next.{Next}
+use Rattle.reading.specs.HeadLaws.{Not-record}
+
+pub other-next : (x : Next) → OneOf (1 ∷ 2 ∷ 3 ∷ 4 ∷ 5 ∷ []) (tagOf next-type x) → Not-record x
+other-next (Next.Record a d) z = miss (1 ∷ 2 ∷ 3 ∷ 4 ∷ 5 ∷ []) 0 tt z
+other-next Next.Wrap z = tt
+other-next Next.TornWrap z = tt
+other-next Next.Clear z = tt
+other-next Next.Over z = tt
+other-next Next.Bad z = tt

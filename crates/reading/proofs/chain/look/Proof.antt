@@ -1,0 +1,43 @@
+use mathlib.Core.Path.{sym, subst}
+use Prim.Native.Nat.{ℕ, _-_}
+use borrow.Rule.Slice.PartAt.{part-count}
+use Rattle.spec.specs.declared.Next.{Next}
+use Rattle.record.specs.Within.{Within}
+use Rattle.reading.specs.CursorLaws.{look-is, allowed-within}
+use borrow.Author.Needs.{needs}
+use Rattle.reading.proofs.chain.look.Statement.{statement}
+use Rattle.reading.proofs.chain.look.Tie as tie
+
+sub-next-of : tie.Need-sub-next-of
+sub-next-of c = search needs
+
+part-next-of-start : tie.Need-part-next-of-start
+part-next-of-start c = search needs
+
+part-next-of-end : tie.Need-part-next-of-end
+part-next-of-end c = search needs
+
+next-of-requires : tie.Need-next-of-requires
+next-of-requires c κs = search needs
+
+allowed-requires : tie.Need-allowed-requires
+allowed-requires c κs = search needs
+
+returns : tie.Need-returns
+returns c =
+    let s = c .before .before .before .before .args .image .now in
+    let k = c .before .before .before .before .args .c in
+    let w = subst (λ (l : ℕ). Within (c .before .next-of .result) l) (sym (part-count s (k .at) (k .end) (c .before .before .before .before .pre .ordered, c .before .before .before .before .pre .inside))) (c .before .next-of .ensures .1) in
+    ( look-is s k (c .allowed .result) (c .before .next-of .result) (c .before .before .before .before .pre .ordered) (c .before .next-of .ensures .0) (c .allowed .ensures)
+    , subst (λ (x : Next). Within x (k .end - k .at)) (sym (c .allowed .ensures)) (allowed-within (k .held) (c .before .next-of .result) (k .end - k .at) w) )
+
+pub look-spec : {M : Type 1} → statement M
+look-spec =
+    tie.close
+    (tie.spec
+    sub-next-of
+    part-next-of-start
+    part-next-of-end
+    next-of-requires
+    allowed-requires
+    returns)

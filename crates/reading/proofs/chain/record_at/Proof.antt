@@ -1,0 +1,18 @@
+use borrow.Author.Needs.{needs}
+use Rattle.reading.proofs.chain.record_at.Statement.{statement}
+use Rattle.reading.proofs.chain.record_at.Tie as tie
+
+unfinished-requires : tie.Need-unfinished-requires
+unfinished-requires c κs = search needs
+
+size-requires : tie.Need-size-requires
+size-requires c κs = search needs
+
+add-t7 : tie.Need-add-t7
+add-t7 c = search needs
+
+returns : tie.Need-returns
+returns c = rw (c .before .size .ensures, c .before .before .unfinished .ensures)
+
+pub record-at-spec : {M : Type 1} → statement M
+record-at-spec = tie.close (tie.spec unfinished-requires size-requires add-t7 returns)

@@ -1,0 +1,38 @@
+use borrow.Author.Tests.{eq-eqb, ne-eqb}
+use Rattle.record.specs.Suffix.{flag, unflag}
+use Rattle.spec.specs.Bytes.{is-record, is-clean, is-high, is-erased}
+use borrow.Author.Needs.{needs}
+use Rattle.reading.proofs.head.walked_here.Statement.{statement}
+use Rattle.reading.proofs.head.walked_here.Tie as tie
+
+byte-requires : tie.Need-byte-requires
+byte-requires c κs = search needs
+
+returns : tie.Need-returns
+unfolding is-erased
+returns c = rw (eq-eqb _ _ (flag (c .before .before .byte .ensures) (c .if1 .taken)))
+
+magic-requires : tie.Need-magic-requires
+magic-requires c κs = search needs
+
+returns-2 : tie.Need-returns-2
+unfolding is-erased is-record is-high is-clean
+returns-2 c = rw (ne-eqb _ _ (unflag (c .before .before .before .before .byte .ensures) (c .before .before .if1 .left)), flag (c .before .magic .ensures) (c .if2 .taken))
+
+magic-requires-2 : tie.Need-magic-requires-2
+magic-requires-2 c κs = search needs
+
+returns-3 : tie.Need-returns-3
+unfolding is-erased is-record is-high is-clean
+returns-3 c =
+    rw (ne-eqb _ _ (unflag (c .before .before .before .before .before .before .byte .ensures) (c .before .before .before .before .if1 .left)), flag (c .before .before .before .magic .ensures) (c .before .before .if2 .left), eq-eqb _ _ (c .before .if3 .taken), c .magic2 .ensures)
+
+returns-4 : tie.Need-returns-4
+unfolding is-erased is-record is-high is-clean
+returns-4 c =
+    rw (ne-eqb _ _ (unflag (c .before .before .before .before .before .byte .ensures) (c .before .before .before .if1 .left)), flag (c .before .before .magic .ensures) (c .before .if2 .left), ne-eqb _ _ (c .if3 .left))
+
+pub walked-here-spec : {M : Type 1} → statement M
+walked-here-spec =
+    tie.close
+    (tie.spec byte-requires returns magic-requires returns-2 magic-requires-2 returns-3 returns-4)

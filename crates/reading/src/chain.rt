@@ -1,0 +1,151 @@
+// The cursor over the chain: the one place that knows of markers, of the turn and of last things.
+use crate::Cursor;
+use crate::Step;
+use spec::Next;
+use spec::Status;
+ghost use mathlib.Core.Path.{_≡_};
+ghost use mathlib.Core.Bool.{true};
+ghost use Prim.Native.Nat.{_+_, _-_, _≤_, _<_};
+ghost use lib.ListN.{length, drop};
+ghost use Rattle.spec.specs.Bytes.{is-unfinished};
+ghost use Rattle.spec.specs.Record.{status-of};
+ghost use Rattle.spec.specs.Chain.{allowed};
+ghost use Rattle.record.specs.Within.{Within};
+ghost use Rattle.spec.specs.declared.Next.{Next};
+ghost use Rattle.reading.specs.Cursor.{Sound, Inside, start, look, goes-on, turn, torn-end, settle, advance};
+
+// The cursor at the head h, low being the start of its sector.
+pub fn start_at(h: usize, low: usize, length: usize) -> Cursor
+    ensures { λ r. ⌜ r ≡ start h low length ⌝ }
+{
+    Cursor {
+        at: h,
+        end: length,
+        room: low,
+        turned: false,
+        held: false,
+    }
+}
+
+// Behind an unfinished record only an end may stand.
+fn allowed(held: bool, x: Next) -> Next
+    ensures { λ r. ⌜ r ≡ allowed held x ⌝ }
+{
+    if held {
+        return match x {
+            Next::Record(_, _) => Next::Bad,
+            Next::Wrap => Next::Bad,
+            Next::TornWrap => Next::Bad,
+            Next::Clear => Next::Clear,
+            Next::Over => Next::Over,
+            Next::Bad => Next::Bad,
+        };
+    }
+    x
+}
+
+fn look(image: &[u8], c: Cursor) -> Next
+    requires { ⌜ Sound (now image) c ⌝ }
+    ensures { λ r. ⌜ (r ≡ look (now (image .entry)) c) × Within r (c .end - c .at) ⌝ }
+{
+    let at = c.at;
+    let end = c.end;
+    allowed(c.held, record::next_of(&image[at..end]))
+}
+
+// After a marker, or at the end, the chain goes on at 0 if there is room.
+fn goes_on(room: usize, x: Next) -> bool
+    ensures { λ r. ⌜ r ≡ goes-on room x ⌝ }
+{
+    match x {
+        Next::Record(_, _) => false,
+        Next::Wrap => 0 < room,
+        Next::TornWrap => false,
+        Next::Clear => false,
+        Next::Over => 0 < room,
+        Next::Bad => false,
+    }
+}
+
+fn turn(c: Cursor) -> Cursor
+    ensures { λ r. ⌜ r ≡ turn (c .room) (c .held) ⌝ }
+{
+    Cursor {
+        at: 0,
+        end: c.room,
+        room: 0,
+        turned: true,
+        held: c.held,
+    }
+}
+
+// A torn marker is legal only where the chain may still turn.
+fn torn_end(c: Cursor) -> Step
+    ensures { λ r. ⌜ r ≡ torn-end (c .room) (c .turned) (c .at) ⌝ }
+{
+    if 0 < c.room {
+        return Step::TornWrap(c.at);
+    }
+    Step::Broken(c.at, c.turned)
+}
+
+// Whether the record at this address is torn or reserved.
+pub fn unfinished(image: &[u8], at: usize) -> bool
+    requires { ⌜ at + 2 < length (now image) ⌝ }
+    ensures { λ r. ⌜ r ≡ is-unfinished (status-of (drop at (now (image .entry)))) ⌝ }
+{
+    let a = at + 2;
+    if image[a] == Status::ERASED.byte {
+        return true;
+    }
+    image[a] == Status::RESERVED.byte
+}
+
+// The record at c, with the cursor past it.
+fn record_at(image: &[u8], c: Cursor, n: usize, d: usize) -> Step
+    requires { ⌜ Sound (now image) c × Within (Next.Record n d) (c .end - c .at) ⌝ }
+    ensures { λ r. ⌜ r ≡ settle (now (image .entry)) c (Next.Record n d) ⌝ }
+{
+    let held = unfinished(image, c.at);
+    let s = record::size(n, d);
+    Step::Record(
+        c.at,
+        n,
+        d,
+        Cursor {
+            at: c.at + s,
+            end: c.end,
+            room: c.room,
+            turned: c.turned,
+            held: held,
+        },
+    )
+}
+
+fn settle(image: &[u8], c: Cursor, x: Next) -> Step
+    requires { ⌜ Sound (now image) c × Within x (c .end - c .at) ⌝ }
+    ensures { λ r. ⌜ r ≡ settle (now (image .entry)) c x ⌝ }
+{
+    match x {
+        Next::Record(n, d) => record_at(image, c, n, d),
+        Next::Wrap => Step::Broken(c.at, c.turned),
+        Next::TornWrap => torn_end(c),
+        Next::Clear => Step::End(c.at, c.turned),
+        Next::Over => Step::End(c.at, c.turned),
+        Next::Bad => Step::Broken(c.at, c.turned),
+    }
+}
+
+// What stands at c, the turn made where it is due.
+pub fn advance(image: &[u8], c: Cursor) -> Step
+    requires { ⌜ Sound (now image) c ⌝ }
+    ensures { λ r. ⌜ (r ≡ advance (now (image .entry)) c) × Inside (now (image .entry)) c r ⌝ }
+{
+    let x = look(image, c);
+    if goes_on(c.room, x) {
+        let t = turn(c);
+        let y = look(image, t);
+        return settle(image, t, y);
+    }
+    settle(image, c, x)
+}
