@@ -4,8 +4,8 @@ use native.Mathlib.Omega.{arith}
 use native.Mathlib.Nat.{not-suc-le-zero}
 use mathlib.Core.Path.{_≡_, refl, sym, ap, ap₂, subst, _∙_}
 use mathlib.Core.Bool.{Bool, true, false}
-use mathlib.Core.List.{List, [], _∷_, _++_}
-use lib.ListN.{length, take, drop, getD}
+use mathlib.Core.List.{List, _++_}
+use lib.ListN.{length, take, drop}
 use lib.Seq.{drop-drop, getD-take, take-take, take-length}
 use lib.Dec.{ltb, eqb}
 use borrow.Author.Tests.{lt-ltb, eqb-true, eqb-false}
@@ -20,7 +20,7 @@ use Rattle.reading.specs.declared.Cursor.{Cursor}
 use Rattle.reading.specs.declared.Step.{Step}
 use Rattle.reading.specs.Cursor.{start, window, look, goes-on, turn, past, torn-end, stops, unfinished-at, settle, advance}
 use Rattle.reading.specs.CursorLaws.{advance-on, advance-here, part-window}
-use Rattle.reading.specs.Rest.{Run, entry-at, ahead, done, followed, rest, rest-step, Fits, look-inside}
+use Rattle.reading.specs.Rest.{Run, entry-of, ahead, done, followed, rest, rest-step, Fits, look-inside}
 
 -- ---- a record reads the same in a part that holds it
 
@@ -123,10 +123,10 @@ module _ (image : List ℕ) where
       let st : status-of w ≡ status-of (drop (c .at) image) = ap status-of p ∙ getD-take (c .end - c .at) (drop (c .at) image) 2 0 (omega arith) in
       let r : rec-of w n d ≡ rec-of (drop (c .at) image) n d = ap (λ (l : List ℕ). rec-of l n d) p ∙ rec-part (c .end - c .at) n d (drop (c .at) image) l in
       let q : window image u ≡ drop z w = sym (drop-drop z (c .at) (take (c .end) image)) in
-      let a : advance image c ≡ Step.Record (c .at) n d u = advance-here image c (ap (goes-on (c .room)) e) ∙ ap (settle image c) e in
+      let a : advance image c ≡ Step.Record (record { at = c .at; n = n; d = d }) u = advance-here image c (ap (goes-on (c .room)) e) ∙ ap (settle image c) e in
       let tail : Chain = chain k (is-unfinished (status-of w)) (c .at + z) (drop z w) in
       rest-step image c ∙ ap (λ (x : Step). followed image x (rest image)) a
-      ∙ ap (ahead (entry-at image (c .at) n d)) (ih ∙ ap₂ (λ (h : Bool) (l : List ℕ). finish (c .room) (c .turned) (chain k h (c .at + z) l)) (ap is-unfinished (sym st)) q)
+      ∙ ap (ahead (entry-of image (record { at = c .at; n = n; d = d }))) (ih ∙ ap₂ (λ (h : Bool) (l : List ℕ). finish (c .room) (c .turned) (chain k h (c .at + z) l)) (ap is-unfinished (sym st)) q)
       ∙ sym (rw (chain-record k (c .held) (c .at) w n d f)
           (finish-add (c .room) (c .turned) (record { at = c .at; it = rec-of w n d }) tail _ refl
           ∙ ap (λ (it : _). ahead (record { at = c .at; it = it }) (finish (c .room) (c .turned) tail)) r))
@@ -147,7 +147,7 @@ module _ (image : List ℕ) where
 
   -- a reading, from what the cursor found
   abbrev pub shown : ℕ → ℕ → List Entry → Step → Reading
-  shown N h es (Step.Record at n d c) = read N h 0 false es Ending.Broken
+  shown N h es (Step.Record e c) = read N h 0 false es Ending.Broken
   shown N h es (Step.End t w) = read N h t w es Ending.Tail
   shown N h es (Step.TornWrap t) = read N h 0 true es (Ending.TornWrap t)
   shown N h es (Step.Broken t w) = read N h t w es Ending.Broken

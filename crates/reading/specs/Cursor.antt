@@ -12,6 +12,7 @@ use Rattle.spec.specs.Record.{size-of, status-of}
 use Rattle.spec.specs.Next.{next}
 use Rattle.spec.specs.Chain.{allowed}
 use Rattle.reading.specs.declared.Cursor.{Cursor}
+use Rattle.reading.specs.declared.Spot.{Spot}
 use Rattle.reading.specs.declared.Step.{Step}
 
 -- at the head h, whose sector starts at low, of an image of this length
@@ -60,7 +61,7 @@ abbrev pub unfinished-at : List ℕ → ℕ → Bool
 unfinished-at image at = is-unfinished (status-of (drop at image))
 
 abbrev pub settle : List ℕ → Cursor → Next → Step
-settle image c (Next.Record n d) = Step.Record (c .at) n d (past c (size-of n d) (unfinished-at image (c .at)))
+settle image c (Next.Record n d) = Step.Record (record { at = c .at; n = n; d = d }) (past c (size-of n d) (unfinished-at image (c .at)))
 settle image c Next.Wrap = stops (c .room) (c .turned) (c .at) Next.Wrap
 settle image c Next.TornWrap = stops (c .room) (c .turned) (c .at) Next.TornWrap
 settle image c Next.Clear = stops (c .room) (c .turned) (c .at) Next.Clear
@@ -89,16 +90,16 @@ abbrev pub left : Cursor → ℕ
 left c = c .end - c .at + c .room
 
 -- a record and the cursor past it
-pub record Onward (image : List ℕ) (c : Cursor) (at n d : ℕ) (next : Cursor) : Type 0 where
+pub record Onward (image : List ℕ) (c : Cursor) (e : Spot) (next : Cursor) : Type 0 where
   pub sound : Sound image next
   pub less : left next < left c
-  pub name : n < 64
-  pub data-len : d < 2 ^ 32
-  pub fits : at + size-of n d ≤ length image
-  pub held : next .held ≡ unfinished-at image at
+  pub name : e .n < 64
+  pub data-len : e .d < 2 ^ 32
+  pub fits : e .at + size-of (e .n) (e .d) ≤ length image
+  pub held : next .held ≡ unfinished-at image (e .at)
 
 abbrev pub Inside : List ℕ → Cursor → Step → Type 0
-Inside image c (Step.Record at n d next) = Onward image c at n d next
+Inside image c (Step.Record e next) = Onward image c e next
 Inside image c (Step.End t w) = t ≤ length image
 Inside image c (Step.TornWrap t) = t ≤ length image
 Inside image c (Step.Broken t w) = t ≤ length image

@@ -69,7 +69,7 @@ module _ (image : List ℕ) where
 
   -- what is less than the turned cursor is less than the cursor
   inside-more : (c d : Cursor) (r : Step) → left d ≤ left c → Inside image d r → Inside image c r
-  inside-more c d (Step.Record at n e next) h o =
+  inside-more c d (Step.Record e next) h o =
       record { sound = o .sound; less = omega (arith, o .less); name = o .name; data-len = o .data-len; fits = o .fits; held = o .held }
   inside-more c d (Step.End t w) h o = o
   inside-more c d (Step.TornWrap t) h o = o

@@ -3,3 +3,11 @@ pub mod Cursor
 pub mod CursorLaws
 pub mod Rest
 pub mod Bridge
+pub mod Fold
+pub mod FileLaws
+pub mod Seek
+pub mod Tally
+pub mod Faithful
+pub mod TallyLaws
+pub mod NamesLaw
+pub mod SettledLaws

@@ -16,6 +16,7 @@ use Rattle.spec.specs.Next.{next, next-at, kind, sized, torn-at, torn-wrap-at, 
 use Rattle.spec.specs.Chain.{allowed}
 use Rattle.record.specs.Suffix.{long-true}
 use Rattle.reading.specs.declared.Cursor.{Cursor}
+use Rattle.reading.specs.declared.Spot.{Spot}
 use Rattle.reading.specs.declared.Step.{Step}
 use Rattle.reading.specs.Cursor.{window, look, goes-on, turn, torn-end, settle, advance, left}
 use Rattle.reading.specs.CursorLaws.{advance-on, advance-here}
@@ -102,7 +103,7 @@ look-inside image c = fits-more (look image c) (length (window image c)) (c .end
 -- ---- every step leaves less
 
 abbrev Less : Cursor → Step → Type 0
-Less c (Step.Record at n d next) = left next < left c
+Less c (Step.Record e next) = left next < left c
 Less c (Step.End t w) = Unit {0}
 Less c (Step.TornWrap t) = Unit {0}
 Less c (Step.Broken t w) = Unit {0}
@@ -121,7 +122,7 @@ settle-less image c Next.Over f = tt
 settle-less image c Next.Bad f = tt
 
 less-more : (c d : Cursor) (r : Step) → left d ≤ left c → Less d r → Less c r
-less-more c d (Step.Record at n e next) h o = omega arith
+less-more c d (Step.Record e next) h o = omega arith
 less-more c d (Step.End t w) h o = tt
 less-more c d (Step.TornWrap t) h o = tt
 less-more c d (Step.Broken t w) h o = tt
@@ -142,9 +143,9 @@ pub record Run : Type 0 where
   pub entries : List Entry
   pub ending : Step
 
--- the record at this address, with n name bytes and d data bytes
-abbrev pub entry-at : List ℕ → ℕ → ℕ → ℕ → Entry
-entry-at image at n d = record { at = at; it = rec-of (drop at image) n d }
+-- the record that stands there
+abbrev pub entry-of : List ℕ → Spot → Entry
+entry-of image e = record { at = e .at; it = rec-of (drop (e .at) image) (e .n) (e .d) }
 
 abbrev pub ahead : Entry → Run → Run
 ahead e r = record { entries = e ∷ r .entries; ending = r .ending }
@@ -153,7 +154,7 @@ abbrev pub done : Step → Run
 done s = record { entries = []; ending = s }
 
 abbrev pub followed : List ℕ → Step → (Cursor → Run) → Run
-followed image (Step.Record at n d next) f = ahead (entry-at image at n d) (f next)
+followed image (Step.Record e next) f = ahead (entry-of image e) (f next)
 followed image (Step.End t w) f = done (Step.End t w)
 followed image (Step.TornWrap t) f = done (Step.TornWrap t)
 followed image (Step.Broken t w) f = done (Step.Broken t w)
@@ -167,7 +168,7 @@ rest image c = rest-by (suc (left c)) image c
 
 -- a fuel that is enough is as good as any other
 followed-same : (image : List ℕ) (c : Cursor) (r : Step) (f g : Cursor → Run) → Less c r → ((d : Cursor) → left d < left c → f d ≡ g d) → followed image r f ≡ followed image r g
-followed-same image c (Step.Record at n d next) f g h e = rw (e next h)
+followed-same image c (Step.Record x next) f g h e = rw (e next h)
 followed-same image c (Step.End t w) f g h e = refl
 followed-same image c (Step.TornWrap t) f g h e = refl
 followed-same image c (Step.Broken t w) f g h e = refl

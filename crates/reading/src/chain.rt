@@ -1,5 +1,6 @@
 // The cursor over the chain: the one place that knows of markers, of the turn and of last things.
 use crate::Cursor;
+use crate::Spot;
 use crate::Step;
 use spec::Next;
 use spec::Status;
@@ -109,9 +110,11 @@ fn record_at(image: &[u8], c: Cursor, n: usize, d: usize) -> Step
     let held = unfinished(image, c.at);
     let s = record::size(n, d);
     Step::Record(
-        c.at,
-        n,
-        d,
+        Spot {
+            at: c.at,
+            n: n,
+            d: d,
+        },
         Cursor {
             at: c.at + s,
             end: c.end,

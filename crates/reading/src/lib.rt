@@ -2,7 +2,10 @@
 // Everything here only looks, and nothing passes over data bytes but the check of the free run.
 mod head;
 mod chain;
-ghost use mathlib.Core.Path.{_≡_};
+mod files;
+mod scan;
+use spec::Ending;
+use spec::Place;
 
 // The head's address, or the refusal's number.
 pub enum Headed {
@@ -20,11 +23,55 @@ pub struct Cursor {
     pub held: bool,
 }
 
-// What stands at a cursor: a record with its address, the lengths of name and data, and the cursor past it; or how the chain ends,
-// with the address and whether the chain had turned.
+// Where a record stands, with its n name bytes and d data bytes.
+pub struct Spot {
+    pub at: usize,
+    pub n: usize,
+    pub d: usize,
+}
+
+// What stands at a cursor: a record, with the cursor past it; or how the chain ends, with the address and whether it had turned.
 pub enum Step {
-    Record(usize, usize, usize, Cursor),
+    Record(Spot, Cursor),
     End(usize, bool),
     TornWrap(usize),
     Broken(usize, bool),
+}
+
+// What is looked for among the files.
+pub enum Found {
+    At(Spot),
+    Nothing,
+}
+
+// What one pass over the chain tells: how many records there are; the first, the second and the last of them;
+// whether every FC or F8 record with a name has a good one; whether a START or CLEAN stands behind the second record;
+// whether the last record is unfinished.
+pub struct Tally {
+    pub records: usize,
+    pub first: Spot,
+    pub second: Spot,
+    pub last: Spot,
+    pub fine: bool,
+    pub further: bool,
+    pub held: bool,
+}
+
+// The tally of a whole chain, and how the chain ends.
+pub struct Pass {
+    pub tally: Tally,
+    pub end: Step,
+}
+
+// All that the calls go by: head, tail and turn; how the chain ends; the tally.
+pub struct Survey {
+    pub place: Place,
+    pub ending: Ending,
+    pub tally: Tally,
+}
+
+// What an image reads as, or the refusal's number.
+pub enum Read {
+    Good(Survey),
+    Refused(u32),
 }

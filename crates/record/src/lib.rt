@@ -1,7 +1,7 @@
 // What stands at the front of a part: its kind, the end of its name, its data length and its size.
 // Also the check of a file's name. Nothing here writes.
 mod kind;
-mod name;
+pub mod name;
 
 use kind::kind_of;
 use name::name_len;

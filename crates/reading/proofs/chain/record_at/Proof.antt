@@ -8,11 +8,11 @@ unfinished-requires c κs = search needs
 size-requires : tie.Need-size-requires
 size-requires c κs = search needs
 
-add-t7 : tie.Need-add-t7
-add-t7 c = search needs
+add-t8 : tie.Need-add-t8
+add-t8 c = search needs
 
 returns : tie.Need-returns
 returns c = rw (c .before .size .ensures, c .before .before .unfinished .ensures)
 
 pub record-at-spec : {M : Type 1} → statement M
-record-at-spec = tie.close (tie.spec unfinished-requires size-requires add-t7 returns)
+record-at-spec = tie.close (tie.spec unfinished-requires size-requires add-t8 returns)

@@ -1,0 +1,38 @@
+use Rattle.record.specs.Suffix.{flag}
+use Rattle.reading.specs.FileLaws.{live-fc, live-none, live-f8}
+use borrow.Author.Needs.{needs}
+use Rattle.reading.proofs.files.is_live.Statement.{statement}
+use Rattle.reading.proofs.files.is_live.Tie as tie
+
+named-requires : tie.Need-named-requires
+named-requires c κs = search needs
+
+returns : tie.Need-returns
+returns c = live-fc _ _ (flag (c .before .named .ensures) (c .if1 .taken))
+
+named-requires-2 : tie.Need-named-requires-2
+named-requires-2 c κs = search needs
+
+has-named-requires : tie.Need-has-named-requires
+has-named-requires c κs = search needs
+
+returns-2 : tie.Need-returns-2
+returns-2 c = live-f8 _ _ _ (flag (c .before .before .before .before .before .named .ensures) (c .before .before .before .before .if1 .left)) (flag (c .before .before .before .named2 .ensures) (c .before .before .if2 .taken)) (flag (c .before .has-named .ensures) (c .if3 .taken))
+
+returns-3 : tie.Need-returns-3
+returns-3 c = live-f8 _ _ _ (flag (c .before .before .before .before .before .named .ensures) (c .before .before .before .before .if1 .left)) (flag (c .before .before .before .named2 .ensures) (c .before .before .if2 .taken)) (flag (c .before .has-named .ensures) (c .if3 .left))
+
+returns-4 : tie.Need-returns-4
+returns-4 c = live-none _ _ (flag (c .before .before .before .named .ensures) (c .before .before .if1 .left)) (flag (c .before .named2 .ensures) (c .if2 .left))
+
+pub is-live-spec : {M : Type 1} → statement M
+is-live-spec =
+    tie.close
+    (tie.spec
+    named-requires
+    returns
+    named-requires-2
+    has-named-requires
+    returns-2
+    returns-3
+    returns-4)

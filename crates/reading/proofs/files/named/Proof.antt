@@ -1,0 +1,19 @@
+use Rattle.reading.specs.FileLaws.{named-no, named-is}
+use borrow.Author.Needs.{needs}
+use Rattle.reading.proofs.files.named.Statement.{statement}
+use Rattle.reading.proofs.files.named.Tie as tie
+
+add-a : tie.Need-add-a
+add-a c = search needs
+
+shared-slice-read-if1 : tie.Need-shared-slice-read-if1
+shared-slice-read-if1 c = search needs
+
+returns : tie.Need-returns
+returns c = named-is (c .before .before .before .before .before .args .image .now) (c .before .before .before .before .before .args .status .byte) (c .before .before .before .before .before .args .e) (c .before .before .before .before .before .pre) (c .before .if1 .taken)
+
+returns-2 : tie.Need-returns-2
+returns-2 c = named-no (c .before .before .before .before .args .image .now) (c .before .before .before .before .args .status .byte) (c .before .before .before .before .args .e) (c .if1 .left)
+
+pub named-spec : {M : Type 1} → statement M
+named-spec = tie.close (tie.spec add-a shared-slice-read-if1 returns returns-2)

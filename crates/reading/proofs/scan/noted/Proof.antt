@@ -1,0 +1,36 @@
+use Rattle.reading.specs.Tally.{noted-is}
+use native.Mathlib.Omega.{arith}
+use borrow.Author.Needs.{needs}
+use Rattle.reading.proofs.scan.noted.Statement.{statement}
+use Rattle.reading.proofs.scan.noted.Tie as tie
+
+fine-with-requires : tie.Need-fine-with-requires
+fine-with-requires c κs = search needs
+
+further-with-requires : tie.Need-further-with-requires
+further-with-requires c κs = search needs
+
+spot-if-requires : tie.Need-spot-if-requires
+spot-if-requires c κs = search needs
+
+spot-if-requires-2 : tie.Need-spot-if-requires-2
+spot-if-requires-2 c κs = search needs
+
+add-t12 : tie.Need-add-t12
+add-t12 c = omega (arith, c .before .before .before .before .before .before .before .before .before .before .pre .1)
+
+returns : tie.Need-returns
+returns c =
+    noted-is (c .before .before .before .before .before .before .before .before .before .before .args .t) (c .before .before .before .before .before .before .before .before .before .before .args .e) (c .before .before .before .spot-if .result) (c .before .spot-if2 .result) (c .before .before .before .before .before .before .fine-with .result) (c .before .before .before .before .before .further-with .result) (c .before .before .before .before .before .before .before .before .before .before .args .held) (c .before .before .before .before .before .before .before .before .before .before .pre .0)
+    (c .before .before .before .spot-if .ensures) (c .before .spot-if2 .ensures) (c .before .before .before .before .before .before .fine-with .ensures) (c .before .before .before .before .before .further-with .ensures) (c .before .before .before .before .before .before .before .before .before .before .pre .2)
+
+pub noted-spec : {M : Type 1} → statement M
+noted-spec =
+    tie.close
+    (tie.spec
+    fine-with-requires
+    further-with-requires
+    spot-if-requires
+    spot-if-requires-2
+    add-t12
+    returns)

@@ -1,0 +1,55 @@
+use Rattle.reading.specs.Cursor.{left}
+use Rattle.reading.specs.Fold.{turned, fold-end}
+use Rattle.reading.specs.Tally.{none-yet, passed, Passing, passing-start, passing-step}
+use Rattle.reading.proofs.Others.{other-step}
+use borrow.Author.Needs.{needs}
+use native.Mathlib.Omega.{arith}
+use Rattle.reading.proofs.scan.pass.Statement.{statement}
+use Rattle.reading.proofs.scan.pass.Tie as tie
+
+abbrev Inv-loop : tie.InvT-loop
+Inv-loop image c₀ t₀ c t = Passing image c₀ c t
+
+abbrev μ-loop : tie.MeasureT-loop
+μ-loop image c₀ t₀ c t = left c
+
+none-yet-requires : tie.Need-none-yet-requires Inv-loop μ-loop
+none-yet-requires c κs = search needs
+
+loop-holds : tie.Need-loop-holds Inv-loop μ-loop
+loop-holds c = rw (c .none-yet .ensures) (passing-start (c .before .before .pre .0) (c .before .before .pre .1))
+
+advance-requires : tie.Need-advance-requires Inv-loop μ-loop
+advance-requires c κs = c .loop .inv .fold .sound
+
+enum-known-s : tie.Need-enum-known-s Inv-loop μ-loop
+enum-known-s c = c .match .keys1
+
+returns : tie.Need-returns Inv-loop μ-loop
+returns c = (fold-end passed _ _ none-yet _ _ (c .before .before .loop .inv .fold) (c .before .advance .result) (c .before .advance .ensures .0) (other-step (c .before .advance .result) (c .match .keys2)), c .before .before .loop .inv .spots)
+
+noted-requires : tie.Need-noted-requires Inv-loop μ-loop
+noted-requires c κs =
+    let t = turned _ _ (c .before .before .before .advance .result) (c .before .s .given .0 .0) (c .before .s .given .0 .1 .0) (c .before .before .before .advance .ensures .0) (c .before .before .before .advance .ensures .1) (c .before .s .given .1) in
+    (t .whole, omega (arith, c .before .before .before .before .loop .inv .few, c .before .before .before .before .before .before .before .pre .0 .inside, c .before .before .before .before .before .before .before .pre .0 .room, c .before .before .before .before .before .before .before .pre .0 .small), t .onward .held)
+
+loop-less : tie.Need-loop-less Inv-loop μ-loop
+loop-less c = let t = turned _ _ (c .before .before .before .before .advance .result) (c .before .before .s .given .0 .0) (c .before .before .s .given .0 .1 .0) (c .before .before .before .before .advance .ensures .0) (c .before .before .before .before .advance .ensures .1) (c .before .before .s .given .1) in t .onward .less
+
+loop-again : tie.Need-loop-again Inv-loop μ-loop
+loop-again c = let t = turned _ _ (c .before .before .before .before .advance .result) (c .before .before .s .given .0 .0) (c .before .before .s .given .0 .1 .0) (c .before .before .before .before .advance .ensures .0) (c .before .before .before .before .advance .ensures .1) (c .before .before .s .given .1) in passing-step (c .before .before .before .before .before .loop .inv) t (c .noted .ensures)
+
+pub pass-spec : {M : Type 1} → statement M
+pass-spec =
+    tie.close
+    (tie.spec
+    Inv-loop
+    μ-loop
+    none-yet-requires
+    loop-holds
+    advance-requires
+    enum-known-s
+    returns
+    noted-requires
+    loop-less
+    loop-again)

@@ -1,0 +1,103 @@
+-- What one pass over the chain tells, as a fold over its records.
+use Prim.Native.Nat.{ℕ, _+_, _≤_}
+use native.Mathlib.Omega.{arith}
+use mathlib.Core.Path.{_≡_, refl}
+use mathlib.Core.Bool.{Bool, true, false, cond, _&&_, _||_}
+use mathlib.Core.List.{List, [], _∷_}
+use lib.ListN.{length}
+use lib.Dec.{eqb, leb, ltb}
+use Rattle.spec.specs.Basics.{all}
+use Rattle.spec.specs.Bytes.{is-unfinished}
+use Rattle.spec.specs.Record.{Entry, name-of, name-ok}
+use Rattle.spec.specs.Reading.{marked}
+use Rattle.reading.specs.declared.Cursor.{Cursor}
+use Rattle.reading.specs.declared.Spot.{Spot}
+use Rattle.reading.specs.declared.Tally.{Tally}
+use Rattle.reading.specs.declared.Pass.{Pass}
+use Rattle.reading.specs.Cursor.{Sound, left, unfinished-at}
+use Rattle.reading.specs.Rest.{Run, entry-of}
+use Rattle.reading.specs.Fold.{spot-of, spot-is, Whole, Turned, Folded, fold-start, fold-step}
+use Rattle.reading.specs.FileLaws.{is-file}
+
+-- an FC or F8 record with a name has a good one
+unfoldable pub name-fine : Entry → Bool
+name-fine e = elim (is-file e) [ true ↦ name-ok (name-of e) | false ↦ true ]
+
+abbrev pub nowhere : Spot
+nowhere = record { at = 0; n = 0; d = 0 }
+
+abbrev pub none-yet : Tally
+none-yet = record { records = 0; first = nowhere; second = nowhere; last = nowhere; fine = true; further = false; held = false }
+
+-- with one record more
+unfoldable pub noted : Tally → Entry → Tally
+noted t e =
+    record {
+      records = t .records + 1;
+      first = cond (eqb (t .records) 0) (spot-of e) (t .first);
+      second = cond (leb (t .records) 1) (spot-of e) (t .second);
+      last = spot-of e;
+      fine = t .fine && name-fine e;
+      further = t .further || (ltb 1 (t .records) && marked e);
+      held = is-unfinished (e .it .status)
+    }
+
+abbrev pub tally : Tally → List Entry → Tally
+tally t [] = t
+tally t (e ∷ es) = tally (noted t e) es
+
+abbrev pub passed : Tally → Run → Pass
+passed t r = record { tally = tally t (r .entries); end = r .ending }
+
+-- ---- the loop
+
+-- all bytes of the records that the tally names are there
+pub record Spots (image : List ℕ) (t : Tally) : Type 0 where
+  pub first : Whole image (t .first)
+  pub second : Whole image (t .second)
+  pub last : Whole image (t .last)
+
+pub record Passing (image : List ℕ) (start c : Cursor) (t : Tally) : Type 0 where
+  pub fold : Folded passed image start none-yet c t
+  pub spots : Spots image t
+  pub few : t .records + left c ≤ left start
+
+noted-records : (t : Tally) (e : Entry) → noted t e .records ≡ t .records + 1
+unfolding noted
+noted-records t e = refl
+
+module _ {image : List ℕ} where
+  pub passing-start : {start : Cursor} → Sound image start → 16 ≤ length image → Passing image start start none-yet
+  passing-start {start} s l =
+      let w : Whole image nowhere = record { fits = omega arith } in
+      record { fold = fold-start passed image start none-yet s; spots = record { first = w; second = w; last = w }; few = omega arith }
+
+  either : (b : Bool) (x y : Spot) → Whole image x → Whole image y → Whole image (cond b x y)
+  either true x y p q = p
+  either false x y p q = q
+
+  noted-spots : (t : Tally) (e : Spot) → Whole image e → Spots image t → Spots image (noted t (entry-of image e))
+  unfolding noted
+  noted-spots t e w s =
+      let v : Whole image (spot-of (entry-of image e)) = rw (spot-is image e w) w in
+      record {
+        first = either (eqb (t .records) 0) (spot-of (entry-of image e)) (t .first) v (s .first);
+        second = either (leb (t .records) 1) (spot-of (entry-of image e)) (t .second) v (s .second);
+        last = v
+      }
+
+  pub passing-step : {start c next : Cursor} {e : Spot} {t u : Tally} → Passing image start c t → Turned image c e next → u ≡ noted t (entry-of image e) → Passing image start next u
+  passing-step {start} {c} {next} {e} {t} {u} p w q =
+      rw q
+      record {
+        fold = fold-step passed image start none-yet c t (p .fold) e next w (noted t (entry-of image e)) refl;
+        spots = noted-spots t e (w .whole) (p .spots);
+        few = omega (arith, p .few, w .onward .less, noted-records t (entry-of image e))
+      }
+
+  -- the tally as the code makes it
+  pub noted-is : (t : Tally) (e : Spot) (one two : Spot) (fine further held : Bool) → Whole image e → one ≡ cond (eqb (t .records) 0) e (t .first) → two ≡ cond (leb (t .records) 1) e (t .second)
+      → fine ≡ (t .fine && name-fine (entry-of image e)) → further ≡ (t .further || (ltb 1 (t .records) && marked (entry-of image e))) → held ≡ unfinished-at image (e .at)
+      → record { records = t .records + 1; first = one; second = two; last = e; fine = fine; further = further; held = held } ≡ noted t (entry-of image e)
+  unfolding noted
+  noted-is t e one two fine further held w a b c d h = rw (a, b, c, d, h, spot-is image e w)
