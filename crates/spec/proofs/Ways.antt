@@ -19,7 +19,7 @@ past-limit : (p : Place) (s : ℕ) → limit p < p .tail + s → fits-at-tail p 
 unfolding fits-at-tail
 past-limit p s h = lt-leb (p .tail + s) (limit p) h
 
-after-as : (p : Place) (s a : ℕ) (t : Bool) → fits-at-tail p s ≡ t → address p s ≡ a → place-after p s ≡ with-tail p (a + s) (p .turned || not t)
+pub after-as : (p : Place) (s a : ℕ) (t : Bool) → fits-at-tail p s ≡ t → address p s ≡ a → place-after p s ≡ with-tail p (a + s) (p .turned || not t)
 unfolding place-after
 after-as p s a t e ea = ap₂ (λ (n : ℕ) (b : Bool). with-tail p (n + s) (p .turned || not b)) ea e
 

@@ -6,7 +6,9 @@ use mathlib.Core.Path.{_≡_, refl, ap, _∙_}
 use mathlib.Core.List.{List, [], _∷_, _++_}
 use lib.ListN.{length, take, getD, length-append}
 use Rattle.spec.specs.Step.{Step, program, erase, bytes-at, moved}
-use Rattle.spec.specs.Write.{name-steps, data-steps, record-steps}
+use Rattle.spec.specs.Write.{name-steps, data-steps, commit-steps, record-steps}
+use Rattle.spec.specs.Geometry.{up8}
+use Rattle.flash.specs.Did.{length-moved}
 
 pub length-bytes : (a : ℕ) (w : List ℕ) → length (bytes-at a w) ≡ length w
 length-bytes a [] = refl
@@ -25,6 +27,12 @@ pub length-name : (name : List ℕ) → length (name-steps name) ≡ length name
 length-name name = length-append (bytes-at 8 name) _ ∙ ap (λ (n : ℕ). n + 1) (length-bytes 8 name)
 
 -- ---- the same steps further on
+
+pub record-count : (a : ℕ) (name content : List ℕ) → length (moved a (record-steps name content)) ≡ length name + length content + 9
+record-count a name content =
+    let rest = data-steps (length name) content ++ commit-steps in
+    omega (arith, length-moved a (record-steps name content), length-append (name-steps name) rest, length-name name,
+    length-append (data-steps (length name) content) commit-steps, length-bytes (8 + up8 (length name + 1)) content)
 
 pub moved-append : (a : ℕ) (s t : List Step) → moved a (s ++ t) ≡ moved a s ++ moved a t
 moved-append a [] t = refl

@@ -10,14 +10,14 @@ ghost use mathlib.Core.Path.{_≡_};
 ghost use mathlib.Core.List.{[], _∷_};
 ghost use Prim.Native.Nat.{_+_, _%_, _<_, _≤_, _^_};
 ghost use lib.ListN.{length};
-ghost use Rattle.spec.specs.Step.{Step, bytes-at};
+ghost use Rattle.spec.specs.Step.{Step, bytes-at, moved};
 ghost use Rattle.spec.specs.Geometry.{up8};
 ghost use Rattle.spec.specs.Record.{four, size-of};
 ghost use Rattle.spec.specs.Write.{marker-steps, header-steps, name-steps, data-steps, record-steps};
 ghost use Rattle.flash.specs.Did.{Did};
 
 // Programs the bytes one after another from this address on.
-pub fn write_bytes(part: &mut [u8], at: usize, bytes: &[u8], m: Meter) -> Meter
+fn write_bytes(part: &mut [u8], at: usize, bytes: &[u8], m: Meter) -> Meter
     requires { ⌜ (at + length (now bytes) ≤ length (now part)) × (m .asked + length (now bytes) ≤ 2 ^ 32) ⌝ }
     ensures { λ r. ⌜ Did (now (part .entry)) m (bytes-at at (now (bytes .entry))) (now (part .exit)) r ⌝ }
 {
@@ -39,7 +39,7 @@ pub fn set_status(part: &mut [u8], at: usize, status: Status, m: Meter) -> Meter
 }
 
 // A wrap marker.
-pub fn write_marker(part: &mut [u8], m: Meter) -> Meter
+fn build_marker(part: &mut [u8], m: Meter) -> Meter
     requires { ⌜ (2 < length (now part)) × (m .asked + 3 ≤ 2 ^ 32) ⌝ }
     ensures { λ r. ⌜ Did (now (part .entry)) m marker-steps (now (part .exit)) r ⌝ }
 {
@@ -62,7 +62,7 @@ fn four_of(d: usize) -> [u8; 4]
 }
 
 // The header of a record with d data bytes, up to its reservation.
-pub fn write_header(part: &mut [u8], d: usize, m: Meter) -> Meter
+fn write_header(part: &mut [u8], d: usize, m: Meter) -> Meter
     requires { ⌜ (8 ≤ length (now part)) × (m .asked + 7 ≤ 2 ^ 32) ⌝ }
     ensures { λ r. ⌜ Did (now (part .entry)) m (header-steps d) (now (part .exit)) r ⌝ }
 {
@@ -74,7 +74,7 @@ pub fn write_header(part: &mut [u8], d: usize, m: Meter) -> Meter
 }
 
 // The name and the 00 that ends it.
-pub fn write_name(part: &mut [u8], name: &[u8], m: Meter) -> Meter
+fn write_name(part: &mut [u8], name: &[u8], m: Meter) -> Meter
     requires { ⌜ (8 + length (now name) < length (now part)) × (m .asked + length (now name) + 1 ≤ 2 ^ 32) ⌝ }
     ensures { λ r. ⌜ Did (now (part .entry)) m (name-steps (now (name .entry))) (now (part .exit)) r ⌝ }
 {
@@ -83,7 +83,7 @@ pub fn write_name(part: &mut [u8], name: &[u8], m: Meter) -> Meter
 }
 
 // The data, behind a name of n bytes.
-pub fn write_data(part: &mut [u8], n: usize, content: &[u8], m: Meter) -> Meter
+fn write_data(part: &mut [u8], n: usize, content: &[u8], m: Meter) -> Meter
     requires { ⌜ (n ≤ 63) × (size-of n (length (now content)) ≤ length (now part)) × (m .asked + length (now content) ≤ 2 ^ 32) ⌝ }
     ensures { λ r. ⌜ Did (now (part .entry)) m (data-steps n (now (content .entry))) (now (part .exit)) r ⌝ }
 {
@@ -91,7 +91,7 @@ pub fn write_data(part: &mut [u8], n: usize, content: &[u8], m: Meter) -> Meter
 }
 
 // A whole record. The commit is its last step, so that a cut before it leaves no file.
-pub fn write_record(part: &mut [u8], name: &[u8], content: &[u8], m: Meter) -> Meter
+fn build_record(part: &mut [u8], name: &[u8], content: &[u8], m: Meter) -> Meter
     requires { ⌜ (length (now name) ≤ 63) × (size-of (length (now name)) (length (now content)) ≤ length (now part)) × (m .asked + length (now name) + length (now content) + 9 ≤ 2 ^ 32) ⌝ }
     ensures { λ r. ⌜ Did (now (part .entry)) m (record-steps (now (name .entry)) (now (content .entry))) (now (part .exit)) r ⌝ }
 {
@@ -99,4 +99,28 @@ pub fn write_record(part: &mut [u8], name: &[u8], content: &[u8], m: Meter) -> M
     let b = write_name(part, name, a);
     let c = write_data(part, name.len(), content, b);
     set_status(part, 0, Status::COMMITTED, c)
+}
+
+// The image from the record's start on is lent to the writers above.
+pub fn write_record(image: &mut [u8], at: usize, name: &[u8], content: &[u8], m: Meter) -> Meter
+    requires { ⌜ (length (now name) ≤ 63) × (at + size-of (length (now name)) (length (now content)) ≤ length (now image)) × (m .asked + length (now name) + length (now content) + 9 ≤ 2 ^ 32) ⌝ }
+    ensures { λ r. ⌜ Did (now (image .entry)) m (moved at (record-steps (now (name .entry)) (now (content .entry)))) (now (image .exit)) r ⌝ }
+{
+    build_record(&mut image[at..], name, content, m)
+}
+
+// The header alone, for a record whose name and data come from the image itself.
+pub fn reserve(image: &mut [u8], at: usize, d: usize, m: Meter) -> Meter
+    requires { ⌜ (at + 8 ≤ length (now image)) × (m .asked + 7 ≤ 2 ^ 32) ⌝ }
+    ensures { λ r. ⌜ Did (now (image .entry)) m (moved at (header-steps d)) (now (image .exit)) r ⌝ }
+{
+    write_header(&mut image[at..], d, m)
+}
+
+// A wrap marker at this address.
+pub fn write_marker(image: &mut [u8], at: usize, m: Meter) -> Meter
+    requires { ⌜ (at + 2 < length (now image)) × (m .asked + 3 ≤ 2 ^ 32) ⌝ }
+    ensures { λ r. ⌜ Did (now (image .entry)) m (moved at marker-steps) (now (image .exit)) r ⌝ }
+{
+    build_marker(&mut image[at..], m)
 }

@@ -1,3 +1,134 @@
 // The record at its place: the room for it, and the steps that put it there in place of an old one.
 // Every byte goes through flash::program, and every sector through flash::erase.
 pub mod build;
+pub mod copy;
+use build::set_status;
+use build::write_marker;
+use build::write_record;
+use copy::copy_record;
+use flash::Meter;
+use record::size;
+use spec::Place;
+use spec::Placed;
+use spec::Status;
+ghost use mathlib.Core.Path.{_≡_};
+ghost use mathlib.Core.Bool.{true};
+ghost use mathlib.Core.List.{_++_};
+ghost use Prim.Native.Nat.{_+_, _<_, _≤_, _^_, max};
+ghost use lib.ListN.{length};
+ghost use Rattle.spec.specs.Record.{size-of};
+ghost use Rattle.spec.specs.Place.{room};
+ghost use Rattle.spec.specs.Placed.{Sound};
+ghost use Rattle.spec.specs.Write.{migrate-steps, delete-steps, put-steps};
+ghost use Rattle.flash.specs.Did.{Did};
+ghost use Rattle.writing.specs.Old.{entry-of, Lies};
+ghost use Rattle.writing.specs.Put.{marks, Ready};
+ghost use Rattle.writing.specs.Head.{HeadEnds, entry-at, copy-of};
+
+// The file that a put replaces: its address and its status, or none.
+pub enum Old {
+    None,
+    At(usize, u8),
+}
+
+// Whether a record of this size and then two of the largest size fit one after the other.
+pub fn has_room(place: Place, size: usize, largest: usize) -> bool
+    requires { ⌜ Sound place ⌝ }
+    ensures { λ r. ⌜ r ≡ room place size largest ⌝ }
+{
+    let Placed::At(_, _, first) = place.after(size) else {
+        return false;
+    };
+    let Placed::At(_, _, second) = first.after(largest) else {
+        return false;
+    };
+    let Placed::At(_, _, _) = second.after(largest) else {
+        return false;
+    };
+    true
+}
+
+fn max_of(a: usize, b: usize) -> usize
+    ensures { λ r. ⌜ r ≡ max a b ⌝ }
+{
+    if a < b {
+        return b;
+    }
+    a
+}
+
+// The same for a name of n and a content of d bytes, beside files of which the largest has this size.
+// Content that is longer than the image is refused before its size is computed.
+pub fn has_room_for(place: Place, n: usize, d: usize, others: usize) -> bool
+    requires { ⌜ Sound place × (n ≤ 63) ⌝ }
+    ensures { λ r. ⌜ r ≡ room place (size-of n d) (max (size-of n d) others) ⌝ }
+{
+    if place.length < d {
+        return false;
+    }
+    let s = size(n, d);
+    has_room(place, s, max_of(s, others))
+}
+
+// The old file's status FC to F8, if it is FC; then the marker, if one is needed.
+fn prepare(image: &mut [u8], old: Old, tail: usize, marker: bool, m: Meter) -> Meter
+    requires { ⌜ Lies old (length (now image)) × (marker ≡ true → tail + 2 < length (now image)) × (m .asked + 4 ≤ 2 ^ 32) ⌝ }
+    ensures { λ r. ⌜ Did (now (image .entry)) m (migrate-steps (entry-of old) ++ marks marker tail) (now (image .exit)) r ⌝ }
+{
+    let a = migrate(image, old, m);
+    if marker {
+        return write_marker(image, tail, a);
+    }
+    a
+}
+
+fn migrate(image: &mut [u8], old: Old, m: Meter) -> Meter
+    requires { ⌜ Lies old (length (now image)) × (m .asked < 2 ^ 32) ⌝ }
+    ensures { λ r. ⌜ Did (now (image .entry)) m (migrate-steps (entry-of old)) (now (image .exit)) r ⌝ }
+{
+    let Old::At(at, status) = old else {
+        return m;
+    };
+    if status == Status::COMMITTED.byte {
+        return set_status(image, at, Status::MIGRATING, m);
+    }
+    m
+}
+
+fn delete(image: &mut [u8], old: Old, m: Meter) -> Meter
+    requires { ⌜ Lies old (length (now image)) × (m .asked < 2 ^ 32) ⌝ }
+    ensures { λ r. ⌜ Did (now (image .entry)) m (delete-steps (entry-of old)) (now (image .exit)) r ⌝ }
+{
+    let Old::At(at, _) = old else {
+        return m;
+    };
+    set_status(image, at, Status::DELETED, m)
+}
+
+// A file in the place of an old one, step by step. The old one is deleted after the commit, so that a cut loses neither.
+pub fn write_file(image: &mut [u8], place: Place, old: Old, name: &[u8], content: &[u8], m: Meter) -> Meter
+    requires { ⌜ Ready place (length (now image)) (length (now name)) (length (now content)) (m .asked) × Lies old (length (now image)) ⌝ }
+    ensures { λ r. ⌜ Did (now (image .entry)) m (put-steps place (entry-of old) (now (name .entry)) (now (content .entry))) (now (image .exit)) r ⌝ }
+{
+    let Placed::At(at, marker, _) = place.after(size(name.len(), content.len())) else {
+        return m;
+    };
+    let a = prepare(image, old, place.tail, marker, m);
+    let b = write_record(image, at, name, content, a);
+    delete(image, old, b)
+}
+
+// The record at the head, with n name bytes and d data bytes, copied as in a put: the first part of a move.
+pub fn copy_head(image: &mut [u8], place: Place, n: usize, d: usize, m: Meter) -> Meter
+    requires { ⌜ Ready place (length (now image)) n d (m .asked) × HeadEnds place (size-of n d) ⌝ }
+    ensures { λ r. ⌜ Did (now (image .entry)) m (copy-of place (entry-at (now (image .entry)) (place .head) n d)) (now (image .exit)) r ⌝ }
+{
+    let Placed::At(at, marker, _) = place.after(size(n, d)) else {
+        return m;
+    };
+    let head = place.head;
+    let old = Old::At(head, image[head + 2]);
+    let a = prepare(image, old, place.tail, marker, m);
+    let b = copy_record(image, head, at, n, d, a);
+    delete(image, old, b)
+}

@@ -1,33 +1,43 @@
-use Rattle.flash.specs.Did.{did-both}
+use Rattle.flash.specs.Did.{did-tail}
+use native.Mathlib.Omega.{arith}
 use borrow.Author.Needs.{needs}
 use Rattle.writing.proofs.build.write_marker.Statement.{statement}
 use Rattle.writing.proofs.build.write_marker.Tie as tie
 use Rattle.writing.proofs.build.write_marker.Reads as reads
 use Rattle.writing.proofs.build.write_marker.Lts as lts
-use Rattle.flash.proofs.program.Reads as program-reads
-use Rattle.writing.proofs.build.set_status.Reads as set-status-reads
+use Rattle.writing.proofs.build.build_marker.Reads as build-marker-reads
 
--- src/build.rt:46:9
-program-requires : tie.Need-program-requires
-program-requires c κs = search needs
+-- src/build.rt:125:18
+sub-build-marker : tie.Need-sub-build-marker
+sub-build-marker c = search needs
 
--- src/build.rt:47:9
-program-requires-2 : tie.Need-program-requires-2
-program-requires-2 c κs = search needs
+-- src/build.rt:125:18
+part-build-marker-start : tie.Need-part-build-marker-start
+part-build-marker-start c = search needs
 
--- src/build.rt:48:5
-set-status-requires : tie.Need-set-status-requires
-set-status-requires c κs = search needs
+-- src/build.rt:125:18
+part-build-marker-end : tie.Need-part-build-marker-end
+part-build-marker-end c = search needs
 
--- src/build.rt:42:1
+-- src/build.rt:125:5
+build-marker-requires : tie.Need-build-marker-requires
+build-marker-requires c κs = search needs
+
+-- src/build.rt:121:1
 same-length : tie.Need-same-length
 same-length c = search needs
 
--- src/build.rt:42:1
+-- src/build.rt:121:1
 returns : tie.Need-returns
-returns c = did-both (did-both (c .before .before .before .before .before .before .before .before .before .before .program .ensures) (c .before .before .before .before .before .before .program2 .ensures)) (c .before .before .set-status .ensures)
+returns c = let a = c .before .before .before .before .before .args in did-tail (a .image .now) (a .at) (omega arith) (c .before .before .build-marker .ensures)
 
 pub write-marker-spec : {M : Type 1} → statement M
 write-marker-spec =
     tie.close
-    (tie.spec program-requires program-requires-2 set-status-requires same-length returns)
+    (tie.spec
+    sub-build-marker
+    part-build-marker-start
+    part-build-marker-end
+    build-marker-requires
+    same-length
+    returns)

@@ -1,0 +1,59 @@
+use lib.ListN.{take, drop}
+use Prim.Native.Nat.{_+_}
+use Rattle.writing.specs.Copied.{copied-name}
+use Rattle.writing.specs.Kept.{length-part}
+use Rattle.writing.specs.Steps.{length-bytes}
+use Rattle.flash.specs.Did.{did-both}
+use native.Mathlib.Omega.{arith}
+use borrow.Author.Needs.{needs}
+use Rattle.writing.proofs.copy.copy_name.Statement.{statement}
+use Rattle.writing.proofs.copy.copy_name.Tie as tie
+use Rattle.writing.proofs.copy.copy_name.Reads as reads
+use Rattle.writing.proofs.copy.copy_name.Lts as lts
+use Rattle.flash.proofs.program.Reads as program-reads
+use Rattle.writing.proofs.copy.copy_bytes.Reads as copy-bytes-reads
+
+-- src/copy.rt:37:31
+add-copy-bytes : tie.Need-add-copy-bytes
+add-copy-bytes c = search needs
+
+-- src/copy.rt:37:41
+add-copy-bytes-2 : tie.Need-add-copy-bytes-2
+add-copy-bytes-2 c = search needs
+
+-- src/copy.rt:37:9
+copy-bytes-requires : tie.Need-copy-bytes-requires
+copy-bytes-requires c κs = search needs
+
+-- src/copy.rt:38:20
+add-program : tie.Need-add-program
+add-program c = search needs
+
+-- src/copy.rt:38:20
+add-program-2 : tie.Need-add-program-2
+add-program-2 c = search needs
+
+-- src/copy.rt:38:5
+program-requires : tie.Need-program-requires
+program-requires c κs = let a = c .before .before .before .before .before .before .args in omega (arith, length-bytes (a .to + 8) (take (a .n) (drop (a .from + 8) (a .image .now))), length-part (a .from + 8) (a .n) (a .image .now) (omega arith))
+
+-- src/copy.rt:33:1
+same-length : tie.Need-same-length
+same-length c = search needs
+
+-- src/copy.rt:33:1
+returns : tie.Need-returns
+returns c = let a = c .before .before .before .before .before .before .before .before .before .args in rw (← copied-name (a .image .now) (a .from) (a .to) (a .n) (omega arith)) (did-both (c .before .before .before .before .before .before .copy-bytes .ensures) (c .before .before .program .ensures))
+
+pub copy-name-spec : {M : Type 1} → statement M
+copy-name-spec =
+    tie.close
+    (tie.spec
+    add-copy-bytes
+    add-copy-bytes-2
+    copy-bytes-requires
+    add-program
+    add-program-2
+    program-requires
+    same-length
+    returns)
