@@ -89,7 +89,7 @@ fn vacate(image: &mut [u8], x: usize, y: usize, m: Meter) -> Meter
 
 // Steps (c) to (f), of the records that stand at x and y.
 pub fn close(image: &mut [u8], x: Spot, y: Spot, m: Meter) -> Meter
-    requires { ⌜ Whole (now image) x × Whole (now image) y × (x .n < 64) × (length (now image) ≤ 2 ^ 24) × (m .asked + 2 * length (now image) + 2 ≤ 2 ^ 32) ⌝ }
+    requires { ⌜ Whole (now image) x × Whole (now image) y × (length (now image) ≤ 2 ^ 24) × (m .asked + 2 * length (now image) + 2 ≤ 2 ^ 32) ⌝ }
     ensures { λ r. ⌜ Did (now (image .entry)) m (close-steps (length (now (image .entry))) (entry-of (now (image .entry)) x) (entry-of (now (image .entry)) y)) (now (image .exit)) r × (r .asked ≤ m .asked + 2 * length (now (image .entry)) + 2) ⌝ }
 {
     let a = clean_data(image, x.at + 8 + up_8(x.n + 1), x.d, m);
