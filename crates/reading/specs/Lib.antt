@@ -11,3 +11,7 @@ pub mod Faithful
 pub mod TallyLaws
 pub mod NamesLaw
 pub mod SettledLaws
+pub mod FreeLaws
+pub mod Read
+pub mod RuleLaws
+pub mod ReadLaws

@@ -12,9 +12,10 @@ use Rattle.spec.specs.Record.{Entry, name-of, name-ok}
 use Rattle.spec.specs.Reading.{marked}
 use Rattle.reading.specs.declared.Cursor.{Cursor}
 use Rattle.reading.specs.declared.Spot.{Spot}
+use Rattle.reading.specs.declared.Step.{Step}
 use Rattle.reading.specs.declared.Tally.{Tally}
 use Rattle.reading.specs.declared.Pass.{Pass}
-use Rattle.reading.specs.Cursor.{Sound, left, unfinished-at}
+use Rattle.reading.specs.Cursor.{Sound, left, Inside, unfinished-at}
 use Rattle.reading.specs.Rest.{Run, entry-of}
 use Rattle.reading.specs.Fold.{spot-of, spot-is, Whole, Turned, Folded, fold-start, fold-step}
 use Rattle.reading.specs.FileLaws.{is-file}
@@ -56,6 +57,19 @@ pub record Spots (image : List ℕ) (t : Tally) : Type 0 where
   pub first : Whole image (t .first)
   pub second : Whole image (t .second)
   pub last : Whole image (t .last)
+
+-- where the chain ends lies in the image
+abbrev pub End-inside : List ℕ → Step → Type 0
+End-inside image (Step.Record e c) = Unit {0}
+End-inside image (Step.End t w) = t ≤ length image
+End-inside image (Step.TornWrap t) = t ≤ length image
+End-inside image (Step.Broken t w) = t ≤ length image
+
+pub end-inside : (image : List ℕ) (c : Cursor) (r : Step) → Inside image c r → End-inside image r
+end-inside image c (Step.Record e next) h = tt
+end-inside image c (Step.End t w) h = h
+end-inside image c (Step.TornWrap t) h = h
+end-inside image c (Step.Broken t w) h = h
 
 pub record Passing (image : List ℕ) (start c : Cursor) (t : Tally) : Type 0 where
   pub fold : Folded passed image start none-yet c t

@@ -4,6 +4,9 @@ mod head;
 mod chain;
 mod files;
 mod scan;
+mod free;
+mod rules;
+pub mod image;
 use spec::Ending;
 use spec::Place;
 

@@ -17,7 +17,7 @@ ghost use Rattle.spec.specs.Reading.{marked};
 ghost use Rattle.reading.specs.Cursor.{Sound, unfinished-at};
 ghost use Rattle.reading.specs.Rest.{rest, entry-of};
 ghost use Rattle.reading.specs.Fold.{Whole};
-ghost use Rattle.reading.specs.Tally.{name-fine, noted, none-yet, passed, Spots};
+ghost use Rattle.reading.specs.Tally.{name-fine, noted, none-yet, passed, Spots, End-inside};
 
 // An FC or F8 record with a name has a good one.
 fn name_fine(image: &[u8], e: Spot) -> bool
@@ -114,9 +114,9 @@ fn none_yet() -> Tally
 }
 
 // The one pass over the chain.
-fn pass(image: &[u8], start: Cursor) -> Pass
+pub fn pass(image: &[u8], start: Cursor) -> Pass
     requires { ⌜ Sound (now image) start × (16 ≤ length (now image)) ⌝ }
-    ensures { λ r. ⌜ (r ≡ passed none-yet (rest (now (image .entry)) start)) × Spots (now (image .entry)) (r .tally) ⌝ }
+    ensures { λ r. ⌜ (r ≡ passed none-yet (rest (now (image .entry)) start)) × Spots (now (image .entry)) (r .tally) × End-inside (now (image .entry)) (r .end) ⌝ }
 {
     let mut c = start;
     let mut t = none_yet();

@@ -1,6 +1,9 @@
 use borrow.Author.Needs.{needs}
 use Rattle.reading.proofs.scan.fine_with.Statement.{statement}
 use Rattle.reading.proofs.scan.fine_with.Tie as tie
+use Rattle.reading.proofs.scan.fine_with.Reads as reads
+use Rattle.reading.proofs.scan.fine_with.Lts as lts
+use Rattle.reading.proofs.scan.name_fine.Reads as name-fine-reads
 
 name-fine-requires : tie.Need-name-fine-requires
 name-fine-requires c κs = search needs

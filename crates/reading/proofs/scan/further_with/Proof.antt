@@ -2,6 +2,9 @@ use borrow.Author.Tests.{lt-ltb, le-ltb}
 use borrow.Author.Needs.{needs}
 use Rattle.reading.proofs.scan.further_with.Statement.{statement}
 use Rattle.reading.proofs.scan.further_with.Tie as tie
+use Rattle.reading.proofs.scan.further_with.Reads as reads
+use Rattle.reading.proofs.scan.further_with.Lts as lts
+use Rattle.reading.proofs.scan.marked.Reads as marked-reads
 
 returns : tie.Need-returns
 returns c = rw (c .if1 .taken)

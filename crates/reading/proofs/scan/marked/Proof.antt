@@ -3,8 +3,11 @@ use native.Mathlib.Nat.{add-zero}
 use lib.Seq.{getD-drop}
 use Rattle.spec.specs.Bytes.{is-start, is-clean}
 use native.Mathlib.Omega.{arith}
+use borrow.Author.Needs.{needs}
 use Rattle.reading.proofs.scan.marked.Statement.{statement}
 use Rattle.reading.proofs.scan.marked.Tie as tie
+use Rattle.reading.proofs.scan.marked.Reads as reads
+use Rattle.reading.proofs.scan.marked.Lts as lts
 
 shared-slice-read-if1 : tie.Need-shared-slice-read-if1
 shared-slice-read-if1 c = omega (arith, c .before .pre .fits)

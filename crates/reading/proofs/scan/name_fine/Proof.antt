@@ -1,11 +1,15 @@
-use Rattle.record.specs.Suffix.{flag}
-use mathlib.Core.Path.{ap, _∙_}
+use Rattle.record.specs.Suffix.{flag, unflag}
+use mathlib.Core.Path.{_≡_, refl, sym, ap, ap₂, subst, _∙_}
 use Rattle.spec.specs.Record.{name-ok}
 use Rattle.reading.specs.FileLaws.{name-part}
 use Rattle.reading.specs.Tally.{name-fine}
 use borrow.Author.Needs.{needs}
 use Rattle.reading.proofs.scan.name_fine.Statement.{statement}
 use Rattle.reading.proofs.scan.name_fine.Tie as tie
+use Rattle.reading.proofs.scan.name_fine.Reads as reads
+use Rattle.reading.proofs.scan.name_fine.Lts as lts
+use Rattle.reading.proofs.files.is_file.Reads as is-file-reads
+use Rattle.record.proofs.name.name_ok.Reads as name-ok-reads
 
 is-file-requires : tie.Need-is-file-requires
 is-file-requires c κs = c .before .pre

@@ -3,6 +3,11 @@ use native.Mathlib.Omega.{arith}
 use borrow.Author.Needs.{needs}
 use Rattle.reading.proofs.scan.noted.Statement.{statement}
 use Rattle.reading.proofs.scan.noted.Tie as tie
+use Rattle.reading.proofs.scan.noted.Reads as reads
+use Rattle.reading.proofs.scan.noted.Lts as lts
+use Rattle.reading.proofs.scan.fine_with.Reads as fine-with-reads
+use Rattle.reading.proofs.scan.further_with.Reads as further-with-reads
+use Rattle.reading.proofs.scan.spot_if.Reads as spot-if-reads
 
 fine-with-requires : tie.Need-fine-with-requires
 fine-with-requires c κs = search needs

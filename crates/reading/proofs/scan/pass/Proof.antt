@@ -1,11 +1,17 @@
+use mathlib.Core.Path.{_≡_, refl, sym, ap, ap₂, subst, _∙_}
 use Rattle.reading.specs.Cursor.{left}
-use Rattle.reading.specs.Fold.{turned, fold-end}
-use Rattle.reading.specs.Tally.{none-yet, passed, Passing, passing-start, passing-step}
+use Rattle.reading.specs.Fold.{Turned, turned, fold-end}
+use Rattle.reading.specs.Tally.{none-yet, passed, Passing, passing-start, passing-step, end-inside}
 use Rattle.reading.proofs.Others.{other-step}
 use borrow.Author.Needs.{needs}
 use native.Mathlib.Omega.{arith}
 use Rattle.reading.proofs.scan.pass.Statement.{statement}
 use Rattle.reading.proofs.scan.pass.Tie as tie
+use Rattle.reading.proofs.scan.pass.Reads as reads
+use Rattle.reading.proofs.scan.pass.Lts as lts
+use Rattle.reading.proofs.chain.advance.Reads as advance-reads
+use Rattle.reading.proofs.scan.none_yet.Reads as none-yet-reads
+use Rattle.reading.proofs.scan.noted.Reads as noted-reads
 
 abbrev Inv-loop : tie.InvT-loop
 Inv-loop image c₀ t₀ c t = Passing image c₀ c t
@@ -26,7 +32,7 @@ enum-known-s : tie.Need-enum-known-s Inv-loop μ-loop
 enum-known-s c = c .match .keys1
 
 returns : tie.Need-returns Inv-loop μ-loop
-returns c = (fold-end passed _ _ none-yet _ _ (c .before .before .loop .inv .fold) (c .before .advance .result) (c .before .advance .ensures .0) (other-step (c .before .advance .result) (c .match .keys2)), c .before .before .loop .inv .spots)
+returns c = (fold-end passed _ _ none-yet _ _ (c .before .before .loop .inv .fold) (c .before .advance .result) (c .before .advance .ensures .0) (other-step (c .before .advance .result) (c .match .keys2)), c .before .before .loop .inv .spots, end-inside (c .before .before .before .before .before .args .image .now) (c .before .before .loop .c) (c .before .advance .result) (c .before .advance .ensures .1))
 
 noted-requires : tie.Need-noted-requires Inv-loop μ-loop
 noted-requires c κs =

@@ -1,0 +1,43 @@
+use Rattle.record.specs.Suffix.{flag, unflag}
+use Rattle.reading.specs.FreeLaws.{In-image, free-by, part-blank, part-empty, free-turned, free-first, free-both, tail-sector, tail-limit, limit-inside}
+use native.Mathlib.Omega.{arith}
+use borrow.Author.Needs.{needs}
+use Rattle.reading.proofs.free.free_blank.Statement.{statement}
+use Rattle.reading.proofs.free.free_blank.Tie as tie
+use Rattle.reading.proofs.free.free_blank.Reads as reads
+use Rattle.reading.proofs.free.free_blank.Lts as lts
+use Rattle.reading.proofs.free.blank_part.Reads as blank-part-reads
+use Rattle.reading.proofs.free.floor.Reads as floor-reads
+
+floor-requires : tie.Need-floor-requires
+floor-requires c κs = search needs
+
+blank-part-requires : tie.Need-blank-part-requires
+blank-part-requires c κs = omega (arith, c .before .before .before .pre .head)
+
+returns : tie.Need-returns
+returns c = free-turned (c .before .before .before .before .args .image .now) (c .before .before .before .before .args .p) (c .before .before .floor .result) (c .before .before .floor .ensures .0) _ (c .before .if1 .taken) (c .blank-part .ensures)
+
+blank-part-requires-2 : tie.Need-blank-part-requires-2
+blank-part-requires-2 c κs = omega (arith, c .before .before .before .pre .head)
+
+blank-part-requires-3 : tie.Need-blank-part-requires-3
+blank-part-requires-3 c κs = omega (arith, c .before .before .before .before .before .pre .whole)
+
+returns-2 : tie.Need-returns-2
+returns-2 c = free-both (c .before .before .before .before .before .before .args .image .now) (c .before .before .before .before .before .before .args .p) (c .before .before .before .before .floor .result) (c .before .before .before .before .floor .ensures .0) _ (c .before .before .before .if1 .left) (flag (c .before .before .blank-part2 .ensures) (c .before .if2 .taken)) (c .blank-part3 .ensures)
+
+returns-3 : tie.Need-returns-3
+returns-3 c = free-first (c .before .before .before .before .before .args .image .now) (c .before .before .before .before .before .args .p) (c .before .before .before .floor .result) (c .before .before .before .floor .ensures .0) (c .before .before .if1 .left) (flag (c .before .blank-part2 .ensures) (c .if2 .left))
+
+pub free-blank-spec : {M : Type 1} → statement M
+free-blank-spec =
+    tie.close
+    (tie.spec
+    floor-requires
+    blank-part-requires
+    returns
+    blank-part-requires-2
+    blank-part-requires-3
+    returns-2
+    returns-3)

@@ -1,0 +1,22 @@
+use borrow.Author.Needs.{needs}
+use Rattle.reading.proofs.free.free_ok.Statement.{statement}
+use Rattle.reading.proofs.free.free_ok.Tie as tie
+use Rattle.reading.proofs.free.free_ok.Reads as reads
+use Rattle.reading.proofs.free.free_ok.Lts as lts
+use Rattle.reading.proofs.free.free_blank.Reads as free-blank-reads
+use Rattle.reading.proofs.free.tail_blank.Reads as tail-blank-reads
+
+tail-blank-requires : tie.Need-tail-blank-requires
+tail-blank-requires c κs = search needs
+
+returns : tie.Need-returns
+returns c = rw (c .before .if1 .taken) (c .tail-blank .ensures)
+
+free-blank-requires : tie.Need-free-blank-requires
+free-blank-requires c κs = search needs
+
+returns-2 : tie.Need-returns-2
+returns-2 c = rw (c .before .if1 .left) (c .free-blank .ensures)
+
+pub free-ok-spec : {M : Type 1} → statement M
+free-ok-spec = tie.close (tie.spec tail-blank-requires returns free-blank-requires returns-2)

@@ -1,0 +1,51 @@
+use mathlib.Core.Path.{_≡_, refl, sym, ap, ap₂, subst, _∙_}
+use mathlib.Core.Bool.{Bool, true, false}
+use Rattle.reading.specs.FreeLaws.{In-image, free-by, part-blank, part-empty, free-turned, free-first, free-both, tail-sector, tail-limit, limit-inside}
+use Prim.Native.Nat.{ℕ, _+_}
+use Rattle.spec.specs.Reading.{blank-part, limit}
+use native.Mathlib.Omega.{arith}
+use borrow.Author.Needs.{needs}
+use Rattle.reading.proofs.free.tail_blank.Statement.{statement}
+use Rattle.reading.proofs.free.tail_blank.Tie as tie
+use Rattle.reading.proofs.free.tail_blank.Reads as reads
+use Rattle.reading.proofs.free.tail_blank.Lts as lts
+use Rattle.reading.proofs.free.blank_part.Reads as blank-part-reads
+use Rattle.reading.proofs.free.floor.Reads as floor-reads
+use Rattle.reading.proofs.free.limit.Reads as limit-reads
+
+floor-requires : tie.Need-floor-requires
+floor-requires c κs = search needs
+
+add-end : tie.Need-add-end
+add-end c = omega (arith, c .before .before .pre .tail, c .before .before .pre .small)
+
+limit-requires : tie.Need-limit-requires
+limit-requires c κs = search needs
+
+blank-part-requires : tie.Need-blank-part-requires
+blank-part-requires c κs = omega (arith, c .before .limit .ensures, limit-inside (c .before .before .before .before .args .image .now) (c .before .before .before .before .args .p) _ (c .before .before .before .before .pre) refl)
+
+returns : tie.Need-returns
+returns c =
+    tail-sector (c .before .before .before .before .before .args .image .now) (c .before .before .before .before .before .args .p) _ (omega (arith, c .before .before .limit .ensures, c .before .before .before .floor .ensures .0))
+    (c .blank-part .ensures ∙ ap (λ (n : ℕ). blank-part (c .before .before .before .before .before .args .p .tail) (n + 4096) (c .before .before .before .before .before .args .image .now)) (c .before .before .before .floor .ensures .0))
+
+blank-part-requires-2 : tie.Need-blank-part-requires-2
+blank-part-requires-2 c κs = omega (arith, c .before .limit .ensures, limit-inside (c .before .before .before .before .args .image .now) (c .before .before .before .before .args .p) _ (c .before .before .before .before .pre) refl)
+
+returns-2 : tie.Need-returns-2
+returns-2 c =
+    tail-limit (c .before .before .before .before .before .args .image .now) (c .before .before .before .before .before .args .p) _ (omega (arith, c .before .before .limit .ensures, c .before .before .before .floor .ensures .0))
+    (c .blank-part2 .ensures ∙ ap (λ (n : ℕ). blank-part (c .before .before .before .before .before .args .p .tail) n (c .before .before .before .before .before .args .image .now)) (c .before .before .limit .ensures))
+
+pub tail-blank-spec : {M : Type 1} → statement M
+tail-blank-spec =
+    tie.close
+    (tie.spec
+    floor-requires
+    add-end
+    limit-requires
+    blank-part-requires
+    returns
+    blank-part-requires-2
+    returns-2)

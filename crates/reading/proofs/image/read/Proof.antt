@@ -1,0 +1,34 @@
+use mathlib.Core.Path.{_≡_, refl, sym, ap, ap₂, subst, _∙_}
+use mathlib.Core.Bool.{Bool, true, false}
+use Rattle.reading.specs.RuleLaws.{open-is, unsettled-1, unsettled-2, unsettled-3, unsettled-wrap, settled-but, reading-by, reading-refused}
+use Rattle.reading.specs.HeadLaws.{headed}
+use borrow.Author.Needs.{needs}
+use Rattle.reading.proofs.image.read.Statement.{statement}
+use Rattle.reading.proofs.image.read.Tie as tie
+use Rattle.reading.proofs.image.read.Reads as reads
+use Rattle.reading.proofs.image.read.Lts as lts
+use Rattle.reading.proofs.head.head.Reads as head-reads
+use Rattle.reading.proofs.image.read_from.Reads as read-from-reads
+
+head-requires : tie.Need-head-requires
+head-requires c κs = search needs
+
+enum-known-x : tie.Need-enum-known-x
+enum-known-x c = search needs
+
+read-from-requires : tie.Need-read-from-requires
+read-from-requires c κs = (rw (c .before .x .given .1) at (c .before .before .before .head .ensures .1), c .before .before .before .before .before .pre .0, c .before .before .before .before .before .pre .1)
+
+enum-known-x-2 : tie.Need-enum-known-x-2
+enum-known-x-2 c = search needs
+
+returns : tie.Need-returns
+returns c = (c .read-from .ensures .0 ∙ reading-by (c .before .before .before .before .before .before .args .image .now) (c .before .before .x .given .0 .0) (sym (ap headed (c .before .before .x .given .1)) ∙ c .before .before .before .before .head .ensures .0), c .read-from .ensures .1)
+
+returns-2 : tie.Need-returns-2
+returns-2 c = (reading-refused (c .before .before .before .before .before .args .image .now) (c .before .x2 .given .0 .0) (sym (ap headed (c .before .x2 .given .1)) ∙ c .before .before .before .head .ensures .0), tt)
+
+pub read-spec : {M : Type 1} → statement M
+read-spec =
+    tie.close
+    (tie.spec head-requires enum-known-x read-from-requires enum-known-x-2 returns returns-2)

@@ -1,0 +1,57 @@
+use mathlib.Core.Path.{_≡_, refl, sym, ap, ap₂, subst, _∙_}
+use mathlib.Core.Bool.{Bool, true, false}
+use Rattle.record.specs.Suffix.{flag, unflag}
+use Rattle.reading.specs.ReadLaws.{first-sound, read-as, surveyed, read-broken, read-record, settled-none, settled-by}
+use Rattle.reading.specs.Read.{Tallied, first-cursor, reading-of, Surveyed, answered, Told}
+use borrow.Author.Needs.{needs}
+use Rattle.reading.proofs.image.read_settled.Statement.{statement}
+use Rattle.reading.proofs.image.read_settled.Tie as tie
+use Rattle.reading.proofs.image.read_settled.Reads as reads
+use Rattle.reading.proofs.image.read_settled.Lts as lts
+use Rattle.reading.proofs.image.first_cursor.Reads as first-cursor-reads
+use Rattle.reading.proofs.image.read.Reads as read-reads
+use Rattle.reading.proofs.rules.settled.Reads as settled-reads
+
+read-requires : tie.Need-read-requires
+read-requires c κs = search needs
+
+enum-known-x : tie.Need-enum-known-x
+enum-known-x c = search needs
+
+enum-told : tie.Need-enum-told
+enum-told c = search needs
+
+returns : tie.Need-returns
+returns c =
+    let s = c .before .before .before .before .args .image .now in
+    rw (c .enum-told .given .1) (settled-none s (c .enum-told .given .0 .0) (sym (ap (answered s) (c .enum-told .given .1)) ∙ c .before .before .read .ensures .0), tt)
+
+first-cursor-requires : tie.Need-first-cursor-requires
+first-cursor-requires c κs = search needs
+
+settled-requires : tie.Need-settled-requires
+settled-requires c κs = (rw (c .before .before .before .x .given .1) at (c .before .before .before .before .before .read .ensures .1), c .first-cursor .ensures)
+
+returns-2 : tie.Need-returns-2
+returns-2 c =
+    let s = c .before .before .before .before .before .before .before .before .before .args .image .now in
+    ( settled-by s (reading-of s (c .before .before .before .before .before .x .given .0 .0)) true (sym (ap (answered s) (c .before .before .before .before .before .x .given .1)) ∙ c .before .before .before .before .before .before .before .read .ensures .0) (flag (c .before .settled .ensures) (c .if1 .taken))
+    , rw (c .before .before .before .before .before .x .given .1) at (c .before .before .before .before .before .before .before .read .ensures .1) )
+
+returns-3 : tie.Need-returns-3
+returns-3 c =
+    let s = c .before .before .before .before .before .before .before .before .before .args .image .now in
+    (settled-by s (reading-of s (c .before .before .before .before .before .x .given .0 .0)) false (sym (ap (answered s) (c .before .before .before .before .before .x .given .1)) ∙ c .before .before .before .before .before .before .before .read .ensures .0) (flag (c .before .settled .ensures) (c .if1 .left)), tt)
+
+pub read-settled-spec : {M : Type 1} → statement M
+read-settled-spec =
+    tie.close
+    (tie.spec
+    read-requires
+    enum-known-x
+    enum-told
+    returns
+    first-cursor-requires
+    settled-requires
+    returns-2
+    returns-3)

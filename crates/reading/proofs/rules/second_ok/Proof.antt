@@ -1,0 +1,65 @@
+use mathlib.Core.Path.{_≡_, refl, sym, ap, ap₂, subst, _∙_}
+use mathlib.Core.Bool.{Bool, true, false}
+use Rattle.record.specs.Suffix.{flag, unflag}
+use Rattle.reading.specs.RuleLaws.{second-plain, second-live, second-clean, second-start, count-is, fine-is, head-none, head-low, marks-none, marks-further, marks-second, second-none, second-low, open-is, legal-names, legal-single, legal-marks, legal-free, broken-refused, unsettled-1, unsettled-2, unsettled-3, unsettled-wrap, settled-but, reading-by, reading-refused}
+use borrow.Author.Tests.{eq-eqb, ne-eqb}
+use Prim.Native.Nat.{ℕ}
+use native.Mathlib.Nat.{add-zero}
+use lib.Seq.{getD-drop}
+use lib.Dec.{eqb}
+use Rattle.spec.specs.Bytes.{is-clean}
+use native.Mathlib.Omega.{arith}
+use borrow.Author.Needs.{needs}
+use Rattle.reading.proofs.rules.second_ok.Statement.{statement}
+use Rattle.reading.proofs.rules.second_ok.Tie as tie
+use Rattle.reading.proofs.rules.second_ok.Reads as reads
+use Rattle.reading.proofs.rules.second_ok.Lts as lts
+use Rattle.reading.proofs.files.is_live.Reads as is-live-reads
+use Rattle.reading.proofs.free.floor.Reads as floor-reads
+use Rattle.reading.proofs.scan.marked.Reads as marked-reads
+
+marked-requires : tie.Need-marked-requires
+marked-requires c κs = search needs
+
+is-live-requires : tie.Need-is-live-requires
+is-live-requires c κs = search needs
+
+returns : tie.Need-returns
+returns c = second-live _ _ _ (flag (c .before .before .before .marked .ensures) (c .before .before .if1 .taken)) (flag (c .before .is-live .ensures) (c .if2 .taken))
+
+shared-slice-read-if3 : tie.Need-shared-slice-read-if3
+shared-slice-read-if3 c = omega (arith, c .before .before .before .before .before .before .pre .2 .fits)
+
+returns-2 : tie.Need-returns-2
+unfolding is-clean
+returns-2 c =
+    second-clean _ _ _ (flag (c .before .before .before .before .before .marked .ensures) (c .before .before .before .before .if1 .taken)) (flag (c .before .before .before .is-live .ensures) (c .before .before .if2 .left)) (rw (getD-drop, add-zero) (eq-eqb _ _ (c .if3 .taken)))
+
+floor-requires : tie.Need-floor-requires
+floor-requires c κs = search needs
+
+floor-requires-2 : tie.Need-floor-requires-2
+floor-requires-2 c κs = search needs
+
+returns-3 : tie.Need-returns-3
+unfolding is-clean
+returns-3 c =
+    ap₂ (λ (a b : ℕ). eqb a b) (c .before .floor .ensures .0) (c .floor2 .ensures .0)
+    ∙ second-start _ _ _ (flag (c .before .before .before .before .before .before .before .marked .ensures) (c .before .before .before .before .before .before .if1 .taken)) (flag (c .before .before .before .before .before .is-live .ensures) (c .before .before .before .before .if2 .left)) (rw (getD-drop, add-zero) (ne-eqb _ _ (c .before .before .if3 .left)))
+
+returns-4 : tie.Need-returns-4
+returns-4 c = second-plain _ _ _ (flag (c .before .marked .ensures) (c .if1 .left))
+
+pub second-ok-spec : {M : Type 1} → statement M
+second-ok-spec =
+    tie.close
+    (tie.spec
+    marked-requires
+    is-live-requires
+    returns
+    shared-slice-read-if3
+    returns-2
+    floor-requires
+    floor-requires-2
+    returns-3
+    returns-4)

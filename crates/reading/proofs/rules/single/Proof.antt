@@ -1,0 +1,29 @@
+use Rattle.record.specs.Suffix.{flag, unflag}
+use Rattle.spec.specs.Reading.{single}
+use borrow.Author.Needs.{needs}
+use Rattle.reading.proofs.rules.single.Statement.{statement}
+use Rattle.reading.proofs.rules.single.Tie as tie
+use Rattle.reading.proofs.rules.single.Reads as reads
+use Rattle.reading.proofs.rules.single.Lts as lts
+use Rattle.reading.proofs.files.doubled.Reads as doubled-reads
+
+doubled-requires : tie.Need-doubled-requires
+doubled-requires c κs = search needs
+
+returns : tie.Need-returns
+unfolding single
+returns c = rw (single, flag (c .before .doubled .ensures) (c .if1 .taken))
+
+doubled-requires-2 : tie.Need-doubled-requires-2
+doubled-requires-2 c κs = search needs
+
+returns-2 : tie.Need-returns-2
+unfolding single
+returns-2 c = rw (single, flag (c .before .before .before .doubled .ensures) (c .before .before .if1 .left), flag (c .before .doubled2 .ensures) (c .if2 .taken))
+
+returns-3 : tie.Need-returns-3
+unfolding single
+returns-3 c = rw (single, flag (c .before .before .before .doubled .ensures) (c .before .before .if1 .left), flag (c .before .doubled2 .ensures) (c .if2 .left))
+
+pub single-spec : {M : Type 1} → statement M
+single-spec = tie.close (tie.spec doubled-requires returns doubled-requires-2 returns-2 returns-3)

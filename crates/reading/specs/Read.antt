@@ -1,0 +1,45 @@
+-- What the answers of a reading say in document 01's words.
+use Prim.Native.Nat.{ℕ, _≤_}
+use mathlib.Core.Path.{_≡_}
+use mathlib.Core.List.{List}
+use lib.ListN.{length}
+use Rattle.spec.specs.Basics.{Answer, refuse, give}
+use Rattle.spec.specs.Geometry.{floor}
+use Rattle.spec.specs.Record.{Entry}
+use Rattle.spec.specs.Chain.{Reading}
+use Rattle.reading.specs.declared.Cursor.{Cursor}
+use Rattle.reading.specs.declared.Tally.{Tally}
+use Rattle.reading.specs.declared.Survey.{Survey}
+use Rattle.reading.specs.declared.Read.{Read}
+use Rattle.reading.specs.Cursor.{Sound, start}
+use Rattle.reading.specs.Rest.{rest}
+use Rattle.reading.specs.Tally.{none-yet, tally, Spots}
+use Rattle.reading.specs.FreeLaws.{In-image}
+
+-- the cursor at the head h
+abbrev pub first-cursor : List ℕ → ℕ → Cursor
+first-cursor image h = start h (floor h) (length image)
+
+-- the reading that a survey stands for
+abbrev pub reading-of : List ℕ → Survey → Reading
+reading-of image s = record { place = s .place; entries = rest image (first-cursor image (s .place .head)) .entries; ending = s .ending }
+
+abbrev pub answered : List ℕ → Read → Answer Reading
+answered image (Read.Good s) = give (reading-of image s)
+answered image (Read.Refused n) = refuse n
+
+-- ---- what holds of a survey besides
+
+-- t is the tally of the chain from start on
+pub record Tallied (image : List ℕ) (start : Cursor) (t : Tally) : Type 0 where
+  pub sound : Sound image start
+  pub same : t ≡ tally none-yet (rest image start .entries)
+  pub spots : Spots image t
+
+pub record Surveyed (image : List ℕ) (s : Survey) : Type 0 where
+  pub tallied : Tallied image (first-cursor image (s .place .head)) (s .tally)
+  pub place : In-image image (s .place)
+
+abbrev pub Told : List ℕ → Read → Type 0
+Told image (Read.Good s) = Surveyed image s
+Told image (Read.Refused n) = Unit {0}

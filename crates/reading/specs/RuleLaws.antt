@@ -1,0 +1,167 @@
+-- The rules of a whole chain, from its tally, as the code goes through them.
+use Prim.Native.Nat.{ℕ, _+_, _≤_, _<_}
+use native.Mathlib.Omega.{arith}
+use native.Mathlib.Nat.{zero-add}
+use mathlib.Core.Path.{_≡_, refl, sym, ap, ap₂, subst, _∙_}
+use mathlib.Core.Bool.{Bool, true, false, _&&_, not}
+use mathlib.Core.List.{List, [], _∷_}
+use lib.ListN.{length}
+use lib.Dec.{eqb}
+use Rattle.spec.specs.declared.Ending.{Ending}
+use Rattle.spec.specs.declared.Place.{Place}
+use Rattle.spec.specs.Basics.{Answer, refuse, give, checked, onward, any, Each}
+use Rattle.spec.specs.Geometry.{floor}
+use Rattle.spec.specs.Bytes.{is-clean}
+use Rattle.spec.specs.Record.{Entry}
+use Rattle.spec.specs.Head.{head}
+use Rattle.spec.specs.Chain.{Reading, reading-from}
+use Rattle.spec.specs.Files.{live, doubled, superseded}
+use Rattle.spec.specs.Reading.{head-clean, free-blank, tail-blank, free-ok, whole, marked, second-ok, marks-ok, names-ok, single, legal, judged, reading}
+use Rattle.spec.specs.Mount.{settled}
+use Rattle.spec.specs.Answers.{if-settled, settled-reading}
+use Rattle.reading.specs.declared.Cursor.{Cursor}
+use Rattle.reading.specs.declared.Spot.{Spot}
+use Rattle.reading.specs.declared.Tally.{Tally}
+use Rattle.reading.specs.Rest.{rest, entry-of}
+use Rattle.reading.specs.Faithful.{Stands, faithful}
+use Rattle.reading.specs.Tally.{none-yet, tally, name-fine}
+use Rattle.reading.specs.TallyLaws.{tally-records, tally-fine, first-is, second-is, clean-few, clean-is, marks-few, marks-are, held-is}
+use Rattle.reading.specs.NamesLaw.{names-are}
+use Rattle.reading.specs.SettledLaws.{second-marked, last-open, wrap-torn, calm, settled-is}
+use Rattle.reading.specs.FreeLaws.{free-by}
+use Rattle.reading.specs.Read.{Tallied}
+
+-- ---- first and second record
+
+module _ (es : List Entry) (x y : Entry) where
+  pub second-plain : marked y ≡ false → true ≡ second-ok es x y
+  unfolding second-ok
+  second-plain m = rw (second-ok, m)
+
+  pub second-live : marked y ≡ true → live es x ≡ true → false ≡ second-ok es x y
+  unfolding second-ok
+  second-live m l = rw (second-ok, m, l)
+
+  pub second-clean : marked y ≡ true → live es x ≡ false → is-clean (y .it .low) ≡ true → true ≡ second-ok es x y
+  unfolding second-ok
+  second-clean m l k = rw (second-ok, m, l, k)
+
+  pub second-start : marked y ≡ true → live es x ≡ false → is-clean (y .it .low) ≡ false → eqb (floor (y .at)) (floor (x .at)) ≡ second-ok es x y
+  unfolding second-ok
+  second-start m l k = rw (second-ok, m, l, k)
+
+-- ---- what the tally of the whole chain says
+
+module _ {image : List ℕ} {start : Cursor} {t : Tally} (w : Tallied image start t) where
+  stands : Each (Stands image) (rest image start .entries)
+  stands = faithful image start (w .sound)
+
+  pub count-is : t .records ≡ length (rest image start .entries)
+  count-is = ap (λ (u : Tally). u .records) (w .same) ∙ tally-records none-yet (rest image start .entries) ∙ zero-add (length (rest image start .entries))
+
+  pub fine-is : t .fine ≡ names-ok (rest image start .entries)
+  fine-is = ap (λ (u : Tally). u .fine) (w .same) ∙ tally-fine none-yet (rest image start .entries) ∙ names-are (rest image start .entries)
+
+  pub head-none : t .records ≡ 0 → false ≡ head-clean (rest image start .entries)
+  head-none h = clean-few (rest image start .entries) (sym count-is ∙ h)
+
+  pub head-low : (t .records ≡ 0 → ⊥) → is-clean (entry-of image (t .first) .it .low) ≡ head-clean (rest image start .entries)
+  head-low h = clean-is image (rest image start .entries) t (w .same) stands (λ q. h (count-is ∙ q))
+
+  pub marks-none : t .records < 2 → true ≡ marks-ok (rest image start .entries)
+  marks-none h = marks-few (rest image start .entries) (omega (arith, count-is))
+
+  marks-all : 2 ≤ t .records → (not (t .further) && second-ok (rest image start .entries) (entry-of image (t .first)) (entry-of image (t .second))) ≡ marks-ok (rest image start .entries)
+  marks-all h = marks-are image (rest image start .entries) t (w .same) stands (omega (arith, count-is))
+
+  pub marks-further : 2 ≤ t .records → t .further ≡ true → false ≡ marks-ok (rest image start .entries)
+  marks-further h e = rw e at (marks-all h)
+
+  pub marks-second : 2 ≤ t .records → t .further ≡ false → second-ok (rest image start .entries) (entry-of image (t .first)) (entry-of image (t .second)) ≡ marks-ok (rest image start .entries)
+  marks-second h e = rw e at (marks-all h)
+
+  pub second-none : t .records < 2 → false ≡ second-marked (rest image start .entries)
+  second-none h = go (rest image start .entries) (omega (arith, count-is)) where
+    go : (es : List Entry) → length es < 2 → false ≡ second-marked es
+    go [] l = refl
+    go (x ∷ []) l = refl
+    go (x ∷ (y ∷ es)) l = absurd (omega arith)
+
+  pub second-low : 2 ≤ t .records → marked (entry-of image (t .second)) ≡ second-marked (rest image start .entries)
+  second-low h = go (rest image start .entries) (w .same) stands (omega (arith, count-is)) where
+    go : (es : List Entry) → t ≡ tally none-yet es → Each (Stands image) es → 2 ≤ length es → marked (entry-of image (t .second)) ≡ second-marked es
+    go [] q f l = absurd (omega arith)
+    go (x ∷ []) q f l = absurd (omega arith)
+    go (x ∷ (y ∷ es)) q f l =
+        ap (λ (u : Tally). marked (entry-of image (u .second))) q ∙ ap (λ (s : Spot). marked (entry-of image s)) (second-is x y es) ∙ ap marked (f .1 .0)
+
+  pub open-is : t .held ≡ last-open (rest image start .entries)
+  open-is = ap (λ (u : Tally). u .held) (w .same) ∙ go (rest image start .entries) where
+    go : (es : List Entry) → tally none-yet es .held ≡ last-open es
+    go [] = refl
+    go (e ∷ es) = held-is none-yet e es
+
+-- ---- all rules
+
+free-is : (image : List ℕ) (r : Reading) (t : Bool) → head-clean (r .entries) ≡ t → free-by t image (r .place) ≡ free-ok image r
+unfolding free-ok
+free-is image r true e = rw (free-ok, e)
+free-is image r false e = rw (free-ok, e)
+
+module _ (image : List ℕ) (r : Reading) (e : whole (r .ending) ≡ true) where
+  pub legal-names : names-ok (r .entries) ≡ false → false ≡ legal image r
+  unfolding legal
+  legal-names a = rw (legal, e, a)
+
+  pub legal-single : names-ok (r .entries) ≡ true → single (r .entries) ≡ false → false ≡ legal image r
+  unfolding legal
+  legal-single a b = rw (legal, e, a, b)
+
+  pub legal-marks : names-ok (r .entries) ≡ true → single (r .entries) ≡ true → marks-ok (r .entries) ≡ false → false ≡ legal image r
+  unfolding legal
+  legal-marks a b c = rw (legal, e, a, b, c)
+
+  pub legal-free : (k x : Bool) → names-ok (r .entries) ≡ true → single (r .entries) ≡ true → marks-ok (r .entries) ≡ true → k ≡ head-clean (r .entries) → x ≡ free-by k image (r .place)
+      → x ≡ legal image r
+  unfolding legal
+  legal-free k x a b c d f = rw (legal, e, a, b, c) (f ∙ free-is image r k (sym d))
+
+pub broken-refused : (image : List ℕ) (r : Reading) → whole (r .ending) ≡ false → refuse 5 ≡ judged image r
+unfolding judged legal
+broken-refused image r e = rw (judged, legal, e)
+
+-- ---- settled
+
+module _ (image : List ℕ) (r : Reading) where
+  pub unsettled-1 : head-clean (r .entries) ≡ true → false ≡ settled image r
+  unfolding calm
+  unsettled-1 a = sym (settled-is image r ∙ rw (calm, a))
+
+  module _ (a : head-clean (r .entries) ≡ false) where
+    pub unsettled-2 : second-marked (r .entries) ≡ true → false ≡ settled image r
+    unfolding calm
+    unsettled-2 b = sym (settled-is image r ∙ rw (calm, a, b))
+
+    module _ (b : second-marked (r .entries) ≡ false) where
+      pub unsettled-3 : last-open (r .entries) ≡ true → false ≡ settled image r
+      unfolding calm
+      unsettled-3 c = sym (settled-is image r ∙ rw (calm, a, b, c))
+
+      module _ (c : last-open (r .entries) ≡ false) where
+        pub unsettled-wrap : wrap-torn (r .ending) ≡ true → false ≡ settled image r
+        unfolding calm
+        unsettled-wrap d = sym (settled-is image r ∙ rw (calm, a, b, c, d))
+
+        pub settled-but : (x : Bool) → wrap-torn (r .ending) ≡ false → any (superseded (r .entries)) (r .entries) ≡ x → not x ≡ settled image r
+        unfolding calm
+        settled-but x d s = sym (settled-is image r ∙ rw (calm, a, b, c, d, s))
+
+-- ---- the whole reading
+
+pub reading-by : (image : List ℕ) (h : ℕ) → give h ≡ head image → judged image (reading-from image h) ≡ reading image
+unfolding reading
+reading-by image h e = ap (λ (a : Answer ℕ). onward a (λ (h : ℕ). judged image (reading-from image h))) e
+
+pub reading-refused : (image : List ℕ) (n : ℕ) → refuse n ≡ head image → refuse n ≡ reading image
+unfolding reading
+reading-refused image n e = ap (λ (a : Answer ℕ). onward a (λ (h : ℕ). judged image (reading-from image h))) e
