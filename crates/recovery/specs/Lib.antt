@@ -5,4 +5,8 @@ pub mod Close
 pub mod Ends
 pub mod Survey
 pub mod Repairs
+pub mod Free
+pub mod Pair
 pub mod Last
+pub mod Mending
+pub mod Mended

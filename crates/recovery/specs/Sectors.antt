@@ -66,7 +66,7 @@ erased-behind {s} a k h l d = ⊎-elim (λ e. ap (drop k) e ∙ erase-behind s a
 
 -- ---- a sector that is not all FF
 
-dirty-same : (s t : Image) (a : ℕ) → drop a t ≡ drop a s → dirty t a ≡ dirty s a
+pub dirty-same : (s t : Image) (a : ℕ) → drop a t ≡ drop a s → dirty t a ≡ dirty s a
 dirty-same s t a e =
     let w : (u : Image) → take (a + 4096 - a) (drop a u) ≡ drop a (take (a + 4096) u) = λ u. part-window a (a + 4096) u (omega arith) in
     ap (λ (l : List ℕ). not (blank l)) (sym (w t) ∙ ap (take (a + 4096 - a)) e ∙ w s)

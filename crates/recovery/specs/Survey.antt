@@ -26,6 +26,9 @@ Torn-inside N Ending.Tail = Unit {0}
 Torn-inside N (Ending.TornWrap a) = a + 8 ≤ N
 Torn-inside N Ending.Broken = Unit {0}
 
+pub torn-same : (N M : ℕ) (x : Ending) → M ≡ N → Torn-inside N x → Torn-inside M x
+torn-same N M x e t = rw e t
+
 pub record Seen (image : Image) (h : ℕ) (s : Survey) : Type 0 where
   pub surveyed : Surveyed image s
   pub same : reading-of image s ≡ reading-from image h

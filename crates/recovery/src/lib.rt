@@ -3,4 +3,13 @@
 mod survey;
 pub mod sectors;
 pub mod close;
+mod free;
+mod hand;
 mod last;
+use flash::Meter;
+
+// The head that a repair left, and the meter.
+pub struct Progress {
+    pub head: usize,
+    pub meter: Meter,
+}

@@ -1,3 +1,4 @@
+use Rattle.flash.specs.Did.{did-both}
 use borrow.Author.Needs.{needs}
 use Rattle.recovery.proofs.last.finish_marker.Statement.{statement}
 use Rattle.recovery.proofs.last.finish_marker.Tie as tie
@@ -27,7 +28,7 @@ same-length c = search needs
 
 -- src/last.rt:94:1
 returns : tie.Need-returns
-returns c = ?
+returns c = did-both (c .before .before .before .before .before .before .program .ensures) (c .before .before .program2 .ensures)
 
 pub finish-marker-spec : {M : Type 1} → statement M
 finish-marker-spec =

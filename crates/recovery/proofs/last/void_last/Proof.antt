@@ -1,3 +1,5 @@
+use lib.ListN.{length}
+use Rattle.recovery.specs.Survey.{torn-same}
 use native.Mathlib.Omega.{arith}
 use Rattle.recovery.specs.Last.{ended-last}
 use borrow.Author.Needs.{needs}
@@ -19,7 +21,7 @@ void-counted-requires c κs = (rw (← c .before .before .survey .ensures .head)
 
 -- src/last.rt:113:5
 finish-wrap-requires : tie.Need-finish-wrap-requires
-finish-wrap-requires c κs = ?
+finish-wrap-requires c κs = (torn-same (length (c .before .before .before .before .before .before .before .before .before .args .image .now)) (length (c .before .before .before .void-counted .last .0)) (c .before .before .before .before .before .before .survey .result .ending) (omega arith) (c .before .before .before .before .before .before .survey .ensures .torn), omega arith)
 
 -- src/last.rt:105:1
 same-length : tie.Need-same-length

@@ -41,7 +41,7 @@ told-requires-4 c κs = search needs
 
 -- src/survey.rt:33:1
 returns : tie.Need-returns
-returns c = ?
+returns c = let a = c .before .before .before .args in c .told .ensures ∙ ap (λ s. survey-of (a .n) (a .h) s (a .t)) (sym (c .before .enum-told .given .1))
 
 -- src/survey.rt:33:1
 returns-2 : tie.Need-returns-2
