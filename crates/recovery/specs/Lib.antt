@@ -10,3 +10,6 @@ pub mod Pair
 pub mod Last
 pub mod Mending
 pub mod Mended
+pub mod Counted
+pub mod Kept
+pub mod Trail

@@ -12,7 +12,7 @@ use Rattle.spec.specs.Geometry.{floor}
 use Rattle.spec.specs.Bytes.{is-start, is-clean}
 use Rattle.spec.specs.Record.{Entry, content-of, data-at}
 use Rattle.spec.specs.Chain.{Reading, reading-from}
-use Rattle.spec.specs.Move.{Work, begin, clean-steps, forget-steps, vacated, vacate-steps, close-steps}
+use Rattle.spec.specs.Move.{Work, begin, after, clean-steps, forget-steps, vacated, vacate-steps, close-steps}
 use Rattle.spec.specs.Mount.{repair-1, repair-2-on, repair-3, drop-steps, repair-4, mended}
 use Rattle.flash.specs.declared.Meter.{Meter}
 use Rattle.flash.specs.Did.{Did}
@@ -72,34 +72,31 @@ moves N h (x ∷ (y ∷ es)) = pair-moves N h x y _ _ refl refl
 -- ---- each repair, done or left undone
 
 module _ {s t : Image} {m r : Meter} {w : Work} {h : ℕ} (v : Mending s m w t h r) where
+  head-is : r .asked ≤ r .allowance → h ≤ length t → w .reading .place .head ≡ h
+  head-is l i = ap (λ (x : Reading). x .place .head) (v .done l .reading) ∙ place-head t h i
+
   module _ {u : Image} {q : Meter} (l : r .asked ≤ r .allowance) (i : h ≤ length t) where
-    done : Done m w t h r
-    done = v .done l
-
-    head-is : w .reading .place .head ≡ h
-    head-is = ap (λ (x : Reading). x .place .head) (done .reading) ∙ place-head t h i
-
     pub repaired-1 : Did t r (steps-1 t (reading-from t h)) u q → Mending s m (repair-1 w) u h q
     repaired-1 d =
-        rw (repair-1-is w, head-is)
-        (mending-more v (steps-1 (w .image) (w .reading)) h l (rw (ap₂ steps-1 (done .image) (done .reading)) d) (inr refl))
+        rw (repair-1-is w ∙ ap (after w (steps-1 (w .image) (w .reading))) (head-is l i))
+        (mending-more v (steps-1 (w .image) (w .reading)) h l (rw (ap₂ steps-1 (v .done l .image) (v .done l .reading)) d) (inr refl))
 
     pub repaired-3 : Did t r (steps-3 t (reading-from t h)) u q → Mending s m (repair-3 w) u h q
     repaired-3 d =
-        rw (repair-3-is w, head-is)
-        (mending-more v (steps-3 (w .image) (w .reading)) h l (rw (ap₂ steps-3 (done .image) (done .reading)) d) (inr refl))
+        rw (repair-3-is w ∙ ap (after w (steps-3 (w .image) (w .reading))) (head-is l i))
+        (mending-more v (steps-3 (w .image) (w .reading)) h l (rw (ap₂ steps-3 (v .done l .image) (v .done l .reading)) d) (inr refl))
 
     pub repaired-4 : Did t r (drop-steps (reading-from t h .entries)) u q → Mending s m (repair-4 w) u h q
     repaired-4 d =
-        rw (repair-4-is w, head-is)
-        (mending-more v (drop-steps (w .reading .entries)) h l (rw (ap (λ (x : Reading). drop-steps (x .entries)) (done .reading)) d) (inr refl))
+        rw (repair-4-is w ∙ ap (after w (drop-steps (w .reading .entries))) (head-is l i))
+        (mending-more v (drop-steps (w .reading .entries)) h l (rw (ap (λ (x : Reading). drop-steps (x .entries)) (v .done l .reading)) d) (inr refl))
 
     pub repaired-2 : (k : ℕ) → Handed t h r u k q → Mending s m (repair-2-on w) u k q
     repaired-2 k d =
         let N : ℕ = w .reading .place .length in
         let es : List Entry = w .reading .entries in
-        let n : N ≡ length t = ap (λ (x : Reading). x .place .length) (done .reading) ∙ place-length t h i in
-        let e : es ≡ reading-from t h .entries = ap (λ (x : Reading). x .entries) (done .reading) in
+        let n : N ≡ length t = ap (λ (x : Reading). x .place .length) (v .done l .reading) ∙ place-length t h i in
+        let e : es ≡ reading-from t h .entries = ap (λ (x : Reading). x .entries) (v .done l .reading) in
         let a : head-2 h es ≡ k = ap (head-2 h) e ∙ sym (d .handed) in
         rw (repair-2-is w h es, a)
         (mending-more v (steps-2 N es) k l (rw (ap₂ steps-2 n e) (d .did)) (rw (← a) (moves N h es)))
