@@ -13,3 +13,5 @@ pub mod Mended
 pub mod Counted
 pub mod Kept
 pub mod Trail
+pub mod Path
+pub mod Drop

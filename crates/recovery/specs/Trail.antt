@@ -184,11 +184,11 @@ resettled s t v x e behind w l u =
     ap (settle t v) l
     ∙ ap₂ Step.Record (ap (λ (i : ℕ). record { at = i; n = e .n; d = e .d }) (sym (w .place))) (ap (past v (size-of (e .n) (e .d))) u ∙ sym (w .moved))
 
-here-again : (s t : Image) (c : Cursor) (e : Spot) (behind : Cursor) → Stood s c (look s c) e behind → look t c ≡ Next.Record (e .n) (e .d) → unfinished-at t (c .at) ≡ unfinished-at s (c .at)
+pub here-again : (s t : Image) (c : Cursor) (e : Spot) (behind : Cursor) → Stood s c (look s c) e behind → look t c ≡ Next.Record (e .n) (e .d) → unfinished-at t (c .at) ≡ unfinished-at s (c .at)
     → advance t c ≡ Step.Record e behind
 here-again s t c e behind w l u = advance-here t c (ap (goes-on (c .room)) l) ∙ resettled s t c (look s c) e behind w l u
 
-there-again : (s t : Image) (c : Cursor) (e : Spot) (behind : Cursor) → goes-on (c .room) (look s c) ≡ true → look t c ≡ look s c
+pub there-again : (s t : Image) (c : Cursor) (e : Spot) (behind : Cursor) → goes-on (c .room) (look s c) ≡ true → look t c ≡ look s c
     → Stood s (turn (c .room) (c .held)) (look s (turn (c .room) (c .held))) e behind → look t (turn (c .room) (c .held)) ≡ Next.Record (e .n) (e .d)
     → unfinished-at t 0 ≡ unfinished-at s 0 → advance t c ≡ Step.Record e behind
 there-again s t c e behind g k w l u =

@@ -1,3 +1,8 @@
+use native.Mathlib.Omega.{arith}
+use Rattle.record.specs.Suffix.{flag}
+use Rattle.flash.specs.Did.{did-none}
+use Rattle.reading.specs.Rest.{rest, entry-of}
+use Rattle.recovery.specs.Drop.{drop-this, drop-none}
 use borrow.Author.Needs.{needs}
 use Rattle.recovery.proofs.superseded.drop_one.Statement.{statement}
 use Rattle.recovery.proofs.superseded.drop_one.Tie as tie
@@ -24,7 +29,7 @@ same-length c = search needs
 
 -- src/superseded.rt:30:9
 returns : tie.Need-returns
-returns c = ?
+returns c = let a = c .before .before .before .before .before .before .before .before .before .args in (rw (drop-this (a .image .now) (rest (a .image .now) (a .start) .entries) (entry-of (a .image .now) (a .e)) (flag (c .before .before .before .before .before .before .is-superseded .ensures) (c .before .before .before .before .before .if1 .taken))) (c .before .before .program .ensures), omega arith)
 
 -- src/superseded.rt:25:1
 same-length-2 : tie.Need-same-length-2
@@ -32,7 +37,7 @@ same-length-2 c = search needs
 
 -- src/superseded.rt:25:1
 returns-2 : tie.Need-returns-2
-returns-2 c = ?
+returns-2 c = let a = c .before .before .before .before .args in (rw (drop-none (a .image .now) (rest (a .image .now) (a .start) .entries) (entry-of (a .image .now) (a .e)) (flag (c .before .is-superseded .ensures) (c .if1 .left))) (did-none (a .image .now) (a .m)), omega arith)
 
 pub drop-one-spec : {M : Type 1} → statement M
 drop-one-spec =
