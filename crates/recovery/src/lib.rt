@@ -28,7 +28,7 @@ pub struct Progress {
 
 // The four repairs. The next one reads what those before it left, so none begins once the allowance is used up.
 fn repair(image: &mut [u8], head: usize, m: Meter) -> Progress
-    requires { ⌜ (head < length (now image)) × (16 ≤ length (now image)) × (length (now image) ≤ 2 ^ 24) × (m .asked ≤ 2 ^ 24) ⌝ }
+    requires { ⌜ (head < length (now image)) × (16 ≤ length (now image)) × (length (now image) ≤ 2 ^ 24) × (m .asked ≤ 2 ^ 24) × (m .asked ≤ m .allowance) ⌝ }
     ensures { λ r. ⌜ Mends (now (image .entry)) head m (now (image .exit)) (r .head) (r .meter) × (r .head < length (now (image .entry))) ⌝ }
 {
     let a = erase_free(image, head, m);
@@ -67,7 +67,7 @@ pub struct Mended {
 
 // Mount, on an image that was read from this head.
 pub fn mend(image: &mut [u8], head: usize, m: Meter) -> Mended
-    requires { ⌜ (head < length (now image)) × (16 ≤ length (now image)) × (length (now image) ≤ 2 ^ 24) × (m .asked ≤ 2 ^ 24) ⌝ }
+    requires { ⌜ (head < length (now image)) × (16 ≤ length (now image)) × (length (now image) ≤ 2 ^ 24) × (m .asked ≤ 2 ^ 24) × (m .asked ≤ m .allowance) ⌝ }
     ensures { λ r. ⌜ Counted (now (image .entry)) head m (now (image .exit)) r ⌝ }
 {
     let p = repair(image, head, m);

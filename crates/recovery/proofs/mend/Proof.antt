@@ -1,3 +1,10 @@
+use mathlib.Core.Path.{ap, _∙_}
+use native.Mathlib.Omega.{arith}
+use lib.ListN.{length}
+use Rattle.spec.specs.Files.{files}
+use Rattle.reading.specs.Rest.{rest}
+use Rattle.reading.specs.ReadLaws.{first-sound}
+use Rattle.recovery.specs.Counted.{counted-cut, counted-done}
 use borrow.Author.Needs.{needs}
 use Rattle.recovery.proofs.mend.Statement.{statement}
 use Rattle.recovery.proofs.mend.Tie as tie
@@ -30,7 +37,7 @@ first-cursor-requires c κs = search needs
 
 -- src/lib.rt:88:16
 count-files-requires : tie.Need-count-files-requires
-count-files-requires c κs = ?
+count-files-requires c κs = rw (c .first-cursor .ensures) (first-sound (c .before .before .before .before .before .before .before .before .before .before .repair .last .0) (c .before .before .before .before .before .before .before .before .before .before .repair .result .head) (omega (arith, c .before .before .before .before .before .before .before .before .before .before .repair .ensures .1)) (omega (arith, c .before .before .before .before .before .before .before .before .before .before .before .before .before .pre .2)))
 
 -- src/lib.rt:69:1
 same-length-2 : tie.Need-same-length-2
@@ -38,7 +45,7 @@ same-length-2 c = search needs
 
 -- src/lib.rt:69:1
 returns-2 : tie.Need-returns-2
-returns-2 c = ?
+returns-2 c = counted-done (c .before .before .before .before .before .before .before .before .before .before .before .repair .ensures .0) (c .before .before .before .before .survey .result) (c .count-files .result) (c .before .before .before .before .before .before .if1 .left) (c .before .before .before .before .survey .ensures) (c .count-files .ensures ∙ ap (λ k. length (files (rest (c .before .before .before .before .before .before .before .before .before .before .before .repair .last .0) k .entries))) (c .before .first-cursor .ensures))
 
 pub mend-spec : {M : Type 1} → statement M
 mend-spec =
