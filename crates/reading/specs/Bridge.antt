@@ -27,7 +27,7 @@ use Rattle.reading.specs.Rest.{Run, entry-of, ahead, done, followed, res
 cut : (a n m : ℕ) (s : List ℕ) → a + n ≤ m → take n (drop a (take m s)) ≡ take n (drop a s)
 cut a n m s h = rw (sym (part-window a m s (omega arith))) (take-take n (m - a) (drop a s) (omega arith))
 
-rec-part : (m n d : ℕ) (s : List ℕ) → size-of n d ≤ m → rec-of (take m s) n d ≡ rec-of s n d
+pub rec-part : (m n d : ℕ) (s : List ℕ) → size-of n d ≤ m → rec-of (take m s) n d ≡ rec-of s n d
 rec-part m n d s h =
     rw (getD-take m s 0 0 (omega arith), getD-take m s 2 0 (omega arith), cut 8 n m s (omega arith), drop-drop (up8 (n + 1)) 8 (take m s), cut (8 + up8 (n + 1)) d m s (omega arith), drop-drop (up8 (n + 1)) 8 s)
 

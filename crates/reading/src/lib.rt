@@ -1,13 +1,13 @@
 // Reading an image: its head, its chain, its files, whether it breaks a rule, whether it is settled.
 // Everything here only looks, and nothing passes over data bytes but the check of the free run.
-mod chain;
+pub mod chain;
 pub mod files;
-mod free;
+pub mod free;
 mod head;
 pub mod image;
 pub mod largest;
 mod rules;
-mod scan;
+pub mod scan;
 
 use spec::Ending;
 use spec::Place;

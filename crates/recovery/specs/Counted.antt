@@ -1,0 +1,56 @@
+-- What mount answers once its repairs are done.
+use Prim.Native.Nat.{ℕ, _+_, _-_, _≤_, _<_}
+use native.Mathlib.Omega.{arith}
+use mathlib.Core.Path.{_≡_, refl, sym, ap, _∙_}
+use mathlib.Core.List.{List}
+use lib.ListN.{length, take}
+use Rattle.spec.specs.Step.{Image, run}
+use Rattle.spec.specs.Record.{Entry}
+use Rattle.spec.specs.Chain.{Reading, reading-from}
+use Rattle.spec.specs.Files.{files}
+use Rattle.spec.specs.Move.{Work}
+use Rattle.spec.specs.Mount.{mended}
+use Rattle.flash.specs.declared.Meter.{Meter}
+use Rattle.reading.specs.declared.Survey.{Survey}
+use Rattle.reading.specs.Rest.{rest}
+use Rattle.reading.specs.Read.{first-cursor, reading-of}
+use Rattle.recovery.specs.declared.Mended.{Mended}
+use Rattle.recovery.specs.Survey.{Seen}
+use Rattle.recovery.specs.Mending.{Mending, Done}
+use Rattle.recovery.specs.Mended.{Mends, place-head}
+
+-- the numbers of the reading that the repairs leave
+pub record Numbered (w : Work) (m : Meter) (r : Mended) : Type 0 where
+  pub count : r .meter .asked ≡ m .asked + length (w .steps)
+  pub head : r .head ≡ w .reading .place .head
+  pub tail : r .tail ≡ w .reading .place .tail
+  pub files : r .files ≡ length (files (w .reading .entries))
+
+-- the repairs on s, read from h on, gave t: all of them, with their numbers, or their first steps up to the allowance
+pub record Counted (s : Image) (h : ℕ) (m : Meter) (t : Image) (r : Mended) : Type 0 where
+  pub bytes : t ≡ run s (take (m .allowance - m .asked) (mended s (reading-from s h) .steps))
+  pub same : r .meter .allowance ≡ m .allowance
+  pub done : r .meter .asked ≤ r .meter .allowance → Numbered (mended s (reading-from s h)) m r
+  pub cut : r .meter .allowance < r .meter .asked → m .allowance < m .asked + length (mended s (reading-from s h) .steps)
+
+module _ {s t : Image} {h k : ℕ} {m q : Meter} (w : Mends s h m t k q) where
+  pub counted-cut : q .allowance < q .asked → Counted s h m t (record { head = 0; tail = 0; files = 0; meter = q })
+  counted-cut l = record { bytes = w .mending .bytes; same = w .mending .same; done = λ b. absurd (omega arith); cut = w .mending .cut }
+
+  pub counted-done : (v : Survey) (n : ℕ) → q .asked ≤ q .allowance → Seen t k v → n ≡ length (files (rest t (first-cursor t k) .entries))
+      → Counted s h m t (record { head = k; tail = v .place .tail; files = n; meter = q })
+  counted-done v n l f e =
+      let d = w .mending .done l in
+      let r : mended s (reading-from s h) .reading ≡ reading-of t v = d .reading ∙ sym (f .same) in
+      record {
+        bytes = w .mending .bytes;
+        same = w .mending .same;
+        done =
+          λ b. record {
+            count = d .count;
+            head = sym (ap (λ (x : Reading). x .place .head) r ∙ f .head);
+            tail = sym (ap (λ (x : Reading). x .place .tail) r);
+            files = e ∙ sym (ap (λ (x : Reading). length (files (x .entries))) r ∙ ap (λ (i : ℕ). length (files (rest t (first-cursor t i) .entries))) (f .head))
+          };
+        cut = w .mending .cut;
+      }

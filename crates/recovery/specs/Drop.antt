@@ -1,0 +1,223 @@
+-- Repair 4: deleting a superseded record changes neither the chain nor which others are superseded.
+use Prim.Native.Nat.{ℕ, _+_, _-_, _≤_, _<_}
+use native.Mathlib.Omega.{arith}
+use mathlib.Core.Path.{_≡_, refl, sym, ap, ap₂, subst, _∙_}
+use mathlib.Core.Logic.{_⊎_, inl, inr, ⊎-elim}
+use mathlib.Core.Bool.{Bool, true, false, _&&_, not}
+use mathlib.Core.List.{List, [], _∷_, _++_, map}
+use lib.ListN.{length, take, drop, set, getD, length-set}
+use lib.Seq.{take-nil, getD-drop, getD-set-same}
+use lib.Dec.{eqb}
+use borrow.Author.Tests.{eqb-true, ne-eqb}
+use Rattle.spec.specs.Step.{Image, Step, program, run}
+use Rattle.spec.specs.Basics.{any, keep, empty}
+use Rattle.spec.specs.Bytes.{is-unfinished, is-erased, is-reserved}
+use Rattle.spec.specs.Record.{Entry, name-of, size-of}
+use Rattle.spec.specs.Chain.{Reading, reading-from}
+use Rattle.spec.specs.Files.{named, named-as, has-named, superseded, same-name}
+use Rattle.spec.specs.Mount.{delete-step, drop-steps}
+use Rattle.flash.specs.declared.Meter.{Meter}
+use Rattle.flash.specs.Did.{Did, did-none}
+use Rattle.reading.specs.declared.Cursor.{Cursor}
+use Rattle.reading.specs.declared.Spot.{Spot}
+use Rattle.reading.specs.declared.Step.{Step as Chain-step}
+use Rattle.reading.specs.Cursor.{Sound, look, goes-on, turn, unfinished-at, advance}
+use Rattle.reading.specs.Rest.{Run, entry-of, followed, rest, rest-step}
+use Rattle.reading.specs.Fold.{Turned, Not-record, rest-done}
+use Rattle.reading.specs.Bridge.{shown, reading-is}
+use Rattle.reading.specs.Read.{first-cursor}
+use Rattle.recovery.specs.Toward.{Toward, toward-more, toward-end, did-one}
+use Rattle.recovery.specs.Trail.{Stood, way, stood-fits, Tidy, Ahead, tidy-next, window-kept, look-dropped, here-again, there-again}
+use Rattle.recovery.specs.Path.{Path, here, path-snoc, rest-path, path-tidy, path-kept, Passed, rest-kept}
+
+-- ---- the steps of one record, and of the others
+
+abbrev pick : Bool → Entry → List Entry → List Entry
+pick t e es = elim t [ true ↦ e ∷ es | false ↦ es ]
+
+pick-first : (t : Bool) (e : Entry) (es : List Entry) → map delete-step (pick t e es) ≡ map delete-step (pick t e []) ++ map delete-step es
+pick-first true e es = refl
+pick-first false e es = refl
+
+any-replace : (p : Entry → Bool) (before : List Entry) (e f : Entry) (es : List Entry) → p e ≡ p f → any p (before ++ (e ∷ es)) ≡ any p (before ++ (f ∷ es))
+any-replace p [] e f es h = ap (λ (t : Bool). elim t [ true ↦ true | false ↦ any p es ]) h
+any-replace p (x ∷ before) e f es h = ap (λ (b : Bool). elim (p x) [ true ↦ true | false ↦ b ]) (any-replace p before e f es h)
+
+and-first : (a b : Bool) → (a && b) ≡ true → a ≡ true
+and-first true b h = refl
+and-first false b h = h
+
+unnamed : (st : ℕ) (e : Entry) → (e .it .status ≡ st → ⊥) → named st e ≡ false
+unfolding named
+unnamed st e h = ap (λ (t : Bool). t && not (empty (name-of e))) (ne-eqb (e .it .status) st h)
+
+-- a superseded record is F8
+old-status : (t : Image) (es : List Entry) (e : Spot) → superseded es (entry-of t e) ≡ true → getD t (e .at + 2) 0 ≡ 0xF8
+unfolding superseded named
+old-status t es e h =
+    let f : named 0xF8 (entry-of t e) ≡ true = and-first (named 0xF8 (entry-of t e)) (has-named 0xFC es (entry-of t e)) h in
+    sym (getD-drop (e .at) t 2 0)
+    ∙ eqb-true (entry-of t e .it .status) 0xF8 (and-first (eqb (entry-of t e .it .status) 0xF8) (not (empty (name-of (entry-of t e)))) f)
+
+-- ---- what a step of the loop needs of the image u that it leaves
+
+pub record Still (t u : Image) (start : Cursor) (before : List Entry) (e : Spot) (behind : Cursor) : Type 0 where
+  pub later : rest u behind .entries ≡ rest t behind .entries
+  pub named : (x : Entry) → has-named 0xFC (rest u start .entries) x ≡ has-named 0xFC (rest t start .entries) x
+  pub path : Path u start (before ++ (entry-of u e ∷ [])) behind
+
+rest-here : (image : Image) (c : Cursor) (e : Spot) (behind : Cursor) → advance image c ≡ Chain-step.Record e behind → rest image c .entries ≡ entry-of image e ∷ rest image behind .entries
+rest-here image c e behind h = ap (λ (r : Run). r .entries) (rest-step image c ∙ ap (λ (x : Chain-step). followed image x (rest image)) h)
+
+module _ (t : Image) (start c : Cursor) (before : List Entry) (e : Spot) (behind : Cursor)
+    (p : Path t start before c) (tidy : Tidy start) (h : advance t c ≡ Chain-step.Record e behind) where
+  still-same : Still t t start before e behind
+  still-same = record { later = refl; named = λ x. refl; path = path-snoc e p h }
+
+  module _ (fits : e .at + size-of (e .n) (e .d) ≤ length t) (old : getD t (e .at + 2) 0 ≡ 0xF8) where
+    tidy-c : Tidy c
+    tidy-c = path-tidy p tidy
+
+    ahead : Ahead c (e .at + 2)
+    ahead =
+        ⊎-elim
+        (λ w. inl (omega (arith, w .1 .place), omega (arith, w .1 .place, tidy-c .ordered, stood-fits t e behind c (w .1))))
+        (λ w. inr (omega (arith, w .1 .place, stood-fits t e behind (turn (c .room) (c .held)) (w .1))))
+        (way t e behind c h)
+
+    finished : (i : ℕ) → e .at ≡ i → unfinished-at (set t (i + 2) 0) i ≡ unfinished-at t i
+    unfolding is-unfinished is-erased is-reserved
+    finished i q =
+        ap is-unfinished (getD-drop i (set t (i + 2) 0) 2 0 ∙ getD-set-same t (i + 2) 0 0 (omega arith))
+        ∙ sym (ap is-unfinished (getD-drop i t 2 0 ∙ ap (λ (k : ℕ). getD t (k + 2) 0) (sym q) ∙ old))
+
+    step-again : advance (set t (e .at + 2) 0) c ≡ Chain-step.Record e behind
+    step-again =
+        ⊎-elim
+        (λ w.
+          let q : e .at ≡ c .at = w .1 .place in
+          ap (λ (i : ℕ). advance (set t (i + 2) 0) c) q
+          ∙ (here-again t (set t (c .at + 2) 0) c e behind (w .1)
+          (look-dropped t c (e .n) (e .d) (w .1 .what) (omega arith) (ap (λ (k : ℕ). getD t (k + 2) 0) (sym q) ∙ old)) (finished (c .at) q)))
+        (λ w.
+          let q : e .at ≡ 0 = w .1 .place in
+          let f = stood-fits t e behind (turn (c .room) (c .held)) (w .1) in
+          ap (λ (i : ℕ). advance (set t (i + 2) 0) c) q
+          ∙ (there-again t (set t (0 + 2) 0) c e behind (w .0) (window-kept t (0 + 2) 0 c (tidy-c .ordered) (inl (omega (arith, tidy-c .apart, f)))) (w .1)
+          (look-dropped t (turn (c .room) (c .held)) (e .n) (e .d) (w .1 .what) (omega arith) (ap (λ (k : ℕ). getD t (k + 2) 0) (sym q) ∙ old)) (finished 0 q)))
+        (way t e behind c h)
+
+    behind-passed : Passed behind (e .at + 2)
+    behind-passed =
+        ⊎-elim
+        (λ w. rw (w .1 .moved) (record { before = inl (omega (arith, w .1 .place)); low = omega (arith, w .1 .place, tidy-c .apart) }))
+        (λ w. rw (w .1 .moved) (record { before = inl (omega (arith, w .1 .place)); low = omega arith }))
+        (way t e behind c h)
+
+    status-now : entry-of (set t (e .at + 2) 0) e .it .status ≡ 0
+    status-now = getD-drop (e .at) (set t (e .at + 2) 0) 2 0 ∙ getD-set-same t (e .at + 2) 0 0 (omega arith)
+
+    status-was : entry-of t e .it .status ≡ 0xF8
+    status-was = getD-drop (e .at) t 2 0 ∙ old
+
+    rest-same : rest (set t (e .at + 2) 0) behind ≡ rest t behind
+    rest-same = rest-kept t (e .at + 2) 0 behind (tidy-next t c e behind tidy-c h) behind-passed
+
+    still-named : (x : Entry) → has-named 0xFC (rest (set t (e .at + 2) 0) start .entries) x ≡ has-named 0xFC (rest t start .entries) x
+    unfolding has-named
+    still-named x =
+        let v : Image = set t (e .at + 2) 0 in
+        let new : rest v start .entries ≡ before ++ (entry-of v e ∷ rest t behind .entries) =
+              rest-path (path-kept t (e .at + 2) 0 p tidy ahead .1)
+              ∙ ap (λ (l : List Entry). before ++ l) (rest-here v c e behind step-again ∙ ap (λ (r : Run). entry-of v e ∷ r .entries) rest-same) in
+        let was : rest t start .entries ≡ before ++ (entry-of t e ∷ rest t behind .entries) =
+              rest-path p ∙ ap (λ (l : List Entry). before ++ l) (rest-here t c e behind h) in
+        let no : named-as 0xFC x (entry-of v e) ≡ named-as 0xFC x (entry-of t e) =
+              ap (λ (b : Bool). b && same-name x (entry-of v e)) (unnamed 0xFC (entry-of v e) (λ q. omega (arith, status-now)))
+              ∙ sym (ap (λ (b : Bool). b && same-name x (entry-of t e)) (unnamed 0xFC (entry-of t e) (λ q. omega (arith, status-was)))) in
+        ap (any (named-as 0xFC x)) new ∙ any-replace (named-as 0xFC x) before (entry-of v e) (entry-of t e) (rest t behind .entries) no ∙ sym (ap (any (named-as 0xFC x)) was)
+
+    still-dropped : Still t (set t (e .at + 2) 0) start before e behind
+    still-dropped =
+        record {
+          later = ap (λ (r : Run). r .entries) rest-same;
+          named = still-named;
+          path = path-snoc e (path-kept t (e .at + 2) 0 p tidy ahead .1) step-again
+        }
+
+-- ---- the loop
+
+pub record Dropping (s : Image) (start : Cursor) (m : Meter) (t : Image) (c : Cursor) (q : Meter) : Type 0 where
+  pub left : Toward s m (drop-steps (rest s start .entries)) t q (map delete-step (keep (superseded (rest s start .entries)) (rest t c .entries)))
+  pub same : (x : Entry) → has-named 0xFC (rest t start .entries) x ≡ has-named 0xFC (rest s start .entries) x
+  pub before : List Entry
+  pub path : Path t start before c
+
+pub dropping-start : (s : Image) (start : Cursor) (m : Meter) → Dropping s start m s start m
+unfolding drop-steps
+dropping-start s start m = record { left = λ u r f. f; same = λ x. refl; before = []; path = here }
+
+module _ {s t : Image} {start c : Cursor} {m q : Meter} (w : Dropping s start m t c q) where
+  judged : (x : Entry) → superseded (rest t start .entries) x ≡ superseded (rest s start .entries) x
+  unfolding superseded
+  judged x = ap (λ (b : Bool). named 0xF8 x && b) (w .same x)
+
+  dropping-on : {u : Image} {r : Meter} (e : Spot) (behind : Cursor) → advance t c ≡ Chain-step.Record e behind → Still t u start (w .before) e behind
+      → Did t q (map delete-step (keep (superseded (rest t start .entries)) (entry-of t e ∷ []))) u r → Dropping s start m u behind r
+  dropping-on {u} {r} e behind h k d =
+      let p = superseded (rest s start .entries) in
+      let f : map delete-step (keep p (rest t c .entries)) ≡ map delete-step (keep (superseded (rest t start .entries)) (entry-of t e ∷ [])) ++ map delete-step (keep p (rest u behind .entries)) =
+            ap (λ (l : List Entry). map delete-step (keep p l)) (rest-here t c e behind h)
+            ∙ pick-first (p (entry-of t e)) (entry-of t e) (keep p (rest t behind .entries))
+            ∙ ap₂ (λ (b : Bool) (l : List Entry). map delete-step (pick b (entry-of t e) []) ++ map delete-step (keep p l)) (sym (judged (entry-of t e))) (sym (k .later)) in
+      record {
+        left = toward-more (w .left) f d;
+        same = λ x. k .named x ∙ w .same x;
+        before = w .before ++ (entry-of u e ∷ []);
+        path = k .path
+      }
+
+  pub dropping-more : {u : Image} {r : Meter} (e : Spot) (behind : Cursor) → Tidy start → advance t c ≡ Chain-step.Record e behind → e .at + size-of (e .n) (e .d) ≤ length t
+      → Did t q (map delete-step (keep (superseded (rest t start .entries)) (entry-of t e ∷ []))) u r → Dropping s start m u behind r
+  dropping-more {u} {r} e behind tidy h fits d = dropping-on e behind h (go _ refl) d where
+    still : u ≡ t → Still t u start (w .before) e behind
+    still k = rw k (still-same t start c (w .before) e behind (w .path) tidy h)
+    done : (b : Bool) → superseded (rest t start .entries) (entry-of t e) ≡ b → Did t q (map delete-step (pick b (entry-of t e) [])) u r
+    done b g = subst (λ (x : Bool). Did t q (map delete-step (pick x (entry-of t e) [])) u r) g d
+    go : (b : Bool) → superseded (rest t start .entries) (entry-of t e) ≡ b → Still t u start (w .before) e behind
+    go true g =
+        ⊎-elim
+        (λ (k : u ≡ set t (e .at + 2) 0). rw k (still-dropped t start c (w .before) e behind (w .path) tidy h fits (old-status t (rest t start .entries) e g)))
+        still
+        (did-one (done true g))
+    go false g = still (done false g .bytes ∙ ap (run t) (take-nil (q .allowance - q .asked)))
+
+  pub dropping-end : (r : Chain-step) → r ≡ advance t c → Not-record r → Did s m (drop-steps (rest s start .entries)) t q
+  dropping-end r e z = toward-end (w .left) (ap (λ (x : Run). map delete-step (keep (superseded (rest s start .entries)) (x .entries))) (rest-done t c r e z))
+
+-- ---- from the head on
+
+pub sound-same : (s t : Image) (c : Cursor) → Sound s c → length t ≡ length s → Sound t c
+sound-same s t c w e = record { ordered = w .ordered; inside = rw e (w .inside); room = rw e (w .room); small = rw e (w .small) }
+
+pub tidy-first : (s : Image) (h : ℕ) → h ≤ length s → Tidy (first-cursor s h)
+tidy-first s h l = record { ordered = l; apart = omega arith }
+
+shown-entries : (s : Image) (h : ℕ) (es : List Entry) (x : Chain-step) → shown s (length s) h es x .entries ≡ es
+shown-entries s h es (Chain-step.Record e c) = refl
+shown-entries s h es (Chain-step.End t w) = refl
+shown-entries s h es (Chain-step.TornWrap t) = refl
+shown-entries s h es (Chain-step.Broken t w) = refl
+
+pub entries-of : (s : Image) (h : ℕ) → h ≤ length s → rest s (first-cursor s h) .entries ≡ reading-from s h .entries
+entries-of s h l =
+    sym (shown-entries s h (rest s (first-cursor s h) .entries) (rest s (first-cursor s h) .ending)) ∙ ap (λ (r : Reading). r .entries) (reading-is s h l)
+
+-- ---- one record, as the code finds it
+
+module _ (s : Image) (es : List Entry) (e : Entry) where
+  pub drop-this : superseded es e ≡ true → map delete-step (keep (superseded es) (e ∷ [])) ≡ program (e .at + 2) 0x00 ∷ []
+  drop-this h = ap (λ (b : Bool). map delete-step (pick b e [])) h
+
+  pub drop-none : superseded es e ≡ false → map delete-step (keep (superseded es) (e ∷ [])) ≡ []
+  drop-none h = ap (λ (b : Bool). map delete-step (pick b e [])) h

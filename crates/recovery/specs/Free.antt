@@ -1,0 +1,93 @@
+-- Repair 1: the free run's sectors, and the head.
+use Prim.Native.Nat.{ℕ, zero, suc, _+_, _≤_, _<_}
+use native.Mathlib.Omega.{arith}
+use mathlib.Core.Path.{_≡_, refl, sym, ap, ap₂, _∙_}
+use mathlib.Core.Bool.{Bool, true, false}
+use mathlib.Core.List.{List, [], _∷_, _++_, map}
+use lib.ListN.{length, drop}
+use lib.Dec.{leb}
+use borrow.Author.Tests.{eq-eqb, ne-eqb}
+use Rattle.spec.specs.declared.Place.{Place}
+use Rattle.spec.specs.Step.{Image, Step, program, erase}
+use Rattle.spec.specs.Basics.{keep}
+use Rattle.spec.specs.Bytes.{is-clean}
+use Rattle.spec.specs.Geometry.{floor, ceiling, sectors-by, sectors}
+use Rattle.spec.specs.Chain.{Reading, reading-from}
+use Rattle.spec.specs.Reading.{head-clean}
+use Rattle.spec.specs.Mount.{free-sectors, dirty, erase-steps}
+use Rattle.flash.specs.declared.Meter.{Meter}
+use Rattle.flash.specs.Did.{Did, did-both, did-none}
+use Rattle.reading.specs.declared.Survey.{Survey}
+use Rattle.reading.specs.Rest.{entry-of, rest}
+use Rattle.reading.specs.RuleLaws.{head-none, head-low}
+use Rattle.reading.specs.Read.{first-cursor, reading-of}
+use Rattle.recovery.specs.Toward.{later-on}
+use Rattle.recovery.specs.Sectors.{dirty-same}
+use Rattle.recovery.specs.Survey.{Seen}
+use Rattle.recovery.specs.Repairs.{steps-1}
+
+-- ---- the sectors behind those that were erased are judged as before
+
+keep-both : (p : ℕ → Bool) (a b : List ℕ) → map erase (keep p (a ++ b)) ≡ map erase (keep p a) ++ map erase (keep p b)
+keep-both p [] b = refl
+keep-both p (x ∷ a) b = go (p x) refl (keep-both p a b) where
+  go : (t : Bool) → p x ≡ t → map erase (keep p (a ++ b)) ≡ map erase (keep p a) ++ map erase (keep p b)
+      → map erase (keep p (x ∷ (a ++ b))) ≡ map erase (keep p (x ∷ a)) ++ map erase (keep p b)
+  go true e ih = rw (keep, e) (ap (λ (l : List Step). erase x ∷ l) ih)
+  go false e ih = rw (keep, e) ih
+
+module _ (s t : Image) (low : ℕ) (same : drop low t ≡ drop low s) where
+  judged-by : (k a b : ℕ) → low ≤ a → keep (dirty t) (sectors-by k a b) ≡ keep (dirty s) (sectors-by k a b)
+  unfolding sectors-by
+  judged-by zero a b h = refl
+  judged-by (suc k) a b h = go (leb (a + 4096) b) refl (judged-by k (a + 4096) b (omega arith)) where
+    pick : Bool → List ℕ → List ℕ
+    pick c l = elim c [ true ↦ a ∷ l | false ↦ l ]
+    go : (c : Bool) → leb (a + 4096) b ≡ c → keep (dirty t) (sectors-by k (a + 4096) b) ≡ keep (dirty s) (sectors-by k (a + 4096) b)
+        → keep (dirty t) (sectors-by (suc k) a b) ≡ keep (dirty s) (sectors-by (suc k) a b)
+    go true e ih = rw (sectors-by, e) (ap₂ (λ (c : Bool) (l : List ℕ). elim c [ true ↦ a ∷ l | false ↦ l ]) (dirty-same s t a (later-on low a s t h same)) ih)
+    go false e ih = rw (sectors-by, e)
+
+  judged : (a b : ℕ) → low ≤ a → keep (dirty t) (sectors a b) ≡ keep (dirty s) (sectors a b)
+  judged a b h = judged-by b a b h
+
+-- ---- the free run
+
+module _ (s : Image) (p : Place) where
+  pub run-turned : p .turned ≡ true → erase-steps s p ≡ map erase (keep (dirty s) (sectors (ceiling (p .tail)) (floor (p .head))))
+  unfolding erase-steps free-sectors
+  run-turned e = rw (erase-steps, free-sectors, e)
+
+  run-both : p .turned ≡ false → erase-steps s p ≡ map erase (keep (dirty s) (sectors 0 (floor (p .head)) ++ sectors (ceiling (p .tail)) (p .length)))
+  unfolding erase-steps free-sectors
+  run-both e = rw (erase-steps, free-sectors, e)
+
+  pub run-unturned : {t u : Image} {m q r : Meter} → p .turned ≡ false → p .head ≤ p .tail → drop (floor (p .head)) t ≡ drop (floor (p .head)) s
+      → Did s m (map erase (keep (dirty s) (sectors 0 (floor (p .head))))) t q
+      → Did t q (map erase (keep (dirty t) (sectors (ceiling (p .tail)) (p .length)))) u r → Did s m (erase-steps s p) u r
+  run-unturned {t} e h k f g =
+      let a : ℕ = ceiling (p .tail) in
+      let j : keep (dirty t) (sectors a (p .length)) ≡ keep (dirty s) (sectors a (p .length)) = judged s t (floor (p .head)) k a (p .length) (omega arith) in
+      rw (run-both e, keep-both (dirty s) (sectors 0 (floor (p .head))) (sectors a (p .length))) (did-both f (rw j at g))
+
+-- ---- the head
+
+module _ {s : Image} {h : ℕ} {v : Survey} (w : Seen s h v) where
+  steps-as : (t : Bool) → head-clean (rest s (first-cursor s (v .place .head)) .entries) ≡ t
+      → steps-1 s (reading-from s h) ≡ elim t [ true ↦ erase-steps s (v .place) ++ (program h 0x00 ∷ []) | false ↦ [] ]
+  unfolding steps-1
+  steps-as true e = ap (steps-1 s) (sym (w .same)) ∙ rw (steps-1, e) (ap (λ (a : ℕ). erase-steps s (v .place) ++ (program a 0x00 ∷ [])) (w .head))
+  steps-as false e = ap (steps-1 s) (sym (w .same)) ∙ rw (steps-1, e)
+
+  pub head-missing : v .tally .records ≡ 0 → steps-1 s (reading-from s h) ≡ []
+  head-missing n = steps-as false (sym (head-none (w .surveyed .tallied) n))
+
+  module _ (n : v .tally .records ≡ 0 → ⊥) where
+    pub head-other : (entry-of s (v .tally .first) .it .low ≡ 0xA0 → ⊥) → steps-1 s (reading-from s h) ≡ []
+    unfolding is-clean
+    head-other e = steps-as false (sym (head-low (w .surveyed .tallied) n) ∙ ne-eqb (entry-of s (v .tally .first) .it .low) 0xA0 e)
+
+    pub head-cleaned : {t u : Image} {m q r : Meter} → entry-of s (v .tally .first) .it .low ≡ 0xA0 → Did s m (erase-steps s (v .place)) t q → Did t q (program h 0x00 ∷ []) u r
+        → Did s m (steps-1 s (reading-from s h)) u r
+    unfolding is-clean
+    head-cleaned e f g = rw (steps-as true (sym (head-low (w .surveyed .tallied) n) ∙ eq-eqb (entry-of s (v .tally .first) .it .low) 0xA0 e)) (did-both f g)

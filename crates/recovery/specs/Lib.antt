@@ -1,0 +1,17 @@
+pub mod Toward
+pub mod Sectors
+pub mod Clean
+pub mod Close
+pub mod Ends
+pub mod Survey
+pub mod Repairs
+pub mod Free
+pub mod Pair
+pub mod Last
+pub mod Mending
+pub mod Mended
+pub mod Counted
+pub mod Kept
+pub mod Trail
+pub mod Path
+pub mod Drop

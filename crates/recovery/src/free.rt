@@ -1,0 +1,61 @@
+// Repair 1: behind a CLEAN head the free run is erased where it isn't FF, and the head becomes START.
+use crate::sectors::erase_dirty;
+use crate::survey::low_of;
+use crate::survey::survey;
+use flash::Meter;
+use flash::program;
+use reading::free::floor;
+use spec::CLEAN;
+use spec::Place;
+use spec::SECTOR;
+use spec::START;
+ghost use mathlib.Core.Path.{_≡_};
+ghost use mathlib.Core.Bool.{false};
+ghost use Prim.Native.Nat.{_+_, _*_, _≤_, _<_, _^_};
+ghost use lib.ListN.{length};
+ghost use Rattle.spec.specs.Geometry.{ceiling};
+ghost use Rattle.spec.specs.Chain.{reading-from};
+ghost use Rattle.spec.specs.Mount.{erase-steps};
+ghost use Rattle.flash.specs.Did.{Did};
+ghost use Rattle.reading.specs.FreeLaws.{In-image};
+ghost use Rattle.recovery.specs.Repairs.{steps-1};
+
+// The first start of a sector that is not below a.
+fn ceiling(a: usize) -> usize
+    requires { ⌜ a ≤ 2 ^ 24 ⌝ }
+    ensures { λ r. ⌜ (r ≡ ceiling a) × (r ≤ 2 ^ 24) ⌝ }
+{
+    (a + (SECTOR - 1)) / SECTOR * SECTOR
+}
+
+// The sectors that lie wholly in the free run and are not all FF.
+fn erase_run(image: &mut [u8], p: Place, m: Meter) -> Meter
+    requires { ⌜ In-image (now image) p × (p .turned ≡ false → p .head ≤ p .tail) × (m .asked + 2 * length (now image) ≤ 2 ^ 32) ⌝ }
+    ensures { λ r. ⌜ Did (now (image .entry)) m (erase-steps (now (image .entry)) p) (now (image .exit)) r × (r .asked ≤ m .asked + 2 * length (now (image .entry))) ⌝ }
+{
+    let low = floor(p.head);
+    let from = ceiling(p.tail);
+    if p.turned {
+        return erase_dirty(image, from, low, m);
+    }
+    let a = erase_dirty(image, 0, low, m);
+    erase_dirty(image, from, p.length, a)
+}
+
+pub fn erase_free(image: &mut [u8], h: usize, m: Meter) -> Meter
+    requires { ⌜ (h < length (now image)) × (16 ≤ length (now image)) × (length (now image) ≤ 2 ^ 24) × (m .asked + 2 * length (now image) + 1 ≤ 2 ^ 32) ⌝ }
+    ensures { λ r. ⌜ Did (now (image .entry)) m (steps-1 (now (image .entry)) (reading-from (now (image .entry)) h)) (now (image .exit)) r × (r .asked ≤ m .asked + 2 * length (now (image .entry)) + 1) ⌝ }
+{
+    let s = survey(image, h);
+    let t = s.tally;
+    let p = s.place;
+    if t.records == 0 {
+        return m;
+    }
+    let first = t.first;
+    if low_of(image, first) == CLEAN {
+        let a = erase_run(image, p, m);
+        return program(image, h, START, a);
+    }
+    m
+}

@@ -1,0 +1,43 @@
+// Repair 2: a move that was cut is brought to its end, and the head handed over to the second record.
+use crate::close::close;
+use crate::survey::low_of;
+use crate::survey::survey;
+use crate::Progress;
+use flash::Meter;
+use flash::program;
+use spec::CLEAN;
+use spec::START;
+ghost use mathlib.Core.Path.{_≡_};
+ghost use Prim.Native.Nat.{_+_, _*_, _≤_, _<_, _^_};
+ghost use lib.ListN.{length};
+ghost use Rattle.recovery.specs.Pair.{Handed};
+
+fn at_head(head: usize, m: Meter) -> Progress
+    ensures { λ r. ⌜ r ≡ record { head = head; meter = m } ⌝ }
+{
+    Progress {
+        head: head,
+        meter: m,
+    }
+}
+
+pub fn hand_over(image: &mut [u8], h: usize, m: Meter) -> Progress
+    requires { ⌜ (h < length (now image)) × (16 ≤ length (now image)) × (length (now image) ≤ 2 ^ 24) × (m .asked + 2 * length (now image) + 2 ≤ 2 ^ 32) ⌝ }
+    ensures { λ r. ⌜ Handed (now (image .entry)) h m (now (image .exit)) (r .head) (r .meter) × (r .meter .asked ≤ m .asked + 2 * length (now (image .entry)) + 2) × (r .head < length (now (image .entry))) ⌝ }
+{
+    let s = survey(image, h);
+    let t = s.tally;
+    if t.records < 2 {
+        return at_head(h, m);
+    }
+    let x = t.first;
+    let y = t.second;
+    let low = low_of(image, y);
+    if low == CLEAN {
+        return at_head(y.at, close(image, x, y, m));
+    }
+    if low == START {
+        return at_head(y.at, program(image, x.at + 1, 0x00, m));
+    }
+    at_head(h, m)
+}
