@@ -74,7 +74,7 @@ module _ (image t : Image) (k : ℕ) (s : Survey) (l : Legal image s) (r : Mende
   mount-cut h =
       let short : k < length (mended image (reading-of image s) .steps) = omega (arith, c .cut h, ap (λ (w : Work). length (w .steps)) work-is) in
       carried image t k (mount-work (mended image (reading-of image s))) (given 4 0 0 0 (r .meter .allowance))
-        (plan-cut image k (mended image (reading-of image s)) short ∙ ap (given 4 0 0 0) (sym (c .same))) bytes-are
+      (plan-cut image k (mended image (reading-of image s)) short ∙ ap (given 4 0 0 0) (sym (c .same))) bytes-are
 
   pub mount-done : r .meter .asked ≤ r .meter .allowance →
       outcome (mounted (Mounted.Done (r .head) (r .tail) (r .files) (r .meter .asked))) t ≡ carry-out image k (mount-of image (reading-of image s))
@@ -86,10 +86,10 @@ module _ (image t : Image) (k : ℕ) (s : Survey) (l : Legal image s) (r : Mende
           let count : r .meter .asked ≡ length (w .steps) = omega (arith, n .count) in
           let steps : length (w .steps) ≡ length (mended image (reading-of image s) .steps) = ap (λ (x : Work). length (x .steps)) e in
           carried image t k (mount-work (mended image (reading-of image s))) (given 0 (r .head) (r .tail) (r .files) (r .meter .asked))
-            (plan-done image k (mount-work (mended image (reading-of image s))) (omega (arith, count, steps, c .same, h))
-            ∙ sym (λ i. given 0 ((n .head ∙ ap (λ (x : Work). x .reading .place .head) e) i) ((n .tail ∙ ap (λ (x : Work). x .reading .place .tail) e) i)
-                ((n .files ∙ ap (λ (x : Work). length (files (x .reading .entries))) e) i) ((count ∙ steps) i)))
-            bytes-are
+          (plan-done image k (mount-work (mended image (reading-of image s))) (omega (arith, count, steps, c .same, h))
+          ∙ sym (λ i. given 0 ((n .head ∙ ap (λ (x : Work). x .reading .place .head) e) i) ((n .tail ∙ ap (λ (x : Work). x .reading .place .tail) e) i)
+          ((n .files ∙ ap (λ (x : Work). length (files (x .reading .entries))) e) i) ((count ∙ steps) i)))
+          bytes-are
 
 -- ---- the refusals
 

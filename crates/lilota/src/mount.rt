@@ -1,9 +1,9 @@
 // Mount: what a power cut left is repaired, so that the other calls take the image.
 use crate::good_length;
 use flash::Meter;
-use reading::image::read;
 use reading::Read;
 use reading::Survey;
+use reading::image::read;
 use recovery::mend;
 ghost use mathlib.Core.Path.{_≡_};
 ghost use mathlib.Core.Bool.{true};
@@ -64,4 +64,81 @@ pub fn mount(image: &mut [u8], allowance: usize) -> Mounted
         return mount_read(image, allowance);
     }
     Mounted::Refused(22)
+}
+
+// The same for C: the number, and the others through pointers.
+#[no_mangle]
+pub extern "C" fn lilota_mount(
+    image: &mut [u8],
+    allowance: usize,
+    head: &mut usize,
+    tail: &mut usize,
+    files: &mut usize,
+    steps: &mut usize,
+) -> u32
+    ensures { λ r. ⌜ outcome (given r (now (head .exit)) (now (tail .exit)) (now (files .exit)) (now (steps .exit))) (now (image .exit)) ≡ mount (now (image .entry)) allowance ⌝ }
+{
+    let w = mount(image, allowance);
+    *head = w.head();
+    *tail = w.tail();
+    *files = w.files();
+    *steps = w.steps();
+    w.answer()
+}
+
+impl Mounted {
+    // Document 01's number.
+    pub fn answer(self) -> u32
+        ensures { λ r. ⌜ r ≡ mounted self .answer ⌝ }
+    {
+        match self {
+            Mounted::Done(_, _, _, _) => 0,
+            Mounted::Cut(_) => 4,
+            Mounted::Refused(n) => n,
+        }
+    }
+
+    // The head's address.
+    pub fn head(self) -> usize
+        ensures { λ r. ⌜ r ≡ mounted self .first ⌝ }
+    {
+        match self {
+            Mounted::Done(h, _, _, _) => h,
+            Mounted::Cut(_) => 0,
+            Mounted::Refused(_) => 0,
+        }
+    }
+
+    // The tail's.
+    pub fn tail(self) -> usize
+        ensures { λ r. ⌜ r ≡ mounted self .second ⌝ }
+    {
+        match self {
+            Mounted::Done(_, t, _, _) => t,
+            Mounted::Cut(_) => 0,
+            Mounted::Refused(_) => 0,
+        }
+    }
+
+    // The number of live files.
+    pub fn files(self) -> usize
+        ensures { λ r. ⌜ r ≡ mounted self .third ⌝ }
+    {
+        match self {
+            Mounted::Done(_, _, n, _) => n,
+            Mounted::Cut(_) => 0,
+            Mounted::Refused(_) => 0,
+        }
+    }
+
+    // The steps used.
+    pub fn steps(self) -> usize
+        ensures { λ r. ⌜ r ≡ mounted self .steps ⌝ }
+    {
+        match self {
+            Mounted::Done(_, _, _, k) => k,
+            Mounted::Cut(k) => k,
+            Mounted::Refused(_) => 0,
+        }
+    }
 }

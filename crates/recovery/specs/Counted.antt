@@ -46,11 +46,11 @@ module _ {s t : Image} {h k : ℕ} {m q : Meter} (w : Mends s h m t k q) where
         bytes = w .mending .bytes;
         same = w .mending .same;
         done =
-          λ b. record {
-            count = d .count;
-            head = sym (ap (λ (x : Reading). x .place .head) r ∙ f .head);
-            tail = sym (ap (λ (x : Reading). x .place .tail) r);
-            files = e ∙ sym (ap (λ (x : Reading). length (files (x .entries))) r ∙ ap (λ (i : ℕ). length (files (rest t (first-cursor t i) .entries))) (f .head))
-          };
+            λ b. record {
+              count = d .count;
+              head = sym (ap (λ (x : Reading). x .place .head) r ∙ f .head);
+              tail = sym (ap (λ (x : Reading). x .place .tail) r);
+              files = e ∙ sym (ap (λ (x : Reading). length (files (x .entries))) r ∙ ap (λ (i : ℕ). length (files (rest t (first-cursor t i) .entries))) (f .head));
+            };
         cut = w .mending .cut;
       }

@@ -95,16 +95,16 @@ module _ (t : Image) (start c : Cursor) (before : List Entry) (e : Spot) (behind
     step-again =
         ⊎-elim
         (λ w.
-          let q : e .at ≡ c .at = w .1 .place in
-          ap (λ (i : ℕ). advance (set t (i + 2) 0) c) q
-          ∙ (here-again t (set t (c .at + 2) 0) c e behind (w .1)
-          (look-dropped t c (e .n) (e .d) (w .1 .what) (omega arith) (ap (λ (k : ℕ). getD t (k + 2) 0) (sym q) ∙ old)) (finished (c .at) q)))
+        let q : e .at ≡ c .at = w .1 .place in
+        ap (λ (i : ℕ). advance (set t (i + 2) 0) c) q
+        ∙ (here-again t (set t (c .at + 2) 0) c e behind (w .1)
+        (look-dropped t c (e .n) (e .d) (w .1 .what) (omega arith) (ap (λ (k : ℕ). getD t (k + 2) 0) (sym q) ∙ old)) (finished (c .at) q)))
         (λ w.
-          let q : e .at ≡ 0 = w .1 .place in
-          let f = stood-fits t e behind (turn (c .room) (c .held)) (w .1) in
-          ap (λ (i : ℕ). advance (set t (i + 2) 0) c) q
-          ∙ (there-again t (set t (0 + 2) 0) c e behind (w .0) (window-kept t (0 + 2) 0 c (tidy-c .ordered) (inl (omega (arith, tidy-c .apart, f)))) (w .1)
-          (look-dropped t (turn (c .room) (c .held)) (e .n) (e .d) (w .1 .what) (omega arith) (ap (λ (k : ℕ). getD t (k + 2) 0) (sym q) ∙ old)) (finished 0 q)))
+        let q : e .at ≡ 0 = w .1 .place in
+        let f = stood-fits t e behind (turn (c .room) (c .held)) (w .1) in
+        ap (λ (i : ℕ). advance (set t (i + 2) 0) c) q
+        ∙ (there-again t (set t (0 + 2) 0) c e behind (w .0) (window-kept t (0 + 2) 0 c (tidy-c .ordered) (inl (omega (arith, tidy-c .apart, f)))) (w .1)
+        (look-dropped t (turn (c .room) (c .held)) (e .n) (e .d) (w .1 .what) (omega arith) (ap (λ (k : ℕ). getD t (k + 2) 0) (sym q) ∙ old)) (finished 0 q)))
         (way t e behind c h)
 
     behind-passed : Passed behind (e .at + 2)
@@ -128,13 +128,13 @@ module _ (t : Image) (start c : Cursor) (before : List Entry) (e : Spot) (behind
     still-named x =
         let v : Image = set t (e .at + 2) 0 in
         let new : rest v start .entries ≡ before ++ (entry-of v e ∷ rest t behind .entries) =
-              rest-path (path-kept t (e .at + 2) 0 p tidy ahead .1)
-              ∙ ap (λ (l : List Entry). before ++ l) (rest-here v c e behind step-again ∙ ap (λ (r : Run). entry-of v e ∷ r .entries) rest-same) in
+        rest-path (path-kept t (e .at + 2) 0 p tidy ahead .1)
+        ∙ ap (λ (l : List Entry). before ++ l) (rest-here v c e behind step-again ∙ ap (λ (r : Run). entry-of v e ∷ r .entries) rest-same) in
         let was : rest t start .entries ≡ before ++ (entry-of t e ∷ rest t behind .entries) =
-              rest-path p ∙ ap (λ (l : List Entry). before ++ l) (rest-here t c e behind h) in
+        rest-path p ∙ ap (λ (l : List Entry). before ++ l) (rest-here t c e behind h) in
         let no : named-as 0xFC x (entry-of v e) ≡ named-as 0xFC x (entry-of t e) =
-              ap (λ (b : Bool). b && same-name x (entry-of v e)) (unnamed 0xFC (entry-of v e) (λ q. omega (arith, status-now)))
-              ∙ sym (ap (λ (b : Bool). b && same-name x (entry-of t e)) (unnamed 0xFC (entry-of t e) (λ q. omega (arith, status-was)))) in
+        ap (λ (b : Bool). b && same-name x (entry-of v e)) (unnamed 0xFC (entry-of v e) (λ q. omega (arith, status-now)))
+        ∙ sym (ap (λ (b : Bool). b && same-name x (entry-of t e)) (unnamed 0xFC (entry-of t e) (λ q. omega (arith, status-was)))) in
         ap (any (named-as 0xFC x)) new ∙ any-replace (named-as 0xFC x) before (entry-of v e) (entry-of t e) (rest t behind .entries) no ∙ sym (ap (any (named-as 0xFC x)) was)
 
     still-dropped : Still t (set t (e .at + 2) 0) start before e behind
@@ -142,7 +142,7 @@ module _ (t : Image) (start c : Cursor) (before : List Entry) (e : Spot) (behind
         record {
           later = ap (λ (r : Run). r .entries) rest-same;
           named = still-named;
-          path = path-snoc e (path-kept t (e .at + 2) 0 p tidy ahead .1) step-again
+          path = path-snoc e (path-kept t (e .at + 2) 0 p tidy ahead .1) step-again;
         }
 
 -- ---- the loop
@@ -167,14 +167,14 @@ module _ {s t : Image} {start c : Cursor} {m q : Meter} (w : Dropping s start m 
   dropping-on {u} {r} e behind h k d =
       let p = superseded (rest s start .entries) in
       let f : map delete-step (keep p (rest t c .entries)) ≡ map delete-step (keep (superseded (rest t start .entries)) (entry-of t e ∷ [])) ++ map delete-step (keep p (rest u behind .entries)) =
-            ap (λ (l : List Entry). map delete-step (keep p l)) (rest-here t c e behind h)
-            ∙ pick-first (p (entry-of t e)) (entry-of t e) (keep p (rest t behind .entries))
-            ∙ ap₂ (λ (b : Bool) (l : List Entry). map delete-step (pick b (entry-of t e) []) ++ map delete-step (keep p l)) (sym (judged (entry-of t e))) (sym (k .later)) in
+      ap (λ (l : List Entry). map delete-step (keep p l)) (rest-here t c e behind h)
+      ∙ pick-first (p (entry-of t e)) (entry-of t e) (keep p (rest t behind .entries))
+      ∙ ap₂ (λ (b : Bool) (l : List Entry). map delete-step (pick b (entry-of t e) []) ++ map delete-step (keep p l)) (sym (judged (entry-of t e))) (sym (k .later)) in
       record {
         left = toward-more (w .left) f d;
         same = λ x. k .named x ∙ w .same x;
         before = w .before ++ (entry-of u e ∷ []);
-        path = k .path
+        path = k .path;
       }
 
   pub dropping-more : {u : Image} {r : Meter} (e : Spot) (behind : Cursor) → Tidy start → advance t c ≡ Chain-step.Record e behind → e .at + size-of (e .n) (e .d) ≤ length t
@@ -182,8 +182,10 @@ module _ {s t : Image} {start c : Cursor} {m q : Meter} (w : Dropping s start m 
   dropping-more {u} {r} e behind tidy h fits d = dropping-on e behind h (go _ refl) d where
     still : u ≡ t → Still t u start (w .before) e behind
     still k = rw k (still-same t start c (w .before) e behind (w .path) tidy h)
+
     done : (b : Bool) → superseded (rest t start .entries) (entry-of t e) ≡ b → Did t q (map delete-step (pick b (entry-of t e) [])) u r
     done b g = subst (λ (x : Bool). Did t q (map delete-step (pick x (entry-of t e) [])) u r) g d
+
     go : (b : Bool) → superseded (rest t start .entries) (entry-of t e) ≡ b → Still t u start (w .before) e behind
     go true g =
         ⊎-elim

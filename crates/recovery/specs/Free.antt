@@ -43,6 +43,7 @@ module _ (s t : Image) (low : ℕ) (same : drop low t ≡ drop low s) where
   judged-by (suc k) a b h = go (leb (a + 4096) b) refl (judged-by k (a + 4096) b (omega arith)) where
     pick : Bool → List ℕ → List ℕ
     pick c l = elim c [ true ↦ a ∷ l | false ↦ l ]
+
     go : (c : Bool) → leb (a + 4096) b ≡ c → keep (dirty t) (sectors-by k (a + 4096) b) ≡ keep (dirty s) (sectors-by k (a + 4096) b)
         → keep (dirty t) (sectors-by (suc k) a b) ≡ keep (dirty s) (sectors-by (suc k) a b)
     go true e ih = rw (sectors-by, e) (ap₂ (λ (c : Bool) (l : List ℕ). elim c [ true ↦ a ∷ l | false ↦ l ]) (dirty-same s t a (later-on low a s t h same)) ih)

@@ -69,10 +69,10 @@ module _ (s t : List ℕ) (n d : ℕ) (len : length t ≡ length s) (same : (i :
   record-kept held h =
       let w = sized-is s (name-length 64 held (drop 8 s)) (data-len-of s) n d _ _ refl refl h in
       let a : name-length 64 held (drop 8 t) ≡ n =
-            name-kept 64 held (drop 8 s) (drop 8 t) n (w .name) (w .short) (rw length-drop (omega (arith, w .fits)))
-            (λ i l. getD-drop 8 t i 0 ∙ same (8 + i) (omega arith) (omega arith) ∙ sym (getD-drop 8 s i 0)) in
+      name-kept 64 held (drop 8 s) (drop 8 t) n (w .name) (w .short) (rw length-drop (omega (arith, w .fits)))
+      (λ i l. getD-drop 8 t i 0 ∙ same (8 + i) (omega arith) (omega arith) ∙ sym (getD-drop 8 s i 0)) in
       let b : data-len-of t ≡ d =
-            omega (arith, w .data-len, same 4 (omega arith) (omega arith), same 5 (omega arith) (omega arith), same 6 (omega arith) (omega arith), same 7 (omega arith) (omega arith)) in
+      omega (arith, w .data-len, same 4 (omega arith) (omega arith), same 5 (omega arith) (omega arith), same 6 (omega arith) (omega arith), same 7 (omega arith) (omega arith)) in
       ap₂ (sized t) a b ∙ sized-as t n d (w .short) (omega (arith, w .fits))
 
   torn-kept : (u v : Bool) → long 16 s ≡ u → is-name-begun (getD s 8 0) ≡ v → torn-at s ≡ Next.Record n d → torn-at t ≡ Next.Record n d

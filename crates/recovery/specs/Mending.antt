@@ -53,11 +53,11 @@ module _ {s t : Image} {m r : Meter} {w : Work} {h : ℕ} (v : Mending s m w t h
         bytes = same ∙ v .bytes;
         same = d .same ∙ v .same;
         done =
-          λ b. record {
-            count = omega (arith, v .done l .count, d .count);
-            image = v .done l .image ∙ sym same;
-            reading = v .done l .reading ∙ ap₂ reading-from (sym same) (sym kept)
-          };
+            λ b. record {
+              count = omega (arith, v .done l .count, d .count);
+              image = v .done l .image ∙ sym same;
+              reading = v .done l .reading ∙ ap₂ reading-from (sym same) (sym kept);
+            };
         cut = λ b. absurd (omega (arith, d .count, d .same));
       }
   mending-more {u} {q} (x ∷ ss) k l d o =

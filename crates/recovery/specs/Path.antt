@@ -61,14 +61,14 @@ module _ (s : Image) (a b : ℕ) where
     advance-kept =
         ⊎-elim
         (λ w.
-          let off = off-here (w .1) in
-          here-again s (set s a b) c e behind (w .1) (look-kept s c (e .n) (e .d) (w .1 .what) a b off)
-          (unfinished-kept s a b (c .at) (λ q. ⊎-elim (λ (u : a < c .at). omega arith) (λ (u : c .at + size-of (e .n) (e .d) ≤ a). omega arith) off)))
+        let off = off-here (w .1) in
+        here-again s (set s a b) c e behind (w .1) (look-kept s c (e .n) (e .d) (w .1 .what) a b off)
+        (unfinished-kept s a b (c .at) (λ q. ⊎-elim (λ (u : a < c .at). omega arith) (λ (u : c .at + size-of (e .n) (e .d) ≤ a). omega arith) off)))
         (λ w.
-          let low = low-there (w .1) in
-          there-again s (set s a b) c e behind (w .0) (window-kept s a b c (tidy .ordered) (inl (omega (arith, low .1, tidy .apart)))) (w .1)
-          (look-kept s (turn (c .room) (c .held)) (e .n) (e .d) (w .1 .what) a b (inr (omega (arith, low .0))))
-          (unfinished-kept s a b 0 (λ q. omega (arith, low .0))))
+        let low = low-there (w .1) in
+        there-again s (set s a b) c e behind (w .0) (window-kept s a b c (tidy .ordered) (inl (omega (arith, low .1, tidy .apart)))) (w .1)
+        (look-kept s (turn (c .room) (c .held)) (e .n) (e .d) (w .1 .what) a b (inr (omega (arith, low .0))))
+        (unfinished-kept s a b 0 (λ q. omega (arith, low .0))))
         (way s e behind c h)
 
     pub passed-kept : entry-of (set s a b) e ≡ entry-of s e
@@ -126,15 +126,15 @@ module _ (s : Image) (a b : ℕ) where
     onward e behind h =
         ⊎-elim
         (λ w.
-          let f = stood-fits s e behind c (w .1) in
-          ⊎-elim
-          (λ (u : a < c .at). (rw (w .1 .moved) (record { before = inl (omega arith); low = p .low }), entry-kept s a b e (inl (omega (arith, w .1 .place)))))
-          (λ (u : c .at + (c .end - c .at) ≤ a).
-            (rw (w .1 .moved) (record { before = inr (omega (arith, t .ordered, f)); low = p .low }), entry-kept s a b e (inr (omega (arith, w .1 .place, f)))))
-          (p .before))
+        let f = stood-fits s e behind c (w .1) in
+        ⊎-elim
+        (λ (u : a < c .at). (rw (w .1 .moved) (record { before = inl (omega arith); low = p .low }), entry-kept s a b e (inl (omega (arith, w .1 .place)))))
+        (λ (u : c .at + (c .end - c .at) ≤ a).
+        (rw (w .1 .moved) (record { before = inr (omega (arith, t .ordered, f)); low = p .low }), entry-kept s a b e (inr (omega (arith, w .1 .place, f)))))
+        (p .before))
         (λ w.
-          let f = stood-fits s e behind (turn (c .room) (c .held)) (w .1) in
-          (rw (w .1 .moved) (record { before = inr (omega (arith, p .low, f)); low = omega arith }), entry-kept s a b e (inr (omega (arith, w .1 .place, p .low, f)))))
+        let f = stood-fits s e behind (turn (c .room) (c .held)) (w .1) in
+        (rw (w .1 .moved) (record { before = inr (omega (arith, p .low, f)); low = omega arith }), entry-kept s a b e (inr (omega (arith, w .1 .place, p .low, f)))))
         (way s e behind c h)
 
   by-step : (k : ℕ) (c : Cursor) (r : Step) → advance s c ≡ r → Tidy c → Passed c a → left c < suc k → Less c r

@@ -44,7 +44,7 @@ module _ (image : Image) (e : Spot) (behind : Cursor) where
       record {
         what = ap (λ (z : Spot). Next.Record (z .n) (z .d)) a;
         place = sym (ap (λ (z : Spot). z .at) a);
-        moved = sym b ∙ ap (λ (z : Spot). past v (size-of (z .n) (z .d)) (unfinished-at image (v .at))) a
+        moved = sym b ∙ ap (λ (z : Spot). past v (size-of (z .n) (z .d)) (unfinished-at image (v .at))) a;
       }
   stood v Next.Wrap h = absurd (let z : _≡_ {A = ℕ} 0 1 = cc in omega arith)
   stood v Next.TornWrap h = absurd (torn-other v _ refl h)
@@ -95,9 +95,9 @@ module _ (image : Image) (c : Cursor) (e : Spot) (behind : Cursor) (tidy : Tidy 
   ahead-back a o =
       ⊎-elim
       (λ w. ⊎-elim (λ (p : (behind .at ≤ a) × (a < behind .end)). inl (omega (arith, ap (λ (z : Cursor). z .at) (w .1 .moved)), omega (arith, ap (λ (z : Cursor). z .end) (w .1 .moved))))
-        (λ (p : a < behind .room). inr (omega (arith, ap (λ (z : Cursor). z .room) (w .1 .moved)))) o)
+      (λ (p : a < behind .room). inr (omega (arith, ap (λ (z : Cursor). z .room) (w .1 .moved)))) o)
       (λ w. inr (⊎-elim (λ (p : (behind .at ≤ a) × (a < behind .end)). omega (arith, ap (λ (z : Cursor). z .end) (w .1 .moved)))
-        (λ (p : a < behind .room). absurd (omega (arith, ap (λ (z : Cursor). z .room) (w .1 .moved)))) o))
+      (λ (p : a < behind .room). absurd (omega (arith, ap (λ (z : Cursor). z .room) (w .1 .moved)))) o))
       (way image e behind c h)
 
 -- ---- one byte is written
@@ -108,8 +108,8 @@ module _ (s : Image) (a b : ℕ) where
       ⊎-elim
       (λ (h : a < i). ap (take n) (drop-set-lt i s a b h))
       (λ (h : i + n ≤ a).
-        let j : a ≡ i + (a - i) = omega arith in
-        ap (λ (k : ℕ). take n (drop i (set s k b))) j ∙ ap (take n) (drop-set-add i s (a - i) b) ∙ take-set-le n (drop i s) (a - i) b (omega arith))
+      let j : a ≡ i + (a - i) = omega arith in
+      ap (λ (k : ℕ). take n (drop i (set s k b))) j ∙ ap (take n) (drop-set-add i s (a - i) b) ∙ take-set-le n (drop i s) (a - i) b (omega arith))
       o
 
   pub window-kept : (c : Cursor) → c .at ≤ c .end → Off a (c .at) (c .end - c .at) → look (set s a b) c ≡ look s c
@@ -169,12 +169,12 @@ module _ (s : Image) (c : Cursor) (n d : ℕ) (h : look s c ≡ Next.Record n d)
       let p = allowed-record (c .held) (next (window s c)) n d h in
       let same : (i : ℕ) → i < size-of n d → (i ≡ 2 → ⊥) → getD (window t c) i 0 ≡ getD (window s c) i 0 = λ i g o. byte-kept s a 0 c i (omega (arith, fits)) (λ q. o (omega arith)) in
       let now : status-of (window t c) ≡ 0 =
-            getD-drop (c .at) (take (c .end) t) 2 0 ∙ getD-take (c .end) t a 0 (omega (arith, fits)) ∙ getD-set-same s a 0 0 l in
+      getD-drop (c .at) (take (c .end) t) 2 0 ∙ getD-take (c .end) t a 0 (omega (arith, fits)) ∙ getD-set-same s a 0 0 l in
       let was : status-of (window s c) ≡ 0xF8 = getD-drop (c .at) (take (c .end) s) 2 0 ∙ getD-take (c .end) s a 0 (omega (arith, fits)) ∙ f in
       p .1 (next (window t c))
       (next-kept (window s c) (window t c) n d (window-long s a 0 c) (λ i g m. same i m (λ q. omega arith))
       (rw (same 0 (omega arith) (λ q. omega arith), same 1 (omega arith) (λ q. omega arith), same 3 (omega arith) (λ q. omega arith), now, was)
-        (kind-dropped (low-of (window s c)) (high-of (window s c)) (spare-of (window s c)))) (p .0))
+      (kind-dropped (low-of (window s c)) (high-of (window s c)) (spare-of (window s c)))) (p .0))
 
 -- ---- the step is the same
 

@@ -1,8 +1,8 @@
 // Repair 2: a move that was cut is brought to its end, and the head handed over to the second record.
+use crate::Progress;
 use crate::close::close;
 use crate::survey::low_of;
 use crate::survey::survey;
-use crate::Progress;
 use flash::Meter;
 use flash::program;
 use spec::CLEAN;

@@ -1,12 +1,13 @@
 // What mount repairs, in its order: the free run, an unfinished move, the last thing, superseded files.
 // Each repair reads the image that those before it left, from the head they left.
-mod survey;
-pub mod sectors;
 pub mod close;
 mod free;
 mod hand;
 mod last;
+pub mod sectors;
 mod superseded;
+mod survey;
+
 use flash::Meter;
 use free::erase_free;
 use hand::hand_over;

@@ -1,12 +1,12 @@
 // Repair 4: each F8 record that has an FC record of its name is deleted, in chain order.
 use flash::Meter;
 use flash::program;
-use reading::chain::advance;
-use reading::files::is_superseded;
-use reading::image::first_cursor;
 use reading::Cursor;
 use reading::Spot;
 use reading::Step;
+use reading::chain::advance;
+use reading::files::is_superseded;
+use reading::image::first_cursor;
 use spec::Status;
 ghost use mathlib.Core.List.{[], _∷_, map};
 ghost use Prim.Native.Nat.{_+_, _*_, _≤_, _<_, _^_};

@@ -1,10 +1,10 @@
 // What a repair goes by: the reading from a head on, with no judgement of its rules.
-use reading::image::first_cursor;
-use reading::scan::pass;
 use reading::Spot;
 use reading::Step;
 use reading::Survey;
 use reading::Tally;
+use reading::image::first_cursor;
+use reading::scan::pass;
 use spec::Ending;
 use spec::Place;
 ghost use mathlib.Core.Path.{_≡_};
