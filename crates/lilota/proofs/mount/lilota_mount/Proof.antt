@@ -1,0 +1,35 @@
+-- `lilota::mount::lilota_mount` meets its contract: the five numbers say all that mount's answer says.
+use borrow.Author.Needs.{needs}
+use Rattle.lilota.specs.Mount.{mounted-as}
+use Rattle.lilota.proofs.mount.lilota_mount.Statement.{statement}
+use Rattle.lilota.proofs.mount.lilota_mount.Tie as tie
+
+mount-requires : tie.Need-mount-requires
+mount-requires c κs = search needs
+
+head-requires : tie.Need-head-requires
+head-requires c κs = search needs
+
+tail-requires : tie.Need-tail-requires
+tail-requires c κs = search needs
+
+files-requires : tie.Need-files-requires
+files-requires c κs = search needs
+
+steps-requires : tie.Need-steps-requires
+steps-requires c κs = search needs
+
+answer-requires : tie.Need-answer-requires
+answer-requires c κs = search needs
+
+same-length : tie.Need-same-length
+same-length c = search needs
+
+returns : tie.Need-returns
+returns c =
+    mounted-as (c .before .before .before .before .before .before .before .mount .result) _ _ _ _ _ _ _ (c .answer .ensures) (c .before .before .before .before .head .ensures) (c .before .before .before .tail .ensures) (c .before .before .files .ensures) (c .before .steps .ensures) (c .before .before .before .before .before .before .before .mount .ensures)
+
+pub lilota-mount-spec : {M : Type 1} → statement M
+lilota-mount-spec =
+    tie.close
+    (tie.spec mount-requires head-requires tail-requires files-requires steps-requires answer-requires same-length returns)
