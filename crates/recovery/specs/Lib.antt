@@ -1,0 +1,4 @@
+pub mod Toward
+pub mod Sectors
+pub mod Clean
+pub mod Close

@@ -1,0 +1,94 @@
+-- Sectors, one after another; what an erase leaves alone.
+use Prim.Native.Nat.{ℕ, zero, suc, _+_, _-_, _≤_, _<_}
+use native.Mathlib.Omega.{arith}
+use mathlib.Core.Path.{_≡_, refl, sym, ap, ap₂, _∙_}
+use mathlib.Core.Logic.{_⊎_, inl, inr, ⊎-elim}
+use mathlib.Core.Bool.{Bool, true, false, not}
+use mathlib.Core.List.{List, [], _∷_, _++_, map, append-assoc}
+use lib.ListN.{length, take, drop, length-append, length-replicate}
+use lib.Seq.{drop-drop, drop-append-add, length-take-le}
+use lib.Dec.{leb}
+use borrow.Author.Tests.{le-leb, lt-leb}
+use Rattle.spec.specs.Step.{Image, Step, erase, sector, apply}
+use Rattle.spec.specs.Basics.{blank, keep}
+use Rattle.spec.specs.Geometry.{sectors-by, sectors}
+use Rattle.spec.specs.Mount.{dirty}
+use Rattle.flash.specs.declared.Meter.{Meter}
+use Rattle.flash.specs.Did.{Did}
+use Rattle.reading.specs.CursorLaws.{part-window}
+use Rattle.recovery.specs.Toward.{did-one}
+
+-- ---- one more sector, and none
+
+by-none : (k a b : ℕ) → b < a + 4096 → sectors-by k a b ≡ []
+unfolding sectors-by
+by-none zero a b h = refl
+by-none (suc k) a b h = rw (lt-leb (a + 4096) b h, sectors-by)
+
+by-more : (k a b : ℕ) → a + 4096 ≤ b → sectors-by (suc k) a b ≡ a ∷ sectors-by k (a + 4096) b
+unfolding sectors-by
+by-more k a b h = rw (le-leb (a + 4096) b h, sectors-by)
+
+-- a bound that is enough is as good as any other
+enough : (k j a b : ℕ) → b ≤ a + k → b ≤ a + j → sectors-by k a b ≡ sectors-by j a b
+unfolding sectors-by
+enough zero j a b h g = by-none zero a b (omega arith) ∙ sym (by-none j a b (omega arith))
+enough (suc k) zero a b h g = by-none (suc k) a b (omega arith) ∙ sym (by-none zero a b (omega arith))
+enough (suc k) (suc j) a b h g = go (leb (a + 4096) b) refl (enough k j (a + 4096) b (omega arith) (omega arith)) where
+  go : (t : Bool) → leb (a + 4096) b ≡ t → sectors-by k (a + 4096) b ≡ sectors-by j (a + 4096) b → sectors-by (suc k) a b ≡ sectors-by (suc j) a b
+  go true e ih = rw (e, sectors-by) (ap (λ (l : List ℕ). a ∷ l) ih)
+  go false e ih = rw (e, sectors-by)
+
+pub sectors-none : (a b : ℕ) → b < a + 4096 → sectors a b ≡ []
+sectors-none a b h = by-none b a b h
+
+pub sectors-more : (a b : ℕ) → a + 4096 ≤ b → sectors a b ≡ a ∷ sectors (a + 4096) b
+sectors-more a b h = enough b (suc b) a b (omega arith) (omega arith) ∙ by-more b a b h
+
+-- ---- what an erase leaves alone: the bytes behind the sector
+
+length-sector : length sector ≡ 4096
+unfolding sector
+length-sector = length-replicate {A = ℕ} 4096 255
+
+erase-behind : (s : Image) (a k : ℕ) → a + 4096 ≤ k → a + 4096 ≤ length s → drop k (apply s (erase a)) ≡ drop k s
+erase-behind s a k h l =
+    let front : List ℕ = take a s ++ sector in
+    let e : length front ≡ a + 4096 = length-append (take a s) sector ∙ ap₂ _+_ (length-take-le a s (omega arith)) length-sector in
+    let j : length front + (k - (a + 4096)) ≡ k = omega arith in
+    let i : a + (4096 + (k - (a + 4096))) ≡ k = omega arith in
+    ap₂ drop (sym j) (sym (append-assoc (take a s) sector (drop 4096 (drop a s))))
+    ∙ drop-append-add front (drop 4096 (drop a s)) (k - (a + 4096))
+    ∙ drop-drop (k - (a + 4096)) 4096 (drop a s) ∙ drop-drop (4096 + (k - (a + 4096))) a s ∙ ap (λ (n : ℕ). drop n s) i
+
+pub erased-behind : {s t : Image} {m r : Meter} (a k : ℕ) → a + 4096 ≤ k → a + 4096 ≤ length s → Did s m (erase a ∷ []) t r → drop k t ≡ drop k s
+erased-behind {s} a k h l d = ⊎-elim (λ e. ap (drop k) e ∙ erase-behind s a k h l) (λ e. ap (drop k) e) (did-one d)
+
+-- ---- a sector that is not all FF
+
+dirty-same : (s t : Image) (a : ℕ) → drop a t ≡ drop a s → dirty t a ≡ dirty s a
+dirty-same s t a e =
+    let w : (u : Image) → take (a + 4096 - a) (drop a u) ≡ drop a (take (a + 4096) u) = λ u. part-window a (a + 4096) u (omega arith) in
+    ap (λ (l : List ℕ). not (blank l)) (sym (w t) ∙ ap (take (a + 4096 - a)) e ∙ w s)
+
+-- what is_blank says of the sector
+pub dirty-is : (s : Image) (a : ℕ) {t u : Bool} → t ≡ blank (take (a + 4096 - a) (drop a s)) → t ≡ u → dirty s a ≡ not u
+dirty-is s a e f = ap (λ (l : List ℕ). not (blank l)) (sym (part-window a (a + 4096) s (omega arith))) ∙ ap not (sym e ∙ f)
+
+abbrev pick : Bool → ℕ → List ℕ → List ℕ
+pick t a l = elim t [ true ↦ a ∷ l | false ↦ l ]
+
+pub erase-kept : (s : Image) (a : ℕ) {t : Bool} → dirty s a ≡ t → map erase (keep (dirty s) (a ∷ [])) ≡ map erase (pick t a [])
+erase-kept s a e = ap (λ (c : Bool). map erase (pick c a [])) e
+
+pick-first : (c : Bool) (a : ℕ) (l : List ℕ) → map erase (pick c a l) ≡ map erase (pick c a []) ++ map erase l
+pick-first true a l = refl
+pick-first false a l = refl
+
+-- the first of the sectors is judged as at entry, and so are the others
+pub dirty-more : (s t : Image) (a b : ℕ) → a + 4096 ≤ b → drop a t ≡ drop a s
+    → map erase (keep (dirty s) (sectors a b)) ≡ map erase (keep (dirty t) (a ∷ [])) ++ map erase (keep (dirty s) (sectors (a + 4096) b))
+dirty-more s t a b h e =
+    let l : List ℕ = keep (dirty s) (sectors (a + 4096) b) in
+    ap (λ (k : List ℕ). map erase (keep (dirty s) k)) (sectors-more a b h)
+    ∙ ap (λ (c : Bool). map erase (pick c a l)) (sym (dirty-same s t a e)) ∙ pick-first (dirty t a) a l
