@@ -102,7 +102,7 @@ look-inside image c = fits-more (look image c) (length (window image c)) (c .end
 
 -- ---- every step leaves less
 
-abbrev Less : Cursor → Step → Type 0
+abbrev pub Less : Cursor → Step → Type 0
 Less c (Step.Record e next) = left next < left c
 Less c (Step.End t w) = Unit {0}
 Less c (Step.TornWrap t) = Unit {0}
@@ -133,7 +133,7 @@ advance-less-by image c true e =
     rw (advance-on image c e) (less-more c u (settle image u (look image u)) (omega arith) (settle-less image u (look image u) (look-inside image u)))
 advance-less-by image c false e = rw (advance-here image c e) (settle-less image c (look image c) (look-inside image c))
 
-advance-less : (image : List ℕ) (c : Cursor) → Less c (advance image c)
+pub advance-less : (image : List ℕ) (c : Cursor) → Less c (advance image c)
 advance-less image c = advance-less-by image c _ refl
 
 -- ---- what is read from a cursor on

@@ -1,10 +1,10 @@
 // Reading an image: its head, its chain, its files, whether it breaks a rule, whether it is settled.
 // Everything here only looks, and nothing passes over data bytes but the check of the free run.
 mod head;
-mod chain;
-mod files;
-mod scan;
-mod free;
+pub mod chain;
+pub mod files;
+pub mod scan;
+pub mod free;
 mod rules;
 pub mod image;
 use spec::Ending;

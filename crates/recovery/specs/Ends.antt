@@ -1,0 +1,114 @@
+-- How a chain ends: before the turn not in front of its head, and a torn wrap with all its eight bytes.
+use Prim.Native.Nat.{ℕ, zero, suc, _+_, _≤_, _<_}
+use native.Mathlib.Omega.{arith}
+use native.Mathlib.Nat.{not-suc-le-zero}
+use mathlib.Core.Path.{_≡_, refl, sym, _∙_}
+use mathlib.Core.Bool.{Bool, true, false}
+use mathlib.Core.List.{List, [], _∷_}
+use lib.ListN.{length, length-drop, length-take}
+use lib.Dec.{ltb}
+use Rattle.spec.specs.declared.Next.{Next}
+use Rattle.spec.specs.Basics.{long}
+use Rattle.spec.specs.Next.{next}
+use Rattle.spec.specs.Chain.{allowed}
+use Rattle.record.specs.Suffix.{long-true}
+use Rattle.reading.specs.declared.Cursor.{Cursor}
+use Rattle.reading.specs.declared.Step.{Step}
+use Rattle.reading.specs.Cursor.{window, look, goes-on, turn, torn-end, settle, advance, left}
+use Rattle.reading.specs.CursorLaws.{advance-on, advance-here}
+use Rattle.reading.specs.Rest.{Less, advance-less, followed, rest, rest-step}
+
+-- ---- a torn wrap has eight bytes
+
+next-torn : (s : List ℕ) (t u : Bool) → long 1 s ≡ t → long 8 s ≡ u → next s ≡ Next.TornWrap → 8 ≤ length s
+unfolding next
+next-torn s false u e f h = absurd (let q : Next.Over ≡ Next.TornWrap = rw (e, next) at h in let z : _≡_ {A = ℕ} 0 1 = cc in omega arith)
+next-torn s true false e f h = absurd (let q : Next.Bad ≡ Next.TornWrap = rw (e, f, next) at h in let z : _≡_ {A = ℕ} 0 1 = cc in omega arith)
+next-torn s true true e f h = long-true 8 s f
+
+allowed-torn : (held : Bool) (x : Next) → allowed held x ≡ Next.TornWrap → x ≡ Next.TornWrap
+allowed-torn false x e = e
+allowed-torn true (Next.Record n d) e = cc
+allowed-torn true Next.Wrap e = cc
+allowed-torn true Next.TornWrap e = refl
+allowed-torn true Next.Clear e = cc
+allowed-torn true Next.Over e = cc
+allowed-torn true Next.Bad e = cc
+
+look-torn : (image : List ℕ) (c : Cursor) → look image c ≡ Next.TornWrap → c .at + 8 ≤ length image
+unfolding look
+look-torn image c e =
+    let h : 8 ≤ length (window image c) = next-torn (window image c) _ _ refl refl (allowed-torn (c .held) (next (window image c)) e) in
+    omega (arith, rw (length-drop, length-take) at h)
+
+-- ---- from a cursor on
+
+-- before the turn the chain goes up from c
+abbrev pub Up : Cursor → Bool → ℕ → Type 0
+Up c w t = w ≡ false → (c .turned ≡ false) × (c .at ≤ t)
+
+-- a step from c
+abbrev Ends : List ℕ → Cursor → Step → Type 0
+Ends image c (Step.Record e next) = Up c (next .turned) (next .at)
+Ends image c (Step.End t w) = Up c w t
+Ends image c (Step.TornWrap t) = t + 8 ≤ length image
+Ends image c (Step.Broken t w) = Up c w t
+
+-- the chain's end, from c on
+abbrev pub Closes : List ℕ → Cursor → Step → Type 0
+Closes image c (Step.Record e next) = ⊥
+Closes image c (Step.End t w) = Up c w t
+Closes image c (Step.TornWrap t) = t + 8 ≤ length image
+Closes image c (Step.Broken t w) = Up c w t
+
+module _ (image : List ℕ) where
+  torn-ends : (c : Cursor) (t : Bool) → ltb 0 (c .room) ≡ t → look image c ≡ Next.TornWrap → Ends image c (torn-end (c .room) (c .turned) (c .at))
+  unfolding torn-end
+  torn-ends c true e f = rw (torn-end, e) (look-torn image c f)
+  torn-ends c false e f = rw (torn-end, e) (λ q. (q, omega arith))
+
+  settle-ends : (c : Cursor) (x : Next) → look image c ≡ x → Ends image c (settle image c x)
+  settle-ends c (Next.Record n d) e = λ q. (q, omega arith)
+  settle-ends c Next.Wrap e = λ q. (q, omega arith)
+  settle-ends c Next.TornWrap e = torn-ends c _ refl e
+  settle-ends c Next.Clear e = λ q. (q, omega arith)
+  settle-ends c Next.Over e = λ q. (q, omega arith)
+  settle-ends c Next.Bad e = λ q. (q, omega arith)
+
+  -- what has turned has turned for good
+  never : {A : Type 0} → true ≡ false → A
+  never q = absurd (let z : _≡_ {A = ℕ} 0 1 = cc in omega arith)
+
+  turned-ends : (c d : Cursor) (r : Step) → d .turned ≡ true → Ends image d r → Ends image c r
+  turned-ends c d (Step.Record e next) t o = λ q. never (sym t ∙ o q .0)
+  turned-ends c d (Step.End a w) t o = λ q. never (sym t ∙ o q .0)
+  turned-ends c d (Step.TornWrap a) t o = o
+  turned-ends c d (Step.Broken a w) t o = λ q. never (sym t ∙ o q .0)
+
+  advance-ends : (c : Cursor) (t : Bool) → goes-on (c .room) (look image c) ≡ t → Ends image c (advance image c)
+  advance-ends c true e =
+      let u : Cursor = turn (c .room) (c .held) in
+      rw (advance-on image c e) (turned-ends c u (settle image u (look image u)) refl (settle-ends u (look image u) refl))
+  advance-ends c false e = rw (advance-here image c e) (settle-ends c (look image c) refl)
+
+  -- what the chain behind a record ends with
+  onward-ends : (c d : Cursor) (r : Step) → Up c (d .turned) (d .at) → Closes image d r → Closes image c r
+  onward-ends c d (Step.Record e next) u o = o
+  onward-ends c d (Step.End a w) u o = λ q. (u (o q .0) .0, omega (arith, u (o q .0) .1, o q .1))
+  onward-ends c d (Step.TornWrap a) u o = o
+  onward-ends c d (Step.Broken a w) u o = λ q. (u (o q .0) .0, omega (arith, u (o q .0) .1, o q .1))
+
+  by-step : (k : ℕ) (c : Cursor) (r : Step) → left c < suc k → Less c r → Ends image c r → ((d : Cursor) → left d < k → Closes image d (rest image d .ending))
+      → Closes image c (followed image r (rest image) .ending)
+  by-step k c (Step.Record e next) h l o ih = onward-ends c next (rest image next .ending) o (ih next (omega arith))
+  by-step k c (Step.End t w) h l o ih = o
+  by-step k c (Step.TornWrap t) h l o ih = o
+  by-step k c (Step.Broken t w) h l o ih = o
+
+  by-fuel : (k : ℕ) (c : Cursor) → left c < k → Closes image c (rest image c .ending)
+  by-fuel zero c h = absurd (not-suc-le-zero h)
+  by-fuel (suc k) c h =
+      rw (rest-step image c) (by-step k c (advance image c) h (advance-less image c) (advance-ends c _ refl) (by-fuel k))
+
+  pub rest-closes : (c : Cursor) → Closes image c (rest image c .ending)
+  rest-closes c = by-fuel (suc (left c)) c (omega arith)
