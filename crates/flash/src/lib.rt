@@ -5,7 +5,7 @@ ghost use mathlib.Core.Path.{_≡_};
 ghost use mathlib.Core.List.{[], _∷_};
 ghost use Prim.Native.Nat.{_+_, _<_, _≤_, _^_};
 ghost use lib.ListN.{length};
-ghost use Rattle.spec.specs.Step.{Step};
+ghost use Rattle.spec.specs.Step.{Step, bytes-at};
 ghost use Rattle.spec.specs.Basics.{blank};
 ghost use Rattle.flash.specs.Did.{Did};
 ghost use Rattle.flash.specs.Blank.{blank-run};
@@ -18,7 +18,7 @@ pub struct Meter {
 
 impl Meter {
     // One more step is asked for.
-    pub fn counted(self) -> Meter
+    fn counted(self) -> Meter
         requires { ⌜ self .asked < 2 ^ 32 ⌝ }
         ensures { λ r. ⌜ (r .asked ≡ self .asked + 1) × (r .allowance ≡ self .allowance) ⌝ }
     {
@@ -55,6 +55,20 @@ pub fn erase(image: &mut [u8], at: usize, m: Meter) -> Meter
         i += 1;
     }
     m.counted()
+}
+
+// Programs these bytes one after another, from this address on.
+pub fn program_bytes(image: &mut [u8], at: usize, bytes: &[u8], m: Meter) -> Meter
+    requires { ⌜ (at + length (now bytes) ≤ length (now image)) × (m .asked + length (now bytes) < 2 ^ 32) ⌝ }
+    ensures { λ r. ⌜ Did (now (image .entry)) m (bytes-at at (now (bytes .entry))) (now (image .exit)) r ⌝ }
+{
+    let mut q = m;
+    let mut i = 0;
+    while i < bytes.len() {
+        q = program(image, at + i, bytes[i], q);
+        i += 1;
+    }
+    q
 }
 
 // The place of the first byte that is not FF, or the part's length.

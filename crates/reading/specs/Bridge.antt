@@ -128,8 +128,8 @@ module _ (image : List ℕ) where
       rest-step image c ∙ ap (λ (x : Step). followed image x (rest image)) a
       ∙ ap (ahead (entry-of image (record { at = c .at; n = n; d = d }))) (ih ∙ ap₂ (λ (h : Bool) (l : List ℕ). finish (c .room) (c .turned) (chain k h (c .at + z) l)) (ap is-unfinished (sym st)) q)
       ∙ sym (rw (chain-record k (c .held) (c .at) w n d f)
-          (finish-add (c .room) (c .turned) (record { at = c .at; it = rec-of w n d }) tail _ refl
-          ∙ ap (λ (it : _). ahead (record { at = c .at; it = it }) (finish (c .room) (c .turned) tail)) r))
+      (finish-add (c .room) (c .turned) (record { at = c .at; it = rec-of w n d }) tail _ refl
+      ∙ ap (λ (it : _). ahead (record { at = c .at; it = it }) (finish (c .room) (c .turned) tail)) r))
 
   chained : (k : ℕ) (c : Cursor) → c .at ≤ c .end → c .end - c .at < k → Chained k c
   unfolding look

@@ -56,7 +56,7 @@ module _ (image : List ℕ) where
         name = w .0;
         data-len = w .2;
         fits = omega (arith, s .ordered, s .inside);
-        held = refl
+        held = refl;
       }
   inside-settle c Next.Wrap s w = omega (arith, s .ordered, s .inside)
   inside-settle c Next.TornWrap s w = torn-inside c (ltb 0 (c .room)) (omega (arith, s .ordered, s .inside)) refl
@@ -91,13 +91,15 @@ module _ (image : List ℕ) where
           → (r ≡ advance image c) × Inside image c r
       advanced-on t y r h et ey er w =
           let u : Cursor = turn (c .room) (c .held) in
-          let e : r ≡ settle image u y = er ∙ ap (λ (k : Cursor). settle image k y) et in
-          ( e ∙ ap (settle image u) (ey ∙ ap (look image) et) ∙ sym (advance-on (ap (goes-on (c .room)) (sym ex) ∙ sym eb ∙ h))
-          , subst (λ (z : Step). Inside image c z) (sym e)
-            (inside-more c u (settle image u y) (omega arith)
-            (inside-settle u y (sound-turn c s) (subst (λ (k : Cursor). Within y (k .end - k .at)) et w))) )
+          let e : r ≡ settle image u y = er ∙ ap (λ (k : Cursor). settle image k y) et in (
+            e ∙ ap (settle image u) (ey ∙ ap (look image) et) ∙ sym (advance-on (ap (goes-on (c .room)) (sym ex) ∙ sym eb ∙ h)),
+            subst (λ (z : Step). Inside image c z) (sym e)
+                (inside-more c u (settle image u y) (omega arith)
+                (inside-settle u y (sound-turn c s) (subst (λ (k : Cursor). Within y (k .end - k .at)) et w))),
+          )
 
       pub advanced-here : (r : Step) → b ≡ false → r ≡ settle image c x → Within x (c .end - c .at) → (r ≡ advance image c) × Inside image c r
-      advanced-here r h er w =
-          ( er ∙ ap (settle image c) ex ∙ sym (advance-here (ap (goes-on (c .room)) (sym ex) ∙ sym eb ∙ h))
-          , subst (λ (z : Step). Inside image c z) (sym er) (inside-settle c x s w) )
+      advanced-here r h er w = (
+        er ∙ ap (settle image c) ex ∙ sym (advance-here (ap (goes-on (c .room)) (sym ex) ∙ sym eb ∙ h)),
+        subst (λ (z : Step). Inside image c z) (sym er) (inside-settle c x s w),
+      )

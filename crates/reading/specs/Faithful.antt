@@ -32,9 +32,10 @@ module _ (image : List ℕ) where
   torn-kept c false e = rw (torn-end, e) tt
 
   settle-kept : (c : Cursor) (x : Next) → Sound image c → Fits x (c .end - c .at) → Kept (settle image c x)
-  settle-kept c (Next.Record n d) s f =
-      ( record { fits = omega (arith, s .ordered, s .inside) }
-      , record { ordered = omega (arith, s .ordered); inside = s .inside; room = s .room; small = s .small } )
+  settle-kept c (Next.Record n d) s f = (
+    record { fits = omega (arith, s .ordered, s .inside) },
+    record { ordered = omega (arith, s .ordered); inside = s .inside; room = s .room; small = s .small },
+  )
   settle-kept c Next.Wrap s f = tt
   settle-kept c Next.TornWrap s f = torn-kept c _ refl
   settle-kept c Next.Clear s f = tt

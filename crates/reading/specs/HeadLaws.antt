@@ -35,6 +35,7 @@ magic-inside s a low e = go (leb a (length s)) refl where
   past : (x y : Bool) → (x && y) ≡ true → y ≡ true
   past true y h = h
   past false y h = absurd (let z : _≡_ {A = ℕ} 0 1 = cc in omega arith)
+
   go : (t : Bool) → leb a (length s) ≡ t → a ≤ length s
   go true h = leb-true a (length s) h
   go false h =
@@ -104,7 +105,7 @@ module _ (image : List ℕ) (at : ℕ) (w : Walked image at) where
             fuel = k;
             enough = omega arith;
             inside = omega (arith, w .inside);
-            same = q ∙ walk-step k at (drop at image) n d h (sym e ∙ z) ∙ ap (walk k (at + size-of n d)) (drop-drop (size-of n d) at image)
+            same = q ∙ walk-step k at (drop at image) n d h (sym e ∙ z) ∙ ap (walk k (at + size-of n d)) (drop-drop (size-of n d) at image);
           }
 
 -- ---- what the walk finds at an address: r read in the part p from there on
@@ -163,5 +164,5 @@ module _ (image : List ℕ) (from at : ℕ) (w : Sought image from at) where
             fuel = k;
             enough = omega arith;
             inside = omega arith;
-            same = q ∙ search-step at (drop at image) k h (rw length-drop (omega arith)) ∙ ap (search k (at + 8)) (drop-drop 8 at image)
+            same = q ∙ search-step at (drop at image) k h (rw length-drop (omega arith)) ∙ ap (search k (at + 8)) (drop-drop 8 at image);
           }

@@ -6,6 +6,7 @@ pub mod Bridge
 pub mod Fold
 pub mod FileLaws
 pub mod Seek
+pub mod Largest
 pub mod Tally
 pub mod Faithful
 pub mod TallyLaws

@@ -37,13 +37,13 @@ module _ (image : List ℕ) (h : ℕ) (l : h ≤ length image) (c : Cursor) (p :
   surveyed s small spots t a b n =
       record {
         tallied =
-          rw a
-          record {
-            sound = first-sound image h l small;
-            same = t ∙ ap (λ (x : Pass). x .tally) (q ∙ ap (λ (k : Cursor). passed none-yet (rest image k)) e);
-            spots = rw t spots
-          };
-        place = record { head = rw a l; tail = b; whole = n; small = small }
+            rw a
+            record {
+              sound = first-sound image h l small;
+              same = t ∙ ap (λ (x : Pass). x .tally) (q ∙ ap (λ (k : Cursor). passed none-yet (rest image k)) e);
+              spots = rw t spots;
+            };
+        place = record { head = rw a l; tail = b; whole = n; small = small };
       }
 
   pub read-broken : (t : ℕ) (w : Bool) → p .end ≡ Step.Broken t w → refuse 5 ≡ judged image (reading-from image h)

@@ -78,14 +78,14 @@ module _ (p : Entry → Bool) {image : List ℕ} {start c : Cursor} {m : ℕ} (w
     count-one h =
         record {
           fold = fold-step (count-of p) image start 0 c m (w .fold) e next t (m + 1) (rw (keep-hit p (entry-of image e) (rest image next .entries) h) (omega arith));
-          few = omega (arith, w .few, t .onward .less)
+          few = omega (arith, w .few, t .onward .less);
         }
 
     pub count-none : p (entry-of image e) ≡ false → Counted p image start next m
     count-none h =
         record {
           fold = fold-step (count-of p) image start 0 c m (w .fold) e next t m (rw (keep-miss p (entry-of image e) (rest image next .entries) h));
-          few = omega (arith, w .few, t .onward .less)
+          few = omega (arith, w .few, t .onward .less);
         }
 
 -- ---- two of one name

@@ -40,7 +40,7 @@ noted t e =
       last = spot-of e;
       fine = t .fine && name-fine e;
       further = t .further || (ltb 1 (t .records) && marked e);
-      held = is-unfinished (e .it .status)
+      held = is-unfinished (e .it .status);
     }
 
 abbrev pub tally : Tally → List Entry → Tally
@@ -97,7 +97,7 @@ module _ {image : List ℕ} where
       record {
         first = either (eqb (t .records) 0) (spot-of (entry-of image e)) (t .first) v (s .first);
         second = either (leb (t .records) 1) (spot-of (entry-of image e)) (t .second) v (s .second);
-        last = v
+        last = v;
       }
 
   pub passing-step : {start c next : Cursor} {e : Spot} {t u : Tally} → Passing image start c t → Turned image c e next → u ≡ noted t (entry-of image e) → Passing image start next u
@@ -106,7 +106,7 @@ module _ {image : List ℕ} where
       record {
         fold = fold-step passed image start none-yet c t (p .fold) e next w (noted t (entry-of image e)) refl;
         spots = noted-spots t e (w .whole) (p .spots);
-        few = omega (arith, p .few, w .onward .less, noted-records t (entry-of image e))
+        few = omega (arith, p .few, w .onward .less, noted-records t (entry-of image e));
       }
 
   -- the tally as the code makes it

@@ -71,8 +71,8 @@ tally-behind t (e ∷ es) h =
       first = b .first ∙ rw (ne-eqb (t .records) 0 z);
       second = b .second ∙ rw (lt-leb (t .records) 1 (omega arith));
       further =
-        b .further ∙ rw (lt-ltb 1 (t .records) (omega arith))
-          (or-assoc (t .further) (marked e) (any marked es) ∙ ap (λ (c : Bool). t .further || c) (any-or marked e es _ refl))
+          b .further ∙ rw (lt-ltb 1 (t .records) (omega arith))
+          (or-assoc (t .further) (marked e) (any marked es) ∙ ap (λ (c : Bool). t .further || c) (any-or marked e es _ refl));
     }
 
 -- ---- of all records

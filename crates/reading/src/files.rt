@@ -1,9 +1,9 @@
 // Files: which records are live, which names are held twice, and the file of a name or of an index.
-use crate::chain::advance;
 use crate::Cursor;
 use crate::Found;
 use crate::Spot;
 use crate::Step;
+use crate::chain::advance;
 use spec::Status;
 ghost use mathlib.Core.Path.{_≡_};
 ghost use Prim.Native.Nat.{_≤_};
@@ -18,7 +18,7 @@ ghost use Rattle.reading.specs.FileLaws.{twice, is-file};
 ghost use Rattle.reading.specs.Seek.{found-in, Found-whole};
 
 // Two slices hold the same bytes: the lengths tell most apart.
-fn same_bytes<'a>(x: &'a [u8], y: &'a [u8]) -> bool
+fn same_bytes(x: &[u8], y: &[u8]) -> bool
     ensures { λ r. ⌜ r ≡ same (now (x .entry)) (now (y .entry)) ⌝ }
 {
     if x.len() != y.len() {
@@ -35,7 +35,7 @@ fn same_bytes<'a>(x: &'a [u8], y: &'a [u8]) -> bool
 }
 
 // The record has this name.
-fn has_name<'a>(image: &'a [u8], e: Spot, name: &'a [u8]) -> bool
+pub fn has_name(image: &[u8], e: Spot, name: &[u8]) -> bool
     requires { ⌜ Whole (now image) e ⌝ }
     ensures { λ r. ⌜ r ≡ has-name (now (name .entry)) (entry-of (now (image .entry)) e) ⌝ }
 {
@@ -200,7 +200,7 @@ pub fn is_file(image: &[u8], e: Spot) -> bool
 }
 
 // The file of this name, where nothing is superseded.
-pub fn file_named<'a>(image: &'a [u8], start: Cursor, name: &'a [u8]) -> Found
+pub fn file_named(image: &[u8], start: Cursor, name: &[u8]) -> Found
     requires { ⌜ Sound (now image) start ⌝ }
     ensures { λ r. ⌜ (found-in (now (image .entry)) r ≡ first-such (has-name (now (name .entry))) (keep is-file (rest (now (image .entry)) start .entries))) × Found-whole (now (image .entry)) r ⌝ }
 {

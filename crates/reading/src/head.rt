@@ -1,11 +1,11 @@
 // The head: the walk over the records from 0, and the search over the 8-byte boundaries from where it ends.
 use crate::Headed;
-use spec::Next;
-use spec::Status;
+use spec::CLEAN;
 use spec::HIGH;
+use spec::Next;
 use spec::RECORD;
 use spec::START;
-use spec::CLEAN;
+use spec::Status;
 use spec::WRAP;
 ghost use mathlib.Core.Path.{_≡_};
 ghost use mathlib.Core.Bool.{_||_, _&&_};

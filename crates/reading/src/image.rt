@@ -1,16 +1,16 @@
 // The whole reading of an image: the survey that the calls go by, or a refusal.
-use crate::chain::start_at;
-use crate::free::floor;
-use crate::head::head;
-use crate::rules::legal;
-use crate::rules::settled;
-use crate::scan::pass;
 use crate::Cursor;
 use crate::Headed;
 use crate::Read;
 use crate::Step;
 use crate::Survey;
 use crate::Tally;
+use crate::chain::start_at;
+use crate::free::floor;
+use crate::head::head;
+use crate::rules::legal;
+use crate::rules::settled;
+use crate::scan::pass;
 use spec::Ending;
 use spec::Place;
 ghost use mathlib.Core.Path.{_≡_};
@@ -20,7 +20,7 @@ ghost use lib.ListN.{length};
 ghost use Rattle.spec.specs.Chain.{reading-from};
 ghost use Rattle.spec.specs.Reading.{whole, judged, reading};
 ghost use Rattle.spec.specs.Answers.{settled-reading};
-ghost use Rattle.reading.specs.Read.{first-cursor, reading-of, Surveyed, answered, Told, Quiet};
+ghost use Rattle.reading.specs.Read.{first-cursor, survey-of, reading-of, Surveyed, answered, Told, Quiet};
 
 // The cursor at a head in this image.
 pub fn first_cursor(image: &[u8], h: usize) -> Cursor
@@ -39,6 +39,29 @@ fn judged(image: &[u8], start: Cursor, s: Survey) -> Read
     Read::Refused(5)
 }
 
+fn survey(
+    head: usize,
+    tail: usize,
+    turned: bool,
+    length: usize,
+    ending: Ending,
+    tally: Tally,
+) -> Survey
+    ensures { λ r. ⌜ r ≡ survey-of head tail turned length ending tally ⌝ }
+{
+    let place = Place {
+        head: head,
+        tail: tail,
+        turned: turned,
+        length: length,
+    };
+    Survey {
+        place: place,
+        ending: ending,
+        tally: tally,
+    }
+}
+
 // What is read from the head h on.
 pub fn read_from(image: &[u8], h: usize) -> Read
     requires { ⌜ (h ≤ length (now image)) × (16 ≤ length (now image)) × (length (now image) ≤ 2 ^ 24) ⌝ }
@@ -48,42 +71,19 @@ pub fn read_from(image: &[u8], h: usize) -> Read
     let p = pass(image, start);
     let t = p.tally;
     let end = p.end;
+    let length = image.len();
     match end {
         Step::Record(_, _) => Read::Refused(5),
-        Step::End(tail, turned) => {
-            let place = Place {
-                head: h,
-                tail: tail,
-                turned: turned,
-                length: image.len(),
-            };
-            judged(
-                image,
-                start,
-                Survey {
-                    place: place,
-                    ending: Ending::Tail,
-                    tally: t,
-                },
-            )
-        }
-        Step::TornWrap(at) => {
-            let place = Place {
-                head: h,
-                tail: 0,
-                turned: true,
-                length: image.len(),
-            };
-            judged(
-                image,
-                start,
-                Survey {
-                    place: place,
-                    ending: Ending::TornWrap(at),
-                    tally: t,
-                },
-            )
-        }
+        Step::End(tail, turned) => judged(
+            image,
+            start,
+            survey(h, tail, turned, length, Ending::Tail, t),
+        ),
+        Step::TornWrap(at) => judged(
+            image,
+            start,
+            survey(h, 0, true, length, Ending::TornWrap(at), t),
+        ),
         Step::Broken(_, _) => Read::Refused(5),
     }
 }

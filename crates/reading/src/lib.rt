@@ -1,12 +1,14 @@
 // Reading an image: its head, its chain, its files, whether it breaks a rule, whether it is settled.
 // Everything here only looks, and nothing passes over data bytes but the check of the free run.
-mod head;
 pub mod chain;
 pub mod files;
-pub mod scan;
 pub mod free;
-mod rules;
+mod head;
 pub mod image;
+pub mod largest;
+mod rules;
+pub mod scan;
+
 use spec::Ending;
 use spec::Place;
 

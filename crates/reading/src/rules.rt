@@ -1,17 +1,17 @@
 // The rules that a chain may break, and the tests that tell a settled image.
+use crate::Cursor;
+use crate::Spot;
+use crate::Survey;
+use crate::Tally;
 use crate::files::any_superseded;
 use crate::files::doubled;
 use crate::files::is_live;
 use crate::free::floor;
 use crate::free::free_ok;
 use crate::scan::marked;
-use crate::Cursor;
-use crate::Spot;
-use crate::Survey;
-use crate::Tally;
+use spec::CLEAN;
 use spec::Ending;
 use spec::Status;
-use spec::CLEAN;
 ghost use mathlib.Core.Path.{_≡_};
 ghost use mathlib.Core.Bool.{true, not};
 ghost use Rattle.spec.specs.Reading.{head-clean, second-ok, marks-ok, single, whole, legal};

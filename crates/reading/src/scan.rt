@@ -1,13 +1,13 @@
 // One pass over the chain: the tally of its records.
-use crate::chain::advance;
-use crate::files::is_file;
 use crate::Cursor;
 use crate::Pass;
 use crate::Spot;
 use crate::Step;
 use crate::Tally;
-use spec::START;
+use crate::chain::advance;
+use crate::files::is_file;
 use spec::CLEAN;
+use spec::START;
 ghost use mathlib.Core.Path.{_≡_};
 ghost use mathlib.Core.Bool.{cond, _&&_, _||_};
 ghost use Prim.Native.Nat.{_≤_, _<_, _^_};

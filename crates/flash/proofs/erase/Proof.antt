@@ -23,7 +23,9 @@ returns : tie.Need-returns Inv-loop μ-loop
 returns c = let a = c .before .before .before .before .args in record { bytes = one-out (a .image .now) (a .m .allowance - a .m .asked) (erase (a .at)) (omega arith); count = c .counted .ensures .0; same = c .counted .ensures .1 }
 
 loop-holds : tie.Need-loop-holds Inv-loop μ-loop
-loop-holds c = (omega arith, erased-none (c .before .before .before .args .image .now) (c .before .before .before .args .at))
+loop-holds c =
+    let a = c .before .before .before .args in
+    (omega arith, erased-none (a .image .now) (a .at))
 
 add-image : tie.Need-add-image Inv-loop μ-loop
 add-image c = search needs

@@ -28,26 +28,29 @@ size-requires c κs = search needs
 
 returns-2 : tie.Need-returns-2
 returns-2 c =
-    let s = c .before .before .before .before .before .before .before .before .args .part .now in
+    let a = c .before .before .before .before .before .before .before .before .args in
+    let s = a .part .now in
     let n = c .before .before .before .before .name-len .result in
     let d = c .before .before .before .data-len .result in (
-      sized-as (c .before .before .before .before .before .before .before .before .args .held) s _ n d (c .before .before .before .before .name-len .ensures .0) refl (c .before .before .before .data-len .ensures .0) (sized-is s n d (omega arith) (omega arith)),
+      sized-as (a .held) s _ n d (c .before .before .before .before .name-len .ensures .0) refl (c .before .before .before .data-len .ensures .0) (sized-is s n d (omega arith) (omega arith)),
       (omega arith, omega arith, omega arith),
     )
 
 returns-3 : tie.Need-returns-3
 returns-3 c =
-    let s = c .before .before .before .before .before .before .before .before .args .part .now in
+    let a = c .before .before .before .before .before .before .before .before .args in
+    let s = a .part .now in
     let n = c .before .before .before .before .name-len .result in
     let d = c .before .before .before .data-len .result in
-    (sized-as (c .before .before .before .before .before .before .before .before .args .held) s _ n d (c .before .before .before .before .name-len .ensures .0) refl (c .before .before .before .data-len .ensures .0) (sized-short s n d (omega arith) (omega arith)), tt)
+    (sized-as (a .held) s _ n d (c .before .before .before .before .name-len .ensures .0) refl (c .before .before .before .data-len .ensures .0) (sized-short s n d (omega arith) (omega arith)), tt)
 
 returns-4 : tie.Need-returns-4
 returns-4 c =
-    let s = c .before .before .before .before .before .before .args .part .now in
+    let a = c .before .before .before .before .before .before .args in
+    let s = a .part .now in
     let n = c .before .before .name-len .result in
     let d = c .before .data-len .result in
-    (sized-as (c .before .before .before .before .before .before .args .held) s _ n d (c .before .before .name-len .ensures .0) refl (c .before .data-len .ensures .0) (sized-open s n d (omega arith)), tt)
+    (sized-as (a .held) s _ n d (c .before .before .name-len .ensures .0) refl (c .before .data-len .ensures .0) (sized-open s n d (omega arith)), tt)
 
 pub record-of-spec : {M : Type 1} → statement M
 record-of-spec =

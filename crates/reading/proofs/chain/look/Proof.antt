@@ -25,11 +25,14 @@ allowed-requires c κs = search needs
 
 returns : tie.Need-returns
 returns c =
-    let s = c .before .before .before .before .args .image .now in
-    let k = c .before .before .before .before .args .c in
-    let w = subst (λ (l : ℕ). Within (c .before .next-of .result) l) (sym (part-count s (k .at) (k .end) (c .before .before .before .before .pre .ordered, c .before .before .before .before .pre .inside))) (c .before .next-of .ensures .1) in
-    ( look-is s k (c .allowed .result) (c .before .next-of .result) (c .before .before .before .before .pre .ordered) (c .before .next-of .ensures .0) (c .allowed .ensures)
-    , subst (λ (x : Next). Within x (k .end - k .at)) (sym (c .allowed .ensures)) (allowed-within (k .held) (c .before .next-of .result) (k .end - k .at) w) )
+    let p = c .before .before .before .before .pre in
+    let a = c .before .before .before .before .args in
+    let s = a .image .now in
+    let k = a .c in
+    let w = subst (λ (l : ℕ). Within (c .before .next-of .result) l) (sym (part-count s (k .at) (k .end) (p .ordered, p .inside))) (c .before .next-of .ensures .1) in (
+      look-is s k (c .allowed .result) (c .before .next-of .result) (p .ordered) (c .before .next-of .ensures .0) (c .allowed .ensures),
+      subst (λ (x : Next). Within x (k .end - k .at)) (sym (c .allowed .ensures)) (allowed-within (k .held) (c .before .next-of .result) (k .end - k .at) w),
+    )
 
 pub look-spec : {M : Type 1} → statement M
 look-spec =

@@ -6,7 +6,9 @@ enum-known-x : tie.Need-enum-known-x
 enum-known-x c = search needs
 
 record-at-requires : tie.Need-record-at-requires
-record-at-requires c κs = (c .before .before .before .before .pre .0, rw (c .before .x .given .1) at (c .before .before .before .before .pre .1))
+record-at-requires c κs =
+    let p = c .before .before .before .before .pre in
+    (p .0, rw (c .before .x .given .1) at (p .1))
 
 enum-told : tie.Need-enum-told
 enum-told c = search needs

@@ -26,7 +26,9 @@ same-bytes-requires : tie.Need-same-bytes-requires
 same-bytes-requires c κs = tt
 
 returns : tie.Need-returns
-returns c = let e = c .before .before .before .before .before .before .args .e in c .same-bytes .ensures ∙ ap (λ (l : List ℕ). same l (c .before .before .before .before .before .before .args .name .now)) (name-part (c .before .before .before .before .before .before .args .image .now) (e .at) (e .n))
+returns c =
+    let a = c .before .before .before .before .before .before .args in
+    let e = a .e in c .same-bytes .ensures ∙ ap (λ (l : List ℕ). same l (a .name .now)) (name-part (a .image .now) (e .at) (e .n))
 
 pub has-name-spec : {M : Type 1} → statement M
 has-name-spec =

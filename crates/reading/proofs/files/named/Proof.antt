@@ -10,10 +10,14 @@ shared-slice-read-if1 : tie.Need-shared-slice-read-if1
 shared-slice-read-if1 c = search needs
 
 returns : tie.Need-returns
-returns c = named-is (c .before .before .before .before .before .args .image .now) (c .before .before .before .before .before .args .status .byte) (c .before .before .before .before .before .args .e) (c .before .before .before .before .before .pre) (c .before .if1 .taken)
+returns c =
+    let a = c .before .before .before .before .before .args in
+    named-is (a .image .now) (a .status .byte) (a .e) (c .before .before .before .before .before .pre) (c .before .if1 .taken)
 
 returns-2 : tie.Need-returns-2
-returns-2 c = named-no (c .before .before .before .before .args .image .now) (c .before .before .before .before .args .status .byte) (c .before .before .before .before .args .e) (c .if1 .left)
+returns-2 c =
+    let a = c .before .before .before .before .args in
+    named-no (a .image .now) (a .status .byte) (a .e) (c .if1 .left)
 
 pub named-spec : {M : Type 1} → statement M
 named-spec = tie.close (tie.spec add-a shared-slice-read-if1 returns returns-2)

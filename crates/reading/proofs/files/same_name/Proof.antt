@@ -40,9 +40,10 @@ same-bytes-requires c κs = tt
 
 returns : tie.Need-returns
 returns c =
-    let e = c .before .before .before .before .before .before .before .before .args .e in
-    let f = c .before .before .before .before .before .before .before .before .args .f in
-    c .same-bytes .ensures ∙ ap₂ same (name-part (c .before .before .before .before .before .before .before .before .args .image .now) (e .at) (e .n)) (name-part (c .before .before .before .before .before .before .before .before .args .image .now) (f .at) (f .n))
+    let a = c .before .before .before .before .before .before .before .before .args in
+    let e = a .e in
+    let f = a .f in
+    c .same-bytes .ensures ∙ ap₂ same (name-part (a .image .now) (e .at) (e .n)) (name-part (a .image .now) (f .at) (f .n))
 
 pub same-name-spec : {M : Type 1} → statement M
 same-name-spec =

@@ -16,7 +16,9 @@ is-blank-requires : tie.Need-is-blank-requires
 is-blank-requires c κs = search needs
 
 returns : tie.Need-returns
-returns c = part-blank (c .before .before .before .before .args .image .now) (c .before .before .before .before .args .a) (c .before .before .before .before .args .b) _ (c .before .before .if1 .taken) (c .is-blank .ensures)
+returns c =
+    let a = c .before .before .before .before .args in
+    part-blank (a .image .now) (a .a) (a .b) _ (c .before .before .if1 .taken) (c .is-blank .ensures)
 
 returns-2 : tie.Need-returns-2
 returns-2 c = part-empty (c .before .before .args .image .now) (c .before .before .args .a) (c .before .before .args .b) (c .if1 .left)

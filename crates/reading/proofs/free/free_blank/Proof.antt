@@ -12,7 +12,9 @@ blank-part-requires : tie.Need-blank-part-requires
 blank-part-requires c κs = omega (arith, c .before .before .before .pre .head)
 
 returns : tie.Need-returns
-returns c = free-turned (c .before .before .before .before .args .image .now) (c .before .before .before .before .args .p) (c .before .before .floor .result) (c .before .before .floor .ensures .0) _ (c .before .if1 .taken) (c .blank-part .ensures)
+returns c =
+    let a = c .before .before .before .before .args in
+    free-turned (a .image .now) (a .p) (c .before .before .floor .result) (c .before .before .floor .ensures .0) _ (c .before .if1 .taken) (c .blank-part .ensures)
 
 blank-part-requires-2 : tie.Need-blank-part-requires-2
 blank-part-requires-2 c κs = omega (arith, c .before .before .before .pre .head)
@@ -21,10 +23,14 @@ blank-part-requires-3 : tie.Need-blank-part-requires-3
 blank-part-requires-3 c κs = omega (arith, c .before .before .before .before .before .pre .whole)
 
 returns-2 : tie.Need-returns-2
-returns-2 c = free-both (c .before .before .before .before .before .before .args .image .now) (c .before .before .before .before .before .before .args .p) (c .before .before .before .before .floor .result) (c .before .before .before .before .floor .ensures .0) _ (c .before .before .before .if1 .left) (flag (c .before .before .blank-part2 .ensures) (c .before .if2 .taken)) (c .blank-part3 .ensures)
+returns-2 c =
+    let a = c .before .before .before .before .before .before .args in
+    free-both (a .image .now) (a .p) (c .before .before .before .before .floor .result) (c .before .before .before .before .floor .ensures .0) _ (c .before .before .before .if1 .left) (flag (c .before .before .blank-part2 .ensures) (c .before .if2 .taken)) (c .blank-part3 .ensures)
 
 returns-3 : tie.Need-returns-3
-returns-3 c = free-first (c .before .before .before .before .before .args .image .now) (c .before .before .before .before .before .args .p) (c .before .before .before .floor .result) (c .before .before .before .floor .ensures .0) (c .before .before .if1 .left) (flag (c .before .blank-part2 .ensures) (c .if2 .left))
+returns-3 c =
+    let a = c .before .before .before .before .before .args in
+    free-first (a .image .now) (a .p) (c .before .before .before .floor .result) (c .before .before .before .floor .ensures .0) (c .before .before .if1 .left) (flag (c .before .blank-part2 .ensures) (c .if2 .left))
 
 pub free-blank-spec : {M : Type 1} → statement M
 free-blank-spec =

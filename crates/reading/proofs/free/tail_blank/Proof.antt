@@ -17,20 +17,26 @@ limit-requires : tie.Need-limit-requires
 limit-requires c κs = search needs
 
 blank-part-requires : tie.Need-blank-part-requires
-blank-part-requires c κs = omega (arith, c .before .limit .ensures, limit-inside (c .before .before .before .before .args .image .now) (c .before .before .before .before .args .p) _ (c .before .before .before .before .pre) refl)
+blank-part-requires c κs =
+    let a = c .before .before .before .before .args in
+    omega (arith, c .before .limit .ensures, limit-inside (a .image .now) (a .p) _ (c .before .before .before .before .pre) refl)
 
 returns : tie.Need-returns
 returns c =
-    tail-sector (c .before .before .before .before .before .args .image .now) (c .before .before .before .before .before .args .p) _ (omega (arith, c .before .before .limit .ensures, c .before .before .before .floor .ensures .0))
-    (c .blank-part .ensures ∙ ap (λ (n : ℕ). blank-part (c .before .before .before .before .before .args .p .tail) (n + 4096) (c .before .before .before .before .before .args .image .now)) (c .before .before .before .floor .ensures .0))
+    let a = c .before .before .before .before .before .args in
+    tail-sector (a .image .now) (a .p) _ (omega (arith, c .before .before .limit .ensures, c .before .before .before .floor .ensures .0))
+    (c .blank-part .ensures ∙ ap (λ (n : ℕ). blank-part (a .p .tail) (n + 4096) (a .image .now)) (c .before .before .before .floor .ensures .0))
 
 blank-part-requires-2 : tie.Need-blank-part-requires-2
-blank-part-requires-2 c κs = omega (arith, c .before .limit .ensures, limit-inside (c .before .before .before .before .args .image .now) (c .before .before .before .before .args .p) _ (c .before .before .before .before .pre) refl)
+blank-part-requires-2 c κs =
+    let a = c .before .before .before .before .args in
+    omega (arith, c .before .limit .ensures, limit-inside (a .image .now) (a .p) _ (c .before .before .before .before .pre) refl)
 
 returns-2 : tie.Need-returns-2
 returns-2 c =
-    tail-limit (c .before .before .before .before .before .args .image .now) (c .before .before .before .before .before .args .p) _ (omega (arith, c .before .before .limit .ensures, c .before .before .before .floor .ensures .0))
-    (c .blank-part2 .ensures ∙ ap (λ (n : ℕ). blank-part (c .before .before .before .before .before .args .p .tail) n (c .before .before .before .before .before .args .image .now)) (c .before .before .limit .ensures))
+    let a = c .before .before .before .before .before .args in
+    tail-limit (a .image .now) (a .p) _ (omega (arith, c .before .before .limit .ensures, c .before .before .before .floor .ensures .0))
+    (c .blank-part2 .ensures ∙ ap (λ (n : ℕ). blank-part (a .p .tail) n (a .image .now)) (c .before .before .limit .ensures))
 
 pub tail-blank-spec : {M : Type 1} → statement M
 tail-blank-spec =

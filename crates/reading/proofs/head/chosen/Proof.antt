@@ -28,9 +28,10 @@ returns-2 c =
 
 returns-3 : tie.Need-returns-3
 unfolding is-start is-high is-clean chosen
-returns-3 c =
-    ( rw (flag (c .before .before .before .before .before .magic .ensures) (c .before .before .before .before .if1 .left), flag (c .before .before .before .magic2 .ensures) (c .before .before .if2 .taken), flag (c .before .magic3 .ensures) (c .if3 .left), chosen)
-    , magic-inside _ _ _ (flag (c .before .before .before .magic2 .ensures) (c .before .before .if2 .taken)) )
+returns-3 c = (
+  rw (flag (c .before .before .before .before .before .magic .ensures) (c .before .before .before .before .if1 .left), flag (c .before .before .before .magic2 .ensures) (c .before .before .if2 .taken), flag (c .before .magic3 .ensures) (c .if3 .left), chosen),
+  magic-inside _ _ _ (flag (c .before .before .before .magic2 .ensures) (c .before .before .if2 .taken)),
+)
 
 magic-requires-4 : tie.Need-magic-requires-4
 magic-requires-4 c κs = search needs

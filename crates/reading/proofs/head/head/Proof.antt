@@ -33,10 +33,11 @@ chosen-requires c κs = search needs
 returns-3 : tie.Need-returns-3
 unfolding is-start is-high is-wrap head
 returns-3 c =
-    let s = c .before .before .before .before .before .before .before .before .args .image .now in
-    ( c .chosen .ensures .0 ∙ ap (chosen s) (c .before .search .ensures .0 ∙ ap (sought s) (c .before .before .walk .ensures .0))
-      ∙ rw (flag (c .before .before .before .before .before .before .magic .ensures) (c .before .before .before .before .before .if1 .left), flag (c .before .before .before .before .magic2 .ensures) (c .before .before .before .if2 .left), head)
-    , c .chosen .ensures .1 )
+    let s = c .before .before .before .before .before .before .before .before .args .image .now in (
+      c .chosen .ensures .0 ∙ ap (chosen s) (c .before .search .ensures .0 ∙ ap (sought s) (c .before .before .walk .ensures .0))
+          ∙ rw (flag (c .before .before .before .before .before .before .magic .ensures) (c .before .before .before .before .before .if1 .left), flag (c .before .before .before .before .magic2 .ensures) (c .before .before .before .if2 .left), head),
+      c .chosen .ensures .1,
+    )
 
 pub head-spec : {M : Type 1} → statement M
 head-spec =

@@ -29,10 +29,12 @@ record-of-requires c κs = search needs
 
 returns : tie.Need-returns
 returns c =
-    let s = c .before .before .before .before .before .before .before .args .image .now in
-    let at = c .before .before .before .before .before .before .before .args .at in
-    ( walk-next-is at (drop at s) _ (c .record-of .result) _ (flag (c .before .before .before .before .before .walked-here .ensures) (c .before .before .before .before .if1 .taken)) (c .before .before .byte .ensures) (part-to-end s at) (c .record-of .ensures .0)
-    , subst (λ (l : ℕ). Within (c .record-of .result) l) (length-part s at) (c .record-of .ensures .1) )
+    let a = c .before .before .before .before .before .before .before .args in
+    let s = a .image .now in
+    let at = a .at in (
+      walk-next-is at (drop at s) _ (c .record-of .result) _ (flag (c .before .before .before .before .before .walked-here .ensures) (c .before .before .before .before .if1 .taken)) (c .before .before .byte .ensures) (part-to-end s at) (c .record-of .ensures .0),
+      subst (λ (l : ℕ). Within (c .record-of .result) l) (length-part s at) (c .record-of .ensures .1),
+    )
 
 returns-2 : tie.Need-returns-2
 returns-2 c = (walk-next-none _ _ (flag (c .before .walked-here .ensures) (c .if1 .left)), tt)

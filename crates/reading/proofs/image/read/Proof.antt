@@ -12,7 +12,9 @@ enum-known-x : tie.Need-enum-known-x
 enum-known-x c = search needs
 
 read-from-requires : tie.Need-read-from-requires
-read-from-requires c κs = (rw (c .before .x .given .1) at (c .before .before .before .head .ensures .1), c .before .before .before .before .before .pre .0, c .before .before .before .before .before .pre .1)
+read-from-requires c κs =
+    let p = c .before .before .before .before .before .pre in
+    (rw (c .before .x .given .1) at (c .before .before .before .head .ensures .1), p .0, p .1)
 
 enum-known-x-2 : tie.Need-enum-known-x-2
 enum-known-x-2 c = search needs

@@ -1,7 +1,8 @@
 use mathlib.Core.Path.{refl, ap, _∙_}
-use Rattle.reading.specs.Read.{first-cursor}
-use Rattle.reading.specs.ReadLaws.{first-sound, read-as, surveyed, read-broken, read-record}
 use Rattle.spec.specs.Reading.{judged}
+use Rattle.reading.specs.declared.Survey.{Survey}
+use Rattle.reading.specs.Read.{reading-of}
+use Rattle.reading.specs.ReadLaws.{first-sound, read-as, surveyed, read-broken, read-record}
 use native.Mathlib.Omega.{arith}
 use borrow.Author.Needs.{needs}
 use Rattle.reading.proofs.image.read_from.Statement.{statement}
@@ -19,29 +20,49 @@ enum-told c = search needs
 enum-known-end : tie.Need-enum-known-end
 enum-known-end c = search needs
 
+survey-requires : tie.Need-survey-requires
+survey-requires c κs = search needs
+
 judged-requires : tie.Need-judged-requires
-judged-requires c κs = (surveyed (c .before .before .before .before .before .before .before .args .image .now) (c .before .before .before .before .before .before .before .args .h) (c .before .before .before .before .before .before .before .pre .0) (c .before .before .before .before .before .first-cursor .result) (c .before .before .before .before .pass .result) (c .before .before .before .before .before .first-cursor .ensures) (c .before .before .before .before .pass .ensures .0) _ (c .before .before .before .before .before .before .before .pre .2) (c .before .before .before .before .pass .ensures .1) refl refl (rw (c .before .end .given .1) at (c .before .before .before .before .pass .ensures .2)) refl, c .before .before .before .before .before .first-cursor .ensures, refl)
+judged-requires c κs =
+    let a = c .before .before .before .before .before .before .before .before .args in
+    rw (c .survey .ensures) (surveyed (a .image .now) (a .h) (c .before .before .before .before .before .before .before .before .pre .0) (c .before .before .before .before .before .before .first-cursor .result) (c .before .before .before .before .before .pass .result) (c .before .before .before .before .before .before .first-cursor .ensures) (c .before .before .before .before .before .pass .ensures .0) _ (c .before .before .before .before .before .before .before .before .pre .2) (c .before .before .before .before .before .pass .ensures .1) refl refl (rw (c .before .before .end .given .1) at (c .before .before .before .before .before .pass .ensures .2)) refl, c .before .before .before .before .before .before .first-cursor .ensures, refl)
 
 enum-known-end-2 : tie.Need-enum-known-end-2
 enum-known-end-2 c = search needs
 
+survey-requires-2 : tie.Need-survey-requires-2
+survey-requires-2 c κs = search needs
+
 judged-requires-2 : tie.Need-judged-requires-2
-judged-requires-2 c κs = (surveyed (c .before .before .before .before .before .before .before .args .image .now) (c .before .before .before .before .before .before .before .args .h) (c .before .before .before .before .before .before .before .pre .0) (c .before .before .before .before .before .first-cursor .result) (c .before .before .before .before .pass .result) (c .before .before .before .before .before .first-cursor .ensures) (c .before .before .before .before .pass .ensures .0) _ (c .before .before .before .before .before .before .before .pre .2) (c .before .before .before .before .pass .ensures .1) refl refl (omega arith) refl, c .before .before .before .before .before .first-cursor .ensures, refl)
+judged-requires-2 c κs =
+    let a = c .before .before .before .before .before .before .before .before .args in
+    rw (c .survey2 .ensures) (surveyed (a .image .now) (a .h) (c .before .before .before .before .before .before .before .before .pre .0) (c .before .before .before .before .before .before .first-cursor .result) (c .before .before .before .before .before .pass .result) (c .before .before .before .before .before .before .first-cursor .ensures) (c .before .before .before .before .before .pass .ensures .0) _ (c .before .before .before .before .before .before .before .before .pre .2) (c .before .before .before .before .before .pass .ensures .1) refl refl (omega arith) refl, c .before .before .before .before .before .before .first-cursor .ensures, refl)
 
 enum-told-2 : tie.Need-enum-told-2
 enum-told-2 c = search needs
 
 returns : tie.Need-returns
-returns c = (read-record (c .before .before .before .before .before .before .args .image .now) (c .before .before .before .before .before .before .args .h) (c .before .before .before .before .before .before .pre .0) (c .before .before .before .before .first-cursor .result) (c .before .before .before .pass .result) (c .before .before .before .before .first-cursor .ensures) (c .before .before .before .pass .ensures .0) _ _ (c .enum-told .given .1), tt)
+returns c = let a = c .before .before .before .before .before .before .args in (read-record (a .image .now) (a .h) (c .before .before .before .before .before .before .pre .0) (c .before .before .before .before .first-cursor .result) (c .before .before .before .pass .result) (c .before .before .before .before .first-cursor .ensures) (c .before .before .before .pass .ensures .0) _ _ (c .enum-told .given .1), tt)
 
 returns-2 : tie.Need-returns-2
-returns-2 c = (c .judged .ensures .0 ∙ ap (judged (c .before .before .before .before .before .before .before .before .args .image .now)) (read-as (c .before .before .before .before .before .before .before .before .args .image .now) (c .before .before .before .before .before .before .before .before .args .h) (c .before .before .before .before .before .before .before .before .pre .0) (c .before .before .before .before .before .before .first-cursor .result) (c .before .before .before .before .before .pass .result) (c .before .before .before .before .before .before .first-cursor .ensures) (c .before .before .before .before .before .pass .ensures .0) _ (c .before .before .end .given .1)), c .judged .ensures .1)
+returns-2 c =
+    let a = c .before .before .before .before .before .before .before .before .before .args in (
+      c .judged .ensures .0 ∙ ap (λ (s : Survey). judged (a .image .now) (reading-of (a .image .now) s)) (c .before .survey .ensures)
+          ∙ ap (judged (a .image .now)) (read-as (a .image .now) (a .h) (c .before .before .before .before .before .before .before .before .before .pre .0) (c .before .before .before .before .before .before .before .first-cursor .result) (c .before .before .before .before .before .before .pass .result) (c .before .before .before .before .before .before .before .first-cursor .ensures) (c .before .before .before .before .before .before .pass .ensures .0) _ (c .before .before .before .end .given .1)),
+      c .judged .ensures .1,
+    )
 
 returns-3 : tie.Need-returns-3
-returns-3 c = (c .judged2 .ensures .0 ∙ ap (judged (c .before .before .before .before .before .before .before .before .args .image .now)) (read-as (c .before .before .before .before .before .before .before .before .args .image .now) (c .before .before .before .before .before .before .before .before .args .h) (c .before .before .before .before .before .before .before .before .pre .0) (c .before .before .before .before .before .before .first-cursor .result) (c .before .before .before .before .before .pass .result) (c .before .before .before .before .before .before .first-cursor .ensures) (c .before .before .before .before .before .pass .ensures .0) _ (c .before .before .end2 .given .1)), c .judged2 .ensures .1)
+returns-3 c =
+    let a = c .before .before .before .before .before .before .before .before .before .args in (
+      c .judged2 .ensures .0 ∙ ap (λ (s : Survey). judged (a .image .now) (reading-of (a .image .now) s)) (c .before .survey2 .ensures)
+          ∙ ap (judged (a .image .now)) (read-as (a .image .now) (a .h) (c .before .before .before .before .before .before .before .before .before .pre .0) (c .before .before .before .before .before .before .before .first-cursor .result) (c .before .before .before .before .before .before .pass .result) (c .before .before .before .before .before .before .before .first-cursor .ensures) (c .before .before .before .before .before .before .pass .ensures .0) _ (c .before .before .before .end2 .given .1)),
+      c .judged2 .ensures .1,
+    )
 
 returns-4 : tie.Need-returns-4
-returns-4 c = (read-broken (c .before .before .before .before .before .before .args .image .now) (c .before .before .before .before .before .before .args .h) (c .before .before .before .before .before .before .pre .0) (c .before .before .before .before .first-cursor .result) (c .before .before .before .pass .result) (c .before .before .before .before .first-cursor .ensures) (c .before .before .before .pass .ensures .0) _ _ (c .enum-told2 .given .1), tt)
+returns-4 c = let a = c .before .before .before .before .before .before .args in (read-broken (a .image .now) (a .h) (c .before .before .before .before .before .before .pre .0) (c .before .before .before .before .first-cursor .result) (c .before .before .before .pass .result) (c .before .before .before .before .first-cursor .ensures) (c .before .before .before .pass .ensures .0) _ _ (c .enum-told2 .given .1), tt)
 
 pub read-from-spec : {M : Type 1} → statement M
 read-from-spec =
@@ -51,8 +72,10 @@ read-from-spec =
     pass-requires
     enum-told
     enum-known-end
+    survey-requires
     judged-requires
     enum-known-end-2
+    survey-requires-2
     judged-requires-2
     enum-told-2
     returns

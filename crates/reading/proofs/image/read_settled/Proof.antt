@@ -30,10 +30,11 @@ settled-requires c κs = (rw (c .before .before .before .x .given .1) at (c .bef
 
 returns-2 : tie.Need-returns-2
 returns-2 c =
-    let s = c .before .before .before .before .before .before .before .before .before .args .image .now in
-    ( settled-by s (reading-of s (c .before .before .before .before .before .x .given .0 .0)) true (sym (ap (answered s) (c .before .before .before .before .before .x .given .1)) ∙ c .before .before .before .before .before .before .before .read .ensures .0) (flag (c .before .settled .ensures) (c .if1 .taken))
-    , rw (c .before .before .before .before .before .x .given .1) at (c .before .before .before .before .before .before .before .read .ensures .1)
-    , settled-quiet s (reading-of s (c .before .before .before .before .before .x .given .0 .0)) (flag (c .before .settled .ensures) (c .if1 .taken)) )
+    let s = c .before .before .before .before .before .before .before .before .before .args .image .now in (
+      settled-by s (reading-of s (c .before .before .before .before .before .x .given .0 .0)) true (sym (ap (answered s) (c .before .before .before .before .before .x .given .1)) ∙ c .before .before .before .before .before .before .before .read .ensures .0) (flag (c .before .settled .ensures) (c .if1 .taken)),
+      rw (c .before .before .before .before .before .x .given .1) at (c .before .before .before .before .before .before .before .read .ensures .1),
+      settled-quiet s (reading-of s (c .before .before .before .before .before .x .given .0 .0)) (flag (c .before .settled .ensures) (c .if1 .taken)),
+    )
 
 returns-3 : tie.Need-returns-3
 returns-3 c =

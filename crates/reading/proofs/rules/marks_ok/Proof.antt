@@ -10,7 +10,9 @@ returns-2 : tie.Need-returns-2
 returns-2 c = marks-further (c .before .before .before .before .pre) (c .before .if1 .left) (c .if2 .taken)
 
 second-ok-requires : tie.Need-second-ok-requires
-second-ok-requires c κs = (c .before .before .before .before .before .before .pre .sound, c .before .before .before .before .before .before .pre .spots .first, c .before .before .before .before .before .before .pre .spots .second)
+second-ok-requires c κs =
+    let p = c .before .before .before .before .before .before .pre in
+    (p .sound, p .spots .first, p .spots .second)
 
 returns-3 : tie.Need-returns-3
 returns-3 c = c .second-ok .ensures ∙ marks-second (c .before .before .before .before .before .before .before .pre) (c .before .before .before .before .if1 .left) (c .before .before .before .if2 .left)

@@ -31,8 +31,9 @@ name-ok-requires c κs = tt
 returns : tie.Need-returns
 unfolding name-fine
 returns c =
-    let e = c .before .before .before .before .before .before .before .args .e in
-    rw (name-fine, flag (c .before .before .before .before .before .is-file .ensures) (c .before .before .before .before .if1 .taken)) (c .name-ok .ensures ∙ ap name-ok (name-part (c .before .before .before .before .before .before .before .args .image .now) (e .at) (e .n)))
+    let a = c .before .before .before .before .before .before .before .args in
+    let e = a .e in
+    rw (name-fine, flag (c .before .before .before .before .before .is-file .ensures) (c .before .before .before .before .if1 .taken)) (c .name-ok .ensures ∙ ap name-ok (name-part (a .image .now) (e .at) (e .n)))
 
 returns-2 : tie.Need-returns-2
 unfolding name-fine

@@ -21,8 +21,10 @@ add-t12 c = omega (arith, c .before .before .before .before .before .before .bef
 
 returns : tie.Need-returns
 returns c =
-    noted-is (c .before .before .before .before .before .before .before .before .before .before .args .t) (c .before .before .before .before .before .before .before .before .before .before .args .e) (c .before .before .before .spot-if .result) (c .before .spot-if2 .result) (c .before .before .before .before .before .before .fine-with .result) (c .before .before .before .before .before .further-with .result) (c .before .before .before .before .before .before .before .before .before .before .args .held) (c .before .before .before .before .before .before .before .before .before .before .pre .0)
-    (c .before .before .before .spot-if .ensures) (c .before .spot-if2 .ensures) (c .before .before .before .before .before .before .fine-with .ensures) (c .before .before .before .before .before .further-with .ensures) (c .before .before .before .before .before .before .before .before .before .before .pre .2)
+    let p = c .before .before .before .before .before .before .before .before .before .before .pre in
+    let a = c .before .before .before .before .before .before .before .before .before .before .args in
+    noted-is (a .t) (a .e) (c .before .before .before .spot-if .result) (c .before .spot-if2 .result) (c .before .before .before .before .before .before .fine-with .result) (c .before .before .before .before .before .further-with .result) (a .held) (p .0)
+    (c .before .before .before .spot-if .ensures) (c .before .spot-if2 .ensures) (c .before .before .before .before .before .before .fine-with .ensures) (c .before .before .before .before .before .further-with .ensures) (p .2)
 
 pub noted-spec : {M : Type 1} → statement M
 noted-spec =

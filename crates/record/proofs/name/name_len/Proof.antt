@@ -20,7 +20,9 @@ loop-holds : tie.Need-loop-holds Inv-loop μ-loop
 loop-holds c = search needs
 
 returns : tie.Need-returns Inv-loop μ-loop
-returns c = omega (arith, name-end (64 - c .before .before .loop .i) (c .before .before .before .before .args .held) (c .before .before .before .before .args .part .now) (c .before .before .loop .i) (c .if1 .taken))
+returns c =
+    let a = c .before .before .before .before .args in
+    omega (arith, name-end (64 - c .before .before .loop .i) (a .held) (a .part .now) (c .before .before .loop .i) (c .if1 .taken))
 
 shared-slice-read-ends : tie.Need-shared-slice-read-ends Inv-loop μ-loop
 shared-slice-read-ends c = search needs
@@ -47,7 +49,9 @@ loop-again c =
     omega (arith, name-miss (64 - i) (64 - (i + 1)) (a .held) (a .part .now) i (omega arith) (omega arith) (flag (c .before .ends .ensures) (c .if2 .left)))
 
 returns-3 : tie.Need-returns-3 Inv-loop μ-loop
-returns-3 c = omega (arith, name-out (64 - c .before .loop .i) (c .before .before .before .args .held) (drop (c .before .loop .i) (c .before .before .before .args .part .now)) (omega arith))
+returns-3 c =
+    let a = c .before .before .before .args in
+    omega (arith, name-out (64 - c .before .loop .i) (a .held) (drop (c .before .loop .i) (a .part .now)) (omega arith))
 
 pub name-len-spec : {M : Type 1} → statement M
 name-len-spec =

@@ -1,0 +1,40 @@
+use mathlib.Core.Path.{sym, ap, _∙_}
+use Rattle.lilota.specs.Look.{good, refused-is}
+use Rattle.reading.specs.Read.{answered}
+use Rattle.spec.specs.Answers.{file-of, getting, carry-out}
+use Rattle.spec.specs.Basics.{Answer, onward}
+use Rattle.spec.specs.Chain.{Reading}
+use lib.ListN.{length}
+use native.Mathlib.Omega.{arith}
+use borrow.Author.Needs.{needs}
+use Rattle.lilota.proofs.look.get_in.Statement.{statement}
+use Rattle.lilota.proofs.look.get_in.Tie as tie
+
+read-settled-requires : tie.Need-read-settled-requires
+read-settled-requires c κs = let g = good (length (c .before .before .args .image .now)) (c .before .before .pre) in omega (arith, g .two, g .most)
+
+enum-known-x : tie.Need-enum-known-x
+enum-known-x c = search needs
+
+get-of-requires : tie.Need-get-of-requires
+get-of-requires c κs = (rw (c .before .x .given .1) at (c .before .before .before .read-settled .ensures .1), rw (c .before .x .given .1) at (c .before .before .before .read-settled .ensures .2))
+
+enum-known-x-2 : tie.Need-enum-known-x-2
+enum-known-x-2 c = search needs
+
+returns : tie.Need-returns
+returns c =
+    let g = c .before .before .before .before .before .before .before .args in
+    let s = g .image .now in
+    (c .get-of .ensures .0 ∙ ap (λ (a : Answer Reading). carry-out s 0 (onward a (file-of (g .name .now) getting))) (sym (ap (answered s) (c .before .before .x .given .1)) ∙ c .before .before .before .before .read-settled .ensures .0), c .get-of .ensures .1)
+
+returns-2 : tie.Need-returns-2
+returns-2 c =
+    let g = c .before .before .before .before .before .before .args in
+    let s = g .image .now in
+    (refused-is s _ ∙ ap (λ (a : Answer Reading). carry-out s 0 (onward a (file-of (g .name .now) getting))) (sym (ap (answered s) (c .before .x2 .given .1)) ∙ c .before .before .before .read-settled .ensures .0), omega arith)
+
+pub get-in-spec : {M : Type 1} → statement M
+get-in-spec =
+    tie.close
+    (tie.spec read-settled-requires enum-known-x get-of-requires enum-known-x-2 returns returns-2)

@@ -1,0 +1,63 @@
+use mathlib.Core.Path.{sym, ap, _∙_}
+use Rattle.lilota.specs.Look.{named-file, found-none, found-get}
+use Rattle.reading.specs.Seek.{found-in}
+use Rattle.spec.specs.Answers.{getting}
+use Rattle.spec.specs.Files.{file-named}
+use native.Mathlib.Omega.{arith}
+use borrow.Author.Needs.{needs}
+use Rattle.lilota.proofs.look.get_of.Statement.{statement}
+use Rattle.lilota.proofs.look.get_of.Tie as tie
+
+first-cursor-requires : tie.Need-first-cursor-requires
+first-cursor-requires c κs = search needs
+
+file-named-requires : tie.Need-file-named-requires
+file-named-requires c κs = rw (c .first-cursor .ensures) (c .before .before .before .before .pre .0 .tallied .sound)
+
+enum-known-f : tie.Need-enum-known-f
+enum-known-f c = search needs
+
+enum-told : tie.Need-enum-told
+enum-told c = search needs
+
+returns : tie.Need-returns
+returns c =
+    let a = c .before .before .before .before .before .before .before .args in
+    let s = a .image .now in
+    let q = named-file s (a .s) (c .before .before .before .before .before .before .before .pre .1) (c .before .before .file-named .result) (a .name .now) (rw (c .before .before .before .first-cursor .ensures) at (c .before .before .file-named .ensures .0)) in
+    (found-none s _ getting (sym (ap (found-in s) (c .enum-told .given .1)) ∙ q), omega arith)
+
+add-up-8 : tie.Need-add-up-8
+add-up-8 c = let w = rw (c .before .before .f .given .1) at (c .before .before .before .before .file-named .ensures .1) in omega (arith, w .fits, c .before .before .before .before .before .before .before .before .before .pre .0 .place .small)
+
+up-8-requires : tie.Need-up-8-requires
+up-8-requires c κs = let w = rw (c .before .before .f .given .1) at (c .before .before .before .before .file-named .ensures .1) in omega (arith, w .fits, c .before .before .before .before .before .before .before .before .before .pre .0 .place .small)
+
+add-t10 : tie.Need-add-t10
+add-t10 c = let w = rw (c .before .before .before .f .given .1) at (c .before .before .before .before .before .file-named .ensures .1) in omega (arith, w .fits, c .up-8 .ensures, c .before .before .before .before .before .before .before .before .before .before .pre .0 .place .small)
+
+add-t11 : tie.Need-add-t11
+add-t11 c = let w = rw (c .before .before .before .before .f .given .1) at (c .before .before .before .before .before .before .file-named .ensures .1) in omega (arith, w .fits, c .before .up-8 .ensures, c .before .before .before .before .before .before .before .before .before .before .before .pre .0 .place .small)
+
+returns-2 : tie.Need-returns-2
+returns-2 c =
+    let a = c .before .before .before .before .before .before .before .before .before .before .before .args in
+    let s = a .image .now in
+    let q = named-file s (a .s) (c .before .before .before .before .before .before .before .before .before .before .before .pre .1) (c .before .before .before .before .before .before .file-named .result) (a .name .now) (rw (c .before .before .before .before .before .before .before .first-cursor .ensures) at (c .before .before .before .before .before .before .file-named .ensures .0)) in
+    let w = rw (c .before .before .before .before .f .given .1) at (c .before .before .before .before .before .before .file-named .ensures .1) in
+    (found-get s _ (c .before .before .before .before .f .given .0 .0) w (sym (ap (found-in s) (c .before .before .before .before .f .given .1)) ∙ q) _ (rw (c .before .up-8 .ensures)), omega (arith, w .fits, c .before .up-8 .ensures))
+
+pub get-of-spec : {M : Type 1} → statement M
+get-of-spec =
+    tie.close
+    (tie.spec
+    first-cursor-requires
+    file-named-requires
+    enum-known-f
+    enum-told
+    returns
+    add-up-8
+    up-8-requires
+    add-t10
+    add-t11
+    returns-2)

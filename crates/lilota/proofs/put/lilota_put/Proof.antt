@@ -1,0 +1,23 @@
+use Rattle.lilota.specs.Carry.{numbered-as}
+use borrow.Author.Needs.{needs}
+use Rattle.lilota.proofs.put.lilota_put.Statement.{statement}
+use Rattle.lilota.proofs.put.lilota_put.Tie as tie
+
+put-requires : tie.Need-put-requires
+put-requires c κs = search needs
+
+steps-requires : tie.Need-steps-requires
+steps-requires c κs = search needs
+
+answer-requires : tie.Need-answer-requires
+answer-requires c κs = search needs
+
+same-length : tie.Need-same-length
+same-length c = search needs
+
+returns : tie.Need-returns
+returns c = numbered-as (c .before .before .before .before .put .result) _ _ _ _ (c .answer .ensures) (c .before .steps .ensures) (c .before .before .before .before .put .ensures)
+
+pub lilota-put-spec : {M : Type 1} → statement M
+lilota-put-spec =
+    tie.close (tie.spec put-requires steps-requires answer-requires same-length returns)

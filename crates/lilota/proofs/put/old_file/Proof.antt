@@ -1,0 +1,49 @@
+use mathlib.Core.Path.{sym, ap, _∙_}
+use native.Mathlib.Omega.{arith}
+use Rattle.reading.specs.Seek.{found-in}
+use Rattle.writing.specs.Old.{old-of}
+use Rattle.lilota.specs.Put.{old-is}
+use borrow.Author.Needs.{needs}
+use Rattle.lilota.proofs.put.old_file.Statement.{statement}
+use Rattle.lilota.proofs.put.old_file.Tie as tie
+
+file-named-requires : tie.Need-file-named-requires
+file-named-requires c κs = search needs
+
+enum-known-f : tie.Need-enum-known-f
+enum-known-f c = search needs
+
+enum-told : tie.Need-enum-told
+enum-told c = search needs
+
+returns : tie.Need-returns
+returns c = (ap old-of (sym (ap (found-in (c .before .before .before .before .before .args .image .now)) (c .enum-told .given .1)) ∙ c .before .before .file-named .ensures .0), tt)
+
+add-a : tie.Need-add-a
+add-a c =
+    let w = rw (c .before .before .f .given .1) at (c .before .before .before .before .file-named .ensures .1) in
+    omega (arith, w .fits, c .before .before .before .before .before .before .before .pre .small)
+
+shared-slice-read-t8 : tie.Need-shared-slice-read-t8
+shared-slice-read-t8 c =
+    let w = rw (c .before .before .before .f .given .1) at (c .before .before .before .before .before .file-named .ensures .1) in
+    omega (arith, w .fits)
+
+returns-2 : tie.Need-returns-2
+returns-2 c =
+    let a = c .before .before .before .before .before .before .before .before .args in
+    let f = c .before .before .before .f .given in
+    let w = rw (f .1) at (c .before .before .before .before .before .file-named .ensures .1) in
+    (old-is (a .image .now) (f .0 .0) _ (sym (ap (found-in (a .image .now)) (f .1)) ∙ c .before .before .before .before .before .file-named .ensures .0), omega (arith, w .fits))
+
+pub old-file-spec : {M : Type 1} → statement M
+old-file-spec =
+    tie.close
+    (tie.spec
+    file-named-requires
+    enum-known-f
+    enum-told
+    returns
+    add-a
+    shared-slice-read-t8
+    returns-2)

@@ -1,0 +1,50 @@
+use mathlib.Core.Path.{refl, sym, _∙_}
+use mathlib.Core.Bool.{true, false}
+use Rattle.record.specs.Suffix.{flag}
+use Rattle.reading.specs.Read.{reading-of}
+use Rattle.lilota.specs.Carry.{carried, refused}
+use Rattle.lilota.specs.Put.{room-fits, put-room}
+use borrow.Author.Needs.{needs}
+use Rattle.lilota.proofs.put.put_into.Statement.{statement}
+use Rattle.lilota.proofs.put.put_into.Tie as tie
+
+has-room-requires : tie.Need-has-room-requires
+has-room-requires c κs = search needs
+
+replace-requires : tie.Need-replace-requires
+replace-requires c κs =
+    let p = c .before .before .before .before .before .before .before .pre in
+    (p .0, p .1, room-fits _ _ _ (flag (c .before .before .has-room .ensures) (c .before .if1 .taken)), refl)
+
+ended-requires : tie.Need-ended-requires
+ended-requires c κs = search needs
+
+same-length : tie.Need-same-length
+same-length c = search needs
+
+returns : tie.Need-returns
+returns c =
+    let a = c .before .before .before .before .before .before .before .before .before .before .before .args in
+    let roomy = sym (flag (c .before .before .before .before .before .before .has-room .ensures) (c .before .before .before .before .before .if1 .taken)) in
+    rw (c .ended .ensures) (carried (a .allowance) refl refl (c .before .before .before .replace .ensures) ∙ put-room (a .image .now) (a .allowance) (a .name .now) (a .content .now) (reading-of (a .image .now) (a .s)) true roomy)
+
+same-length-2 : tie.Need-same-length-2
+same-length-2 c = search needs
+
+returns-2 : tie.Need-returns-2
+returns-2 c =
+    let a = c .before .before .before .before .before .before .args in
+    let full = sym (flag (c .before .has-room .ensures) (c .if1 .left)) in
+    refused (a .image .now) (a .allowance) 28 ∙ put-room (a .image .now) (a .allowance) (a .name .now) (a .content .now) (reading-of (a .image .now) (a .s)) false full
+
+pub put-into-spec : {M : Type 1} → statement M
+put-into-spec =
+    tie.close
+    (tie.spec
+    has-room-requires
+    replace-requires
+    ended-requires
+    same-length
+    returns
+    same-length-2
+    returns-2)

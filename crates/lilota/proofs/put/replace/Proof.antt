@@ -1,0 +1,31 @@
+use lib.ListN.{length}
+use Rattle.lilota.specs.Put.{old-named, ready}
+use borrow.Author.Needs.{needs}
+use Rattle.lilota.proofs.put.replace.Statement.{statement}
+use Rattle.lilota.proofs.put.replace.Tie as tie
+
+first-cursor-requires : tie.Need-first-cursor-requires
+first-cursor-requires c κs = search needs
+
+old-file-requires : tie.Need-old-file-requires
+old-file-requires c κs = rw (c .first-cursor .ensures) (c .before .before .before .before .before .before .pre .0 .surveyed .tallied .sound)
+
+write-file-requires : tie.Need-write-file-requires
+write-file-requires c κs =
+    let a = c .before .before .before .before .before .before .before .before .args in
+    let p = c .before .before .before .before .before .before .before .before .pre in
+    (ready (a .image .now) (a .s) (length (a .name .now)) (length (a .content .now)) (a .m .asked) (p .0) (p .1) (p .2) (p .3), c .before .old-file .ensures .1)
+
+same-length : tie.Need-same-length
+same-length c = search needs
+
+returns : tie.Need-returns
+returns c =
+    let a = c .before .before .before .before .before .before .before .before .before .before .before .args in
+    let old = rw (c .before .before .before .before .before .first-cursor .ensures) at (c .before .before .before .before .old-file .ensures .0) in
+    rw (old-named (a .image .now) (a .s) (a .s .place) (c .before .before .before .before .old-file .result) (a .name .now) (a .content .now) (c .before .before .before .before .before .before .before .before .before .before .before .pre .0) old) at (c .before .before .write-file .ensures)
+
+pub replace-spec : {M : Type 1} → statement M
+replace-spec =
+    tie.close
+    (tie.spec first-cursor-requires old-file-requires write-file-requires same-length returns)

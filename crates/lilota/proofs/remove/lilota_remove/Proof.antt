@@ -1,0 +1,23 @@
+use Rattle.lilota.specs.Carry.{numbered-as}
+use borrow.Author.Needs.{needs}
+use Rattle.lilota.proofs.remove.lilota_remove.Statement.{statement}
+use Rattle.lilota.proofs.remove.lilota_remove.Tie as tie
+
+remove-requires : tie.Need-remove-requires
+remove-requires c κs = search needs
+
+steps-requires : tie.Need-steps-requires
+steps-requires c κs = search needs
+
+answer-requires : tie.Need-answer-requires
+answer-requires c κs = search needs
+
+same-length : tie.Need-same-length
+same-length c = search needs
+
+returns : tie.Need-returns
+returns c = numbered-as (c .before .before .before .before .remove .result) _ _ _ _ (c .answer .ensures) (c .before .steps .ensures) (c .before .before .before .before .remove .ensures)
+
+pub lilota-remove-spec : {M : Type 1} → statement M
+lilota-remove-spec =
+    tie.close (tie.spec remove-requires steps-requires answer-requires same-length returns)

@@ -1,0 +1,48 @@
+use mathlib.Core.Path.{_∙_}
+use Rattle.record.specs.Suffix.{flag}
+use Rattle.lilota.specs.Remove.{remove-length, remove-name, remove-on}
+use borrow.Author.Needs.{needs}
+use Rattle.lilota.proofs.remove.remove.Statement.{statement}
+use Rattle.lilota.proofs.remove.remove.Tie as tie
+
+good-length-requires : tie.Need-good-length-requires
+good-length-requires c κs = search needs
+
+name-ok-requires : tie.Need-name-ok-requires
+name-ok-requires c κs = search needs
+
+remove-named-requires : tie.Need-remove-named-requires
+remove-named-requires c κs = flag (c .before .before .before .before .good-length .ensures) (c .before .before .before .if1 .taken)
+
+same-length : tie.Need-same-length
+same-length c = search needs
+
+returns : tie.Need-returns
+returns c =
+    let a = c .before .before .before .before .before .before .before .before .before .before .args in
+    let whole = flag (c .before .before .before .before .before .before .before .good-length .ensures) (c .before .before .before .before .before .before .if1 .taken) in
+    let named = flag (c .before .before .before .before .before .name-ok .ensures) (c .before .before .before .before .if2 .taken) in
+    c .before .before .remove-named .ensures ∙ remove-on (a .image .now) (a .allowance) (a .name .now) whole named
+
+returns-2 : tie.Need-returns-2
+returns-2 c =
+    let a = c .before .before .before .before .before .before .args in
+    let whole = flag (c .before .before .before .good-length .ensures) (c .before .before .if1 .taken) in
+    remove-name (a .image .now) (a .allowance) (a .name .now) whole (flag (c .before .name-ok .ensures) (c .if2 .left))
+
+returns-3 : tie.Need-returns-3
+returns-3 c =
+    let a = c .before .before .before .before .args in
+    remove-length (a .image .now) (a .allowance) (a .name .now) (flag (c .before .good-length .ensures) (c .if1 .left))
+
+pub remove-spec : {M : Type 1} → statement M
+remove-spec =
+    tie.close
+    (tie.spec
+    good-length-requires
+    name-ok-requires
+    remove-named-requires
+    same-length
+    returns
+    returns-2
+    returns-3)

@@ -1,0 +1,96 @@
+-- Put: from what the code found to the definitions' room, steps and outcome.
+use Prim.Native.Nat.{ℕ, _+_, _≤_, max}
+use native.Mathlib.Omega.{arith}
+use mathlib.Core.Path.{_≡_, refl, sym, ap, _∙_}
+use mathlib.Core.Bool.{Bool, true, false}
+use mathlib.Core.Option.{Option}
+use mathlib.Core.List.{List}
+use lib.ListN.{length, getD}
+use lib.Seq.{getD-drop}
+use Rattle.spec.specs.declared.Place.{Place}
+use Rattle.spec.specs.Step.{Image}
+use Rattle.spec.specs.Basics.{give, checked, onward, keep, first-such, any}
+use Rattle.spec.specs.Geometry.{good-length}
+use Rattle.spec.specs.Record.{Entry, size-of, name-ok}
+use Rattle.spec.specs.Files.{superseded, has-name, file-named}
+use Rattle.spec.specs.Chain.{Reading}
+use Rattle.spec.specs.Place.{fits, fits-all, largest, other-name, largest-with, room}
+use Rattle.spec.specs.Write.{put-steps}
+use Rattle.spec.specs.Answers.{refusal, carry-out, doing, settled-reading, put-into, put-plan, put}
+use Rattle.reading.specs.declared.Spot.{Spot}
+use Rattle.reading.specs.declared.Found.{Found}
+use Rattle.reading.specs.declared.Survey.{Survey}
+use Rattle.reading.specs.FileLaws.{is-file}
+use Rattle.reading.specs.Seek.{found-in}
+use Rattle.reading.specs.NamesLaw.{files-are}
+use Rattle.reading.specs.Largest.{others}
+use Rattle.reading.specs.Read.{reading-of}
+use Rattle.writing.specs.declared.Old.{Old}
+use Rattle.writing.specs.declared.Old.the-variants as old-as
+use Rattle.writing.specs.Old.{old-of, entry-of as entry-of-old, put-old}
+use Rattle.writing.specs.Room.{largest-max, placed-inside}
+use Rattle.writing.specs.Put.{Ready}
+use Rattle.lilota.specs.Numbers.{outcome}
+use Rattle.lilota.specs.Settled.{Settled}
+
+-- ---- the room
+
+-- the largest of the others, and then the new one
+pub largest-is : (name : List ℕ) (s : ℕ) (es : List Entry) → any (superseded es) es ≡ false → max s (largest 0 (others name es)) ≡ largest-with name s es
+unfolding largest-with
+largest-is name s es q =
+    sym (largest-max s (others name es)) ∙ ap (λ (l : List Entry). largest s (keep (other-name name) l)) (sym (files-are es q))
+
+-- what has room fits
+pub room-fits : (p : Place) (s l : ℕ) → room p s l ≡ true → fits p s ≡ true
+unfolding fits-all
+room-fits p s l h = go (fits p s) refl h where
+  go : (t : Bool) → fits p s ≡ t → room p s l ≡ true → t ≡ true
+  go true e w = refl
+  go false e w = rw (e, fits-all) at w
+
+-- ---- the old file
+
+pub old-is : (image : Image) (e : Spot) (o : Option Entry) → found-in image (Found.At e) ≡ o → old-as.At (e .at) (getD image (e .at + 2) 0) ≡ old-of o
+old-is image e o q = ap (old-as.At (e .at)) (sym (getD-drop (e .at) image 2 0)) ∙ ap old-of q
+
+pub old-named : (image : Image) (s : Survey) (p : Place) (old : Old) (name content : List ℕ) → Settled image s → old ≡ old-of (first-such (has-name name) (keep is-file (reading-of image s .entries)))
+    → put-steps p (entry-of-old old) name content ≡ put-steps p (file-named name (reading-of image s .entries)) name content
+unfolding file-named
+old-named image s p old name content w e =
+    let es = reading-of image s .entries in
+    ap (λ (o : Old). put-steps p (entry-of-old o) name content) (e ∙ ap (λ (l : List Entry). old-of (first-such (has-name name) l)) (sym (files-are es (w .quiet))))
+    ∙ put-old p (file-named name es) name content
+
+-- ---- the steps
+
+pub ready : (image : Image) (s : Survey) (n d asked : ℕ) → Settled image s → n ≤ 63 → fits (s .place) (size-of n d) ≡ true → asked ≡ 0 → Ready (s .place) (length image) n d asked
+ready image s n d asked w l f z =
+    record {
+      sound = w .sound;
+      whole = w .surveyed .place .whole;
+      taken = f;
+      named = l;
+      gap = w .gap;
+      few = omega (arith, placed-inside (s .place) (size-of n d) (w .sound) f, w .sound .short);
+    }
+
+-- ---- the outcome
+
+module _ (image : Image) (k : ℕ) (name content : List ℕ) where
+  pub put-length : good-length (length image) ≡ false → outcome (refusal 22) image ≡ put image name content k
+  unfolding put-plan carry-out
+  put-length h = rw (put-plan, h, carry-out)
+
+  pub put-name : good-length (length image) ≡ true → name-ok name ≡ false → outcome (refusal 22) image ≡ put image name content k
+  unfolding put-plan carry-out
+  put-name h g = rw (put-plan, h, g, carry-out)
+
+  pub put-on : good-length (length image) ≡ true → name-ok name ≡ true → carry-out image k (onward (settled-reading image) (put-into name content)) ≡ put image name content k
+  unfolding put-plan
+  put-on h g = rw (put-plan, h, g)
+
+  pub put-room : (r : Reading) (t : Bool) → t ≡ room (r .place) (size-of (length name) (length content)) (largest-with name (size-of (length name) (length content)) (r .entries))
+      → carry-out image k (checked t 28 (give (doing (put-steps (r .place) (file-named name (r .entries)) name content) 0 0 0))) ≡ carry-out image k (put-into name content r)
+  unfolding put-into
+  put-room r t e = ap (λ (b : Bool). carry-out image k (checked b 28 (give (doing (put-steps (r .place) (file-named name (r .entries)) name content) 0 0 0)))) e

@@ -1,0 +1,40 @@
+// The answer of a call that writes: from its meter, and in the numbers that C gets.
+use crate::Written;
+use flash::Meter;
+ghost use mathlib.Core.Path.{_≡_};
+ghost use Rattle.lilota.specs.Numbers.{written};
+ghost use Rattle.lilota.specs.Carry.{spent};
+
+// All steps asked for are done, or the allowance ended before the last of them.
+pub fn ended(m: Meter) -> Written
+    ensures { λ r. ⌜ r ≡ spent m ⌝ }
+{
+    if m.asked <= m.allowance {
+        return Written::Done(m.asked);
+    }
+    Written::Cut(m.allowance)
+}
+
+impl Written {
+    // Document 01's number.
+    pub fn answer(self) -> u32
+        ensures { λ r. ⌜ r ≡ written self .answer ⌝ }
+    {
+        match self {
+            Written::Done(_) => 0,
+            Written::Cut(_) => 4,
+            Written::Refused(n) => n,
+        }
+    }
+
+    // The steps used.
+    pub fn steps(self) -> usize
+        ensures { λ r. ⌜ r ≡ written self .steps ⌝ }
+    {
+        match self {
+            Written::Done(n) => n,
+            Written::Cut(n) => n,
+            Written::Refused(_) => 0,
+        }
+    }
+}

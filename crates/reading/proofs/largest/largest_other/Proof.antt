@@ -1,0 +1,53 @@
+use Rattle.reading.specs.Fold.{turned, Folded, fold-start}
+use Rattle.reading.specs.Largest.{largest-of, largest-over, largest-onward}
+use Rattle.reading.proofs.Others.{other-step}
+use Rattle.reading.specs.Cursor.{left}
+use Rattle.reading.proofs.largest.largest_other.Statement.{statement}
+use Rattle.reading.proofs.largest.largest_other.Tie as tie
+
+abbrev Inv-loop : tie.InvT-loop
+Inv-loop image name c₀ most₀ c most = Folded (largest-of name) image c₀ 0 c most
+
+abbrev μ-loop : tie.MeasureT-loop
+μ-loop image name c₀ most₀ c most = left c
+
+loop-holds : tie.Need-loop-holds Inv-loop μ-loop
+loop-holds c = fold-start _ _ _ _ (c .before .before .pre)
+
+advance-requires : tie.Need-advance-requires Inv-loop μ-loop
+advance-requires c κs = c .loop .inv .sound
+
+enum-known-s : tie.Need-enum-known-s Inv-loop μ-loop
+enum-known-s c = c .match .keys1
+
+returns : tie.Need-returns Inv-loop μ-loop
+returns c = largest-over _ (c .before .before .loop .inv) (c .before .advance .result) (c .before .advance .ensures .0) (other-step (c .before .advance .result) (c .match .keys2))
+
+larger-with-requires : tie.Need-larger-with-requires Inv-loop μ-loop
+larger-with-requires c κs =
+    let t = turned _ _ (c .before .before .before .advance .result) (c .before .s .given .0 .0) (c .before .s .given .0 .1 .0) (c .before .before .before .advance .ensures .0) (c .before .before .before .advance .ensures .1) (c .before .s .given .1) in
+    (t .whole, t .onward .name, t .onward .data-len)
+
+loop-less : tie.Need-loop-less Inv-loop μ-loop
+loop-less c =
+    let t = turned _ _ (c .before .before .before .before .advance .result) (c .before .before .s .given .0 .0) (c .before .before .s .given .0 .1 .0) (c .before .before .before .before .advance .ensures .0) (c .before .before .before .before .advance .ensures .1) (c .before .before .s .given .1) in
+    t .onward .less
+
+loop-again : tie.Need-loop-again Inv-loop μ-loop
+loop-again c =
+    let t = turned _ _ (c .before .before .before .before .advance .result) (c .before .before .s .given .0 .0) (c .before .before .s .given .0 .1 .0) (c .before .before .before .before .advance .ensures .0) (c .before .before .before .before .advance .ensures .1) (c .before .before .s .given .1) in
+    largest-onward _ (c .before .before .before .before .before .loop .inv) t _ (c .larger-with .ensures)
+
+pub largest-other-spec : {M : Type 1} → statement M
+largest-other-spec =
+    tie.close
+    (tie.spec
+    Inv-loop
+    μ-loop
+    loop-holds
+    advance-requires
+    enum-known-s
+    returns
+    larger-with-requires
+    loop-less
+    loop-again)
