@@ -6,3 +6,5 @@ pub mod Ground
 pub mod Settled
 pub mod Put
 pub mod Remove
+pub mod Start
+pub mod Sweep

@@ -1,9 +1,10 @@
-// The public calls on an image of NOR flash: format, put, get, list and remove, in the forms for C and for other callers.
+// The public calls on an image of NOR flash: format, put, get, list, remove and sweep, in the forms for C and for other callers.
 // Each asks nothing of its caller, and equates every outcome with the one that document 01 defines.
 mod carry;
 mod look;
 pub mod put;
 pub mod remove;
+pub mod sweep;
 mod wipe;
 
 use flash::Meter;

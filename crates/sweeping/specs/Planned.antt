@@ -14,7 +14,7 @@ use Rattle.spec.specs.Chain.{Reading, reading-from}
 use Rattle.spec.specs.Files.{live}
 use Rattle.spec.specs.Place.{fits}
 use Rattle.spec.specs.Placed.{placed, Sound}
-use Rattle.spec.specs.Sweep.{stuck}
+use Rattle.spec.specs.Sweep.{no-room, stuck}
 use Rattle.flash.specs.declared.Meter.{Meter}
 use Rattle.flash.specs.Did.{Did, did-none}
 use Rattle.reading.specs.declared.Cursor.{Cursor}
@@ -29,7 +29,7 @@ use Rattle.writing.specs.Put.{Ready}
 use Rattle.writing.specs.Head.{entry-at, copy-of, HeadEnds}
 use Rattle.sweeping.specs.declared.Plan.{Plan}
 use Rattle.sweeping.specs.Steps.{copying}
-use Rattle.sweeping.specs.Stuck.{stuck-empty, stuck-live, stuck-last, stuck-not, copy-live, copy-dead}
+use Rattle.sweeping.specs.Stuck.{stuck-empty, room-empty, room-on, room-live, room-dead, stuck-live, stuck-last, stuck-not, copy-live, copy-dead}
 use Rattle.sweeping.specs.Copy.{copy-few, copy-keeps-low}
 use Rattle.sweeping.specs.Standing.{Led, Found, Standing, entries-are, stands, head-at, stands-past}
 
@@ -46,29 +46,46 @@ pub record Copies (s : Image) (p : Place) (n d : ℕ) : Type 0 where
   pub taken : fits p (size-of n d) ≡ true
   pub named : n ≤ 63
 
+-- there is no further move
+pub record Stops (s : Image) (h : ℕ) (full : Bool) : Type 0 where
+  pub stop : stuck (reading-from s h) ≡ true
+  pub room : no-room (reading-from s h) (reading-from s h .entries) ≡ full
+
 abbrev pub Planned : Image → Place → Plan → Type 0
-Planned s p Plan.Stop = stuck (reading-from s (p .head)) ≡ true
+Planned s p (Plan.Stop b) = Stops s (p .head) b
 Planned s p Plan.Leave = (stuck (reading-from s (p .head)) ≡ false) × (copying s (p .head) ≡ [])
 Planned s p (Plan.Copy n d) = Copies s p n d
 
 -- there is a move
 abbrev pub Going : Image → Place → Plan → Type 0
-Going s p Plan.Stop = ⊥
+Going s p (Plan.Stop b) = ⊥
 Going s p Plan.Leave = (stuck (reading-from s (p .head)) ≡ false) × (copying s (p .head) ≡ [])
 Going s p (Plan.Copy n d) = Copies s p n d
 
 pub going-on : (s : Image) (p : Place) (x : Plan) → Going s p x → stuck (reading-from s (p .head)) ≡ false
-going-on s p Plan.Stop g = absurd g
+going-on s p (Plan.Stop b) g = absurd g
 going-on s p Plan.Leave g = g .0
 going-on s p (Plan.Copy n d) g = g .on
+
+-- whether the head's record has no room
+abbrev pub full : Plan → Bool
+full (Plan.Stop b) = b
+full Plan.Leave = false
+full (Plan.Copy n d) = false
+
+pub full-is : (s : Image) (p : Place) (x : Plan) → Planned s p x → full x ≡ no-room (reading-from s (p .head)) (reading-from s (p .head) .entries)
+full-is s p (Plan.Stop b) w = sym (w .room)
+full-is s p Plan.Leave w = sym (room-on (reading-from s (p .head)) (w .0))
+full-is s p (Plan.Copy n d) w = sym (room-on (reading-from s (p .head)) (w .on))
 
 -- ---- how the code comes to it
 
 module _ {s : Image} {p : Place} (w : Headed s p) where
-  pub plan-none : {k : Cursor} (q : chain.Step) → k ≡ first-cursor s (p .head) → q ≡ advance s k → Not-record q → stuck (reading-from s (p .head)) ≡ true
+  pub plan-none : {k : Cursor} (q : chain.Step) → k ≡ first-cursor s (p .head) → q ≡ advance s k → Not-record q → Stops s (p .head) false
   plan-none {k} q f e z =
-      stuck-empty (reading-from s (p .head)) (rest s (first-cursor s (p .head)) .entries) (entries-are s (p .head) (w .led))
-      (ap (λ (r : Run). r .entries) (rest-done s (first-cursor s (p .head)) q (e ∙ ap (advance s) f) z))
+      let r : Reading = reading-from s (p .head) in
+      let none : r .entries ≡ [] = entries-are s (p .head) (w .led) ∙ ap (λ (v : Run). v .entries) (rest-done s (first-cursor s (p .head)) q (e ∙ ap (advance s) f) z) in
+      record { stop = stuck-empty r (r .entries) refl none; room = ap (no-room r) none ∙ room-empty r }
 
   module _ {x : Spot} {c : Cursor} (t : Found s (first-cursor s (p .head)) x c) where
     listed : reading-from s (p .head) .entries ≡ entry-of s x ∷ rest s c .entries
@@ -87,9 +104,14 @@ module _ {s : Image} {p : Place} (w : Headed s p) where
       e : b ≡ live (rest s (first-cursor s (p .head)) .entries) (entry-of s x)
       e = f ∙ ap (λ (v : Cursor). live (rest s v .entries) (entry-of s x)) q
 
-      pub plan-full : {z : ℕ} {a : Placed} → b ≡ true → z ≡ size-of (x .n) (x .d) → a ≡ placed p z → a ≡ placed-as.Full → stuck (reading-from s (p .head)) ≡ true
+      pub plan-full : {z : ℕ} {a : Placed} → b ≡ true → z ≡ size-of (x .n) (x .d) → a ≡ placed p z → a ≡ placed-as.Full → Stops s (p .head) true
       plan-full l g i j =
-          stuck-live (reading-from s (p .head)) (entry-of s x) (rest s c .entries) false listed (living b e ∙ l) (fitting false (placed-full p (size-of (x .n) (x .d)) (ap (placed p) (sym g) ∙ sym i ∙ j)))
+          let r : Reading = reading-from s (p .head) in
+          let no : fits (r .place) (size (entry-of s x)) ≡ false = fitting false (placed-full p (size-of (x .n) (x .d)) (ap (placed p) (sym g) ∙ sym i ∙ j)) in
+          record {
+            stop = stuck-live r (entry-of s x) (rest s c .entries) false listed (living b e ∙ l) no;
+            room = ap (no-room r) listed ∙ room-live r (entry-of s x) (rest s c .entries) false (living b e ∙ l) no
+          }
 
       pub plan-copy : {y : ℕ} {v : Placed} {a : ℕ} {i : Bool} {o : Place} → b ≡ true → y ≡ size-of (x .n) (x .d) → v ≡ placed p y → v ≡ placed-as.At a i o → Copies s p (x .n) (x .d)
       unfolding copying
@@ -109,9 +131,13 @@ module _ {s : Image} {p : Place} (w : Headed s p) where
             named = omega (arith, t .turned .onward .name)
           }
 
-      pub plan-last : b ≡ false → (r : chain.Step) → r ≡ advance s c → Not-record r → stuck (reading-from s (p .head)) ≡ true
+      pub plan-last : b ≡ false → (r : chain.Step) → r ≡ advance s c → Not-record r → Stops s (p .head) false
       plan-last l r g z =
-          stuck-last (reading-from s (p .head)) (entry-of s x) (rest s c .entries) listed (ap (λ (v : Run). v .entries) (rest-done s c r g z)) (living b e ∙ l)
+          let v : Reading = reading-from s (p .head) in
+          record {
+            stop = stuck-last v (entry-of s x) (rest s c .entries) listed (ap (λ (i : Run). i .entries) (rest-done s c r g z)) (living b e ∙ l);
+            room = ap (no-room v) listed ∙ room-dead v (entry-of s x) (rest s c .entries) (living b e ∙ l)
+          }
 
       pub plan-leave : {y : Spot} {d : Cursor} → b ≡ false → Found s c y d → (stuck (reading-from s (p .head)) ≡ false) × (copying s (p .head) ≡ [])
       unfolding copying

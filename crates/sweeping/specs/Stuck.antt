@@ -18,6 +18,18 @@ module _ (r : Reading) where
   unfolding stuck at-end
   stuck-empty es e f = rw (stuck, e, f, at-end)
 
+  pub room-empty : no-room r [] ≡ false
+  unfolding no-room
+  room-empty = refl
+
+  -- where there is a move, there is room
+  pub room-on : stuck r ≡ false → no-room r (r .entries) ≡ false
+  unfolding stuck
+  room-on e = go (at-end (r .entries)) refl where
+    go : (t : Bool) → at-end (r .entries) ≡ t → no-room r (r .entries) ≡ false
+    go true q = let never : true ≡ false = rw (stuck, q) at e in cc
+    go false q = rw (stuck, q) at e
+
   goes-on : at-end (r .entries) ≡ false → stuck r ≡ no-room r (r .entries)
   unfolding stuck
   goes-on e = rw (stuck, e)
@@ -28,11 +40,11 @@ module _ (r : Reading) where
     no-end [] l = rw (at-end, l)
     no-end (y ∷ es) l = refl
 
-    room-live : (es : List Entry) (t : Bool) → live (x ∷ es) x ≡ true → fits (r .place) (size x) ≡ t → no-room r (x ∷ es) ≡ not t
+    pub room-live : (es : List Entry) (t : Bool) → live (x ∷ es) x ≡ true → fits (r .place) (size x) ≡ t → no-room r (x ∷ es) ≡ not t
     unfolding no-room
     room-live es t l f = rw (no-room, l, f)
 
-    room-dead : (es : List Entry) → live (x ∷ es) x ≡ false → no-room r (x ∷ es) ≡ false
+    pub room-dead : (es : List Entry) → live (x ∷ es) x ≡ false → no-room r (x ∷ es) ≡ false
     unfolding no-room
     room-dead es l = rw (no-room, l)
 

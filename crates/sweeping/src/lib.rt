@@ -5,10 +5,10 @@ pub mod sweep;
 use flash::Meter;
 use spec::Place;
 
-// What the next move does with the head's record: there is no further move; the record is dead and stays behind;
-// or it is copied, with its n name bytes and d data bytes.
+// What the next move does with the head's record: there is no further move, for want of room or not; the record is
+// dead and stays behind; or it is copied, with its n name bytes and d data bytes.
 pub enum Plan {
-    Stop,
+    Stop(bool),
     Leave,
     Copy(usize, usize),
 }

@@ -16,6 +16,8 @@ use writing::copy_head;
 ghost use mathlib.Core.Path.{_≡_};
 ghost use Prim.Native.Nat.{_+_, _*_, _≤_, _<_, _^_};
 ghost use lib.ListN.{length, getD};
+ghost use Rattle.spec.specs.Chain.{reading-from};
+ghost use Rattle.spec.specs.Sweep.{no-room};
 ghost use Rattle.flash.specs.Did.{Did};
 ghost use Rattle.sweeping.specs.Steps.{copying};
 ghost use Rattle.sweeping.specs.Standing.{Led};
@@ -30,18 +32,31 @@ pub fn plan(image: &[u8], place: Place) -> Plan
 {
     let start = first_cursor(image, place.head);
     let Step::Record(x, past) = advance(image, start) else {
-        return Plan::Stop;
+        return Plan::Stop(false);
     };
     if is_live(image, start, x) {
         let Placed::At(_, _, _) = place.after(size(x.n, x.d)) else {
-            return Plan::Stop;
+            return Plan::Stop(true);
         };
         return Plan::Copy(x.n, x.d);
     }
     let Step::Record(_, _) = advance(image, past) else {
-        return Plan::Stop;
+        return Plan::Stop(false);
     };
     Plan::Leave
+}
+
+// The head's record is live and does not fit.
+pub fn no_room(image: &[u8], place: Place) -> bool
+    requires { ⌜ Headed (now image) place ⌝ }
+    ensures { λ r. ⌜ r ≡ no-room (reading-from (now (image .entry)) (place .head)) (reading-from (now (image .entry)) (place .head) .entries) ⌝ }
+{
+    let p = plan(image, place);
+    match p {
+        Plan::Stop(full) => full,
+        Plan::Leave => false,
+        Plan::Copy(_, _) => false,
+    }
 }
 
 // Step (a).
@@ -50,7 +65,7 @@ fn copy(image: &mut [u8], place: Place, plan: Plan, m: Meter) -> Meter
     ensures { λ r. ⌜ Did (now (image .entry)) m (copying (now (image .entry)) (place .head)) (now (image .exit)) r × (r .asked ≤ m .asked + length (now (image .entry)) + 14) × (getD (now (image .exit)) (place .head) 0 ≡ getD (now (image .entry)) (place .head) 0) ⌝ }
 {
     match plan {
-        Plan::Stop => m,
+        Plan::Stop(_) => m,
         Plan::Leave => m,
         Plan::Copy(n, d) => copy_head(image, place, n, d, m),
     }

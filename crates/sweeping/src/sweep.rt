@@ -21,7 +21,7 @@ fn next_move(image: &mut [u8], place: Place, m: Meter) -> Turn
     ensures { λ r. ⌜ Turned-as (now (image .entry)) (place .head) m (now (image .exit)) r ⌝ }
 {
     let p = plan(image, place);
-    if let Plan::Stop = p {
+    if let Plan::Stop(_) = p {
         return Turn::Stuck;
     }
     let r = move_head(image, place, p, m);

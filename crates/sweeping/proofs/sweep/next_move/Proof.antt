@@ -26,7 +26,7 @@ same-length c = search needs
 
 -- src/sweep.rt:25:9
 returns : tie.Need-returns
-returns c = (subst (Planned (c .before .before .before .before .before .args .image .now) (c .before .before .before .before .before .args .place)) (c .enum-told .given .1) (c .before .before .plan .ensures), refl)
+returns c = (subst (Planned (c .before .before .before .before .before .args .image .now) (c .before .before .before .before .before .args .place)) (c .enum-told .given .1) (c .before .before .plan .ensures) .stop, refl)
 
 -- src/sweep.rt:27:9
 move-head-requires : tie.Need-move-head-requires
