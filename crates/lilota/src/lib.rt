@@ -27,6 +27,14 @@ pub enum Written {
     Refused(u32),
 }
 
+// What a sweep answers: its moves are done, with their number and that of their steps; it was cut, after so many finished
+// moves and so many steps; or it is refused.
+pub enum Swept {
+    Done(usize, usize),
+    Cut(usize, usize),
+    Refused(u32),
+}
+
 // Where a file's bytes stand: a number, which is 0 for a file that is there, the offset and the length.
 pub struct Held {
     pub answer: u32,

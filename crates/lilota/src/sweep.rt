@@ -1,4 +1,5 @@
 // Sweep: up to five moves, which make room in front of the head.
+use crate::Swept;
 use crate::good_length;
 use flash::Meter;
 use reading::Read;
@@ -15,14 +16,6 @@ ghost use Rattle.spec.specs.Answers.{settled-reading, carry-out, sweep-of, swee
 ghost use Rattle.reading.specs.Read.{reading-of};
 ghost use Rattle.lilota.specs.Numbers.{outcome};
 ghost use Rattle.lilota.specs.Sweep.{swept-numbers, moved-numbers, Readied};
-
-// What a sweep answers: its moves are done, with their number and that of their steps; it was cut, after so many finished
-// moves and so many steps; or it is refused.
-pub enum Swept {
-    Done(usize, usize),
-    Cut(usize, usize),
-    Refused(u32),
-}
 
 impl Swept {
     // Document 01's number.
