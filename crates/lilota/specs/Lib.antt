@@ -7,3 +7,5 @@ pub mod Settled
 pub mod Put
 pub mod Remove
 pub mod Mount
+pub mod Start
+pub mod Sweep

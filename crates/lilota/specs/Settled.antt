@@ -51,11 +51,11 @@ pub record Gave {A B : Type 0} (x : Answer A) (f : A → Answer B) (b : B) : Typ
 never-gives : {A : Type 0} (n : ℕ) (a : A) → _≡_ {A = Answer A} (refuse n) (give a) → ⊥
 never-gives n a e = let z : _≡_ {A = ℕ} 0 1 = cc in omega arith
 
-gave : {A B : Type 0} (x : Answer A) (f : A → Answer B) (b : B) → onward x f ≡ give b → Gave x f b
+pub gave : {A B : Type 0} (x : Answer A) (f : A → Answer B) (b : B) → onward x f ≡ give b → Gave x f b
 gave (refuse n) f b e = absurd (never-gives n b e)
 gave (give a) f b e = record { value = a; from = refl; on = e }
 
-passed : {A : Type 0} (t : Bool) (n : ℕ) (a b : A) → checked t n (give a) ≡ give b → (t ≡ true) × (a ≡ b)
+pub passed : {A : Type 0} (t : Bool) (n : ℕ) (a b : A) → checked t n (give a) ≡ give b → (t ≡ true) × (a ≡ b)
 passed true n a b e = (refl, cc)
 passed false n a b e = absurd (never-gives n b e)
 

@@ -1,4 +1,4 @@
-// The public calls on an image of NOR flash: format, put, get, list and remove, in the forms for C and for other callers.
+// The public calls on an image of NOR flash: format, mount, put, get, list, remove and sweep, in the forms for C and for other callers.
 // Each asks nothing of its caller, and equates every outcome with the one that document 01 defines.
 mod c;
 mod carry;
@@ -6,6 +6,7 @@ mod look;
 pub mod mount;
 pub mod put;
 pub mod remove;
+pub mod sweep;
 mod wipe;
 
 use flash::Meter;
@@ -25,6 +26,14 @@ ghost use Rattle.lilota.specs.Numbers.{written, held-at, listed-at, outc
 pub enum Written {
     Done(usize),
     Cut(usize),
+    Refused(u32),
+}
+
+// What a sweep answers: its moves are done, with their number and that of their steps; it was cut, after so many finished
+// moves and so many steps; or it is refused.
+pub enum Swept {
+    Done(usize, usize),
+    Cut(usize, usize),
     Refused(u32),
 }
 

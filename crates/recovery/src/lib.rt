@@ -6,7 +6,7 @@ mod hand;
 mod last;
 pub mod sectors;
 mod superseded;
-mod survey;
+pub mod survey;
 
 use flash::Meter;
 use free::erase_free;

@@ -1,0 +1,146 @@
+-- Steps (b) to (f) of a move.
+use Prim.Native.Nat.{ℕ, _+_, _*_, _/_, _%_, _≤_, _<_, _^_}
+use native.Mathlib.Omega.{arith}
+use mathlib.Core.Path.{_≡_, refl, sym, ap, ap₂, subst, _∙_}
+use mathlib.Core.Bool.{Bool, true, false}
+use mathlib.Core.Logic.{_⊎_, inl, inr, ⊎-elim}
+use mathlib.Core.List.{List, [], _∷_, _++_, map}
+use lib.ListN.{length, take, drop, getD, set, length-set}
+use lib.Seq.{getD-set-same, getD-set-other}
+use lib.Dec.{eqb}
+use borrow.Author.Tests.{eqb-true, eqb-false}
+use Rattle.spec.specs.Step.{Image, Step, program, erase, run}
+use Rattle.spec.specs.Geometry.{up8, floor, sectors}
+use Rattle.spec.specs.Record.{size-of, Entry, content-of, data-at}
+use Rattle.spec.specs.Chain.{reading-from}
+use Rattle.spec.specs.Move.{clean-steps, vacated, forget-steps, vacate-steps, close-steps}
+use Rattle.flash.specs.declared.Meter.{Meter}
+use Rattle.flash.specs.Did.{Did, did-none, did-both, did-all}
+use Rattle.reading.specs.declared.Cursor.{Cursor}
+use Rattle.reading.specs.declared.Spot.{Spot}
+use Rattle.reading.specs.declared.Step as chain
+use Rattle.reading.specs.Cursor.{advance}
+use Rattle.reading.specs.Rest.{Run, entry-of, rest}
+use Rattle.reading.specs.Fold.{Whole, Not-record, rest-done}
+use Rattle.reading.specs.Read.{first-cursor}
+use Rattle.writing.specs.Kept.{kept}
+use Rattle.recovery.specs.Close.{end-before, leave-steps, close-is}
+use Rattle.sweeping.specs.declared.Moved.{Moved}
+use Rattle.sweeping.specs.Way.{reached}
+use Rattle.sweeping.specs.First.{Low, apart, second-even}
+use Rattle.sweeping.specs.Steps.{hand-steps, hand-head, handing, heading}
+use Rattle.sweeping.specs.Standing.{Led, Found, entries-are, stands}
+
+pub record Handed (s : Image) (h : ℕ) (m : Meter) (t : Image) (r : Moved) : Type 0 where
+  pub did : Did s m (handing s h) t (r .meter)
+  pub head : r .head ≡ heading s h
+  pub led : r .meter .asked ≤ r .meter .allowance → Led t (r .head)
+  pub few : r .meter .asked ≤ m .asked + 2 * length s + 3
+
+-- ---- the head's first byte is START then
+
+run-append : (s : Image) (a b : List Step) → run s (a ++ b) ≡ run (run s a) b
+run-append s [] b = refl
+run-append s (program i x ∷ a) b = run-append (run s (program i x ∷ [])) a b
+run-append s (erase i ∷ a) b = run-append (run s (erase i ∷ [])) a b
+
+zeroed : (s : Image) (y i : ℕ) → y < length s → getD (set (set s y 0) i 0) y 0 ≡ 0
+zeroed s y i h = go (eqb y i) refl where
+  go : (t : Bool) → eqb y i ≡ t → getD (set (set s y 0) i 0) y 0 ≡ 0
+  go true e = let q : y ≡ i = eqb-true y i e in rw (← q) (getD-set-same (set s y 0) y 0 0 (rw length-set h))
+  go false e = getD-set-other (set s y 0) i y 0 0 (eqb-false y i e) ∙ getD-set-same s y 0 0 h
+
+last-low : (s : Image) (x : Entry) (y : ℕ) (starts : List ℕ) → y < length s → getD (run s (program y 0x00 ∷ forget-steps x starts)) y 0 ≡ 0
+last-low s x y [] h = zeroed s y (x .at + 1) h
+last-low s x y (a ∷ rest) h = getD-set-same s y 0 0 h
+
+last-length : (s : Image) (x : Entry) (y : ℕ) (starts : List ℕ) → length (run s (program y 0x00 ∷ forget-steps x starts)) ≡ length s
+last-length s x y [] = length-set (set s y 0) (x .at + 1) 0 ∙ length-set s y 0
+last-length s x y (a ∷ rest) = length-set s y 0
+
+close-low : (s : Image) (N : ℕ) (x y : Entry) → y .at < length (run s (close-steps N x y)) → getD (run s (close-steps N x y)) (y .at) 0 ≡ 0
+unfolding close-steps
+close-low s N x y h =
+    let starts : List ℕ = vacated N x y in
+    let clean : List Step = clean-steps (length (content-of x)) (data-at x) (content-of x) in
+    let u : Image = run (run s clean) (map erase starts) in
+    let e : run s (clean ++ vacate-steps x y starts) ≡ run u (program (y .at) 0x00 ∷ forget-steps x starts) =
+        run-append s clean (vacate-steps x y starts) ∙ run-append (run s clean) (map erase starts) (program (y .at) 0x00 ∷ forget-steps x starts) in
+    ap (λ (i : Image). getD i (y .at) 0) e ∙ last-low u x (y .at) starts (omega (arith, ap length e, last-length u x (y .at) starts))
+
+-- ---- how the code comes to it
+
+module _ {s : Image} {h : ℕ} (w : Led s h) (m : Meter) where
+  none-handed : (es : List Entry) → reading-from s h .entries ≡ es → hand-head h es ≡ h → ((N : ℕ) → hand-steps N es ≡ []) → Handed s h m s (record { head = h; meter = m })
+  unfolding handing heading
+  none-handed es e b f =
+      record {
+        did = rw (e, f (reading-from s h .place .length)) (did-none s m);
+        head = rw e (sym b);
+        led = λ l. w;
+        few = omega arith
+      }
+
+  pub hand-none : {k : Cursor} (q : chain.Step) → k ≡ first-cursor s h → q ≡ advance s k → Not-record q → Handed s h m s (record { head = h; meter = m })
+  hand-none q f e z =
+      none-handed [] (entries-are s h w ∙ ap (λ (r : Run). r .entries) (rest-done s (first-cursor s h) q (e ∙ ap (advance s) f) z)) refl (λ N. refl)
+
+  module _ {x : Spot} {c : Cursor} (t : Found s (first-cursor s h) x c) where
+    listed : reading-from s h .entries ≡ entry-of s x ∷ rest s c .entries
+    listed = entries-are s h w ∙ ap (λ (r : Run). r .entries) (t .turned .split)
+
+    pub hand-one : (q : chain.Step) → q ≡ advance s c → Not-record q → Handed s h m s (record { head = h; meter = m })
+    hand-one q e z =
+        none-handed (entry-of s x ∷ []) (listed ∙ ap (λ (r : Run). entry-of s x ∷ r .entries) (rest-done s c q e z)) refl (λ N. refl)
+
+    module _ {y : Spot} {d : Cursor} (u : Found s c y d) where
+      two : reading-from s h .entries ≡ entry-of s x ∷ (entry-of s y ∷ rest s d .entries)
+      two = listed ∙ ap (λ (r : Run). entry-of s x ∷ r .entries) (u .turned .split)
+
+      -- Y's first byte is none of X's data
+      same-data : {v : Image} {a : Meter} → Did s m (program (y .at) 0xA0 ∷ []) v a
+          → take (x .d) (drop (x .at + 8 + up8 (x .n + 1)) v) ≡ take (x .d) (drop (x .at + 8 + up8 (x .n + 1)) s)
+      same-data g =
+          let o = apart s h (w .inside) (w .low) x c (reached s (first-cursor s h) x c (t .step)) y d (reached s c y d (u .step)) in
+          let off : (y .at < x .at + 8 + up8 (x .n + 1)) ⊎ (x .at + 8 + up8 (x .n + 1) + x .d ≤ y .at) =
+              ⊎-elim (λ (l : x .at + size-of (x .n) (x .d) ≤ y .at). inr (omega arith)) (λ (l : y .at < x .at). inl (omega arith)) o in
+          kept (x .at + 8 + up8 (x .n + 1)) (x .d) g (off, tt)
+
+      same-close : {v : Image} {a : Meter} → length v ≡ length s → Did s m (program (y .at) 0xA0 ∷ []) v a
+          → close-steps (length v) (entry-of v x) (entry-of v y) ≡ close-steps (length s) (entry-of s x) (entry-of s y)
+      same-close {v} l g =
+          let a : ℕ = x .at + 8 + up8 (x .n + 1) in
+          close-is v x y (record { fits = omega (arith, t .turned .whole .fits) })
+          ∙ ap₂ (λ (own : List ℕ) (N : ℕ). clean-steps (x .d) a own ++ leave-steps (x .at) (y .at) (sectors (floor (x .at)) (end-before N (y .at)))) (same-data g) l
+          ∙ sym (close-is s x y (t .turned .whole))
+
+      handing-is : handing s h ≡ program (y .at) 0xA0 ∷ close-steps (length s) (entry-of s x) (entry-of s y)
+      unfolding handing
+      handing-is = ap₂ hand-steps (stands s h w .whole) two
+
+      heading-is : heading s h ≡ y .at
+      unfolding heading
+      heading-is = ap (hand-head h) two
+
+      pub hand-two : {v z : Image} {a q : Meter} → length v ≡ length s → length z ≡ length s → Did s m (program (y .at) 0xA0 ∷ []) v a
+          → Did v a (close-steps (length v) (entry-of v x) (entry-of v y)) z q → q .asked ≤ a .asked + 2 * length v + 2
+          → Handed s h m z (record { head = y .at; meter = q })
+      hand-two {v} {z} {a} {q} l k g i b =
+          let did : Did s m (handing s h) z q = rw handing-is (did-both g (rw (same-close l g) at i)) in
+          let low : q .asked ≤ q .allowance → getD z (y .at) 0 ≡ 0 = λ n.
+              let j : z ≡ run (run s (program (y .at) 0xA0 ∷ [])) (close-steps (length s) (entry-of s x) (entry-of s y)) = did-all did n ∙ ap (run s) handing-is in
+              ap (λ (i : Image). getD i (y .at) 0) j ∙ close-low (run s (program (y .at) 0xA0 ∷ [])) (length s) (entry-of s x) (entry-of s y) (omega (arith, ap length j, u .turned .whole .fits)) in
+          record {
+            did = did;
+            head = sym heading-is;
+            led = λ n.
+              record {
+                even = second-even s h (w .inside) (w .low) x c (reached s (first-cursor s h) x c (t .step)) (w .even) y d (reached s c y d (u .step));
+                inside = omega (arith, u .turned .whole .fits);
+                low = inl (low n);
+                eights = rw k (w .eights);
+                long = omega (arith, w .long);
+                small = omega (arith, w .small)
+              };
+            few = omega (arith, g .count, b)
+          }

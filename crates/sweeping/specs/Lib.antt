@@ -1,0 +1,11 @@
+pub mod Began
+pub mod Way
+pub mod First
+pub mod Steps
+pub mod Copy
+pub mod Standing
+pub mod Stuck
+pub mod Planned
+pub mod Handed
+pub mod Moving
+pub mod Sweeping

@@ -1,0 +1,112 @@
+// One move: the head's record copied if it is live, then the head handed over to the record behind it.
+use crate::Moved;
+use crate::Plan;
+use flash::Meter;
+use flash::program;
+use reading::Step;
+use reading::chain::advance;
+use reading::files::is_live;
+use reading::image::first_cursor;
+use record::size;
+use recovery::close::close;
+use spec::CLEAN;
+use spec::Place;
+use spec::Placed;
+use writing::copy_head;
+ghost use mathlib.Core.Path.{_≡_};
+ghost use Prim.Native.Nat.{_+_, _*_, _≤_, _<_, _^_};
+ghost use lib.ListN.{length, getD};
+ghost use Rattle.spec.specs.Chain.{reading-from};
+ghost use Rattle.spec.specs.Sweep.{no-room};
+ghost use Rattle.flash.specs.Did.{Did};
+ghost use Rattle.sweeping.specs.Steps.{copying};
+ghost use Rattle.sweeping.specs.Standing.{Led};
+ghost use Rattle.sweeping.specs.Planned.{Headed, Planned, Going};
+ghost use Rattle.sweeping.specs.Handed.{Handed};
+ghost use Rattle.sweeping.specs.Moving.{Moved-as};
+
+// A live head moves if its copy fits, a dead one if a record stands behind it.
+pub fn plan(image: &[u8], place: Place) -> Plan
+    requires { ⌜ Headed (now image) place ⌝ }
+    ensures { λ r. ⌜ Planned (now (image .entry)) place r ⌝ }
+{
+    let start = first_cursor(image, place.head);
+    let Step::Record(x, past) = advance(image, start) else {
+        return Plan::Stop(false);
+    };
+    if is_live(image, start, x) {
+        let Placed::At(_, _, _) = place.after(size(x.n, x.d)) else {
+            return Plan::Stop(true);
+        };
+        return Plan::Copy(x.n, x.d);
+    }
+    let Step::Record(_, _) = advance(image, past) else {
+        return Plan::Stop(false);
+    };
+    Plan::Leave
+}
+
+// The head's record is live and does not fit.
+pub fn no_room(image: &[u8], place: Place) -> bool
+    requires { ⌜ Headed (now image) place ⌝ }
+    ensures { λ r. ⌜ r ≡ no-room (reading-from (now (image .entry)) (place .head)) (reading-from (now (image .entry)) (place .head) .entries) ⌝ }
+{
+    let p = plan(image, place);
+    match p {
+        Plan::Stop(full) => full,
+        Plan::Leave => false,
+        Plan::Copy(_, _) => false,
+    }
+}
+
+// Step (a).
+fn copy(image: &mut [u8], place: Place, plan: Plan, m: Meter) -> Meter
+    requires { ⌜ Headed (now image) place × Going (now image) place plan × (m .asked ≤ 2 ^ 31) ⌝ }
+    ensures { λ r. ⌜ Did (now (image .entry)) m (copying (now (image .entry)) (place .head)) (now (image .exit)) r × (r .asked ≤ m .asked + length (now (image .entry)) + 14) × (getD (now (image .exit)) (place .head) 0 ≡ getD (now (image .entry)) (place .head) 0) ⌝ }
+{
+    match plan {
+        Plan::Stop(_) => m,
+        Plan::Leave => m,
+        Plan::Copy(n, d) => copy_head(image, place, n, d, m),
+    }
+}
+
+// Steps (b) to (f), of the first two records from the head on; with fewer there is nothing to do.
+fn hand_over(image: &mut [u8], head: usize, m: Meter) -> Moved
+    requires { ⌜ Led (now image) head × (m .asked + 2 * length (now image) + 3 ≤ 2 ^ 32) ⌝ }
+    ensures { λ r. ⌜ Handed (now (image .entry)) head m (now (image .exit)) r ⌝ }
+{
+    let Step::Record(x, past) = advance(image, first_cursor(image, head)) else {
+        return Moved {
+            head: head,
+            meter: m,
+        };
+    };
+    let Step::Record(y, _) = advance(image, past) else {
+        return Moved {
+            head: head,
+            meter: m,
+        };
+    };
+    let a = program(image, y.at, CLEAN, m);
+    let b = close(image, x, y, a);
+    Moved {
+        head: y.at,
+        meter: b,
+    }
+}
+
+// The whole move. Y may be X's own copy, so that it is looked for only after the copy is done.
+pub fn move_head(image: &mut [u8], place: Place, plan: Plan, m: Meter) -> Moved
+    requires { ⌜ Headed (now image) place × Going (now image) place plan × (m .asked ≤ 2 ^ 31) ⌝ }
+    ensures { λ r. ⌜ Moved-as (now (image .entry)) (place .head) m (now (image .exit)) r ⌝ }
+{
+    let a = copy(image, place, plan, m);
+    if a.allowance < a.asked {
+        return Moved {
+            head: place.head,
+            meter: a,
+        };
+    }
+    hand_over(image, place.head, a)
+}

@@ -1,0 +1,73 @@
+// Up to five moves, one after another.
+use crate::Plan;
+use crate::Swept;
+use crate::Turn;
+use crate::step::move_head;
+use crate::step::plan;
+use flash::Meter;
+use recovery::survey::survey;
+use spec::Place;
+ghost use mathlib.Core.Path.{_≡_};
+ghost use Prim.Native.Nat.{_≤_, _^_, min};
+ghost use Rattle.spec.specs.Chain.{reading-from};
+ghost use Rattle.spec.specs.Sweep.{moves};
+ghost use Rattle.sweeping.specs.Began.{Moves};
+ghost use Rattle.sweeping.specs.Planned.{Headed};
+ghost use Rattle.sweeping.specs.Sweeping.{Turned-as};
+
+// One move, if there is one, and the place that it leaves; a move that was cut leaves none to go on from.
+fn next_move(image: &mut [u8], place: Place, m: Meter) -> Turn
+    requires { ⌜ Headed (now image) place × (m .asked ≤ 2 ^ 31) ⌝ }
+    ensures { λ r. ⌜ Turned-as (now (image .entry)) (place .head) m (now (image .exit)) r ⌝ }
+{
+    let p = plan(image, place);
+    if let Plan::Stop(_) = p {
+        return Turn::Stuck;
+    }
+    let r = move_head(image, place, p, m);
+    let q = r.meter;
+    if q.allowance < q.asked {
+        return Turn::Cut(q);
+    }
+    let s = survey(image, r.head);
+    let next = s.place;
+    Turn::On(next, q)
+}
+
+fn at_most_five(n: usize) -> usize
+    ensures { λ r. ⌜ r ≡ min 5 n ⌝ }
+{
+    if n < 5 {
+        return n;
+    }
+    5
+}
+
+// The sweep of an image with this many records. Only finished moves are counted.
+pub fn sweep(image: &mut [u8], place: Place, records: usize, m: Meter) -> Swept
+    requires { ⌜ Headed (now image) place × (m .asked ≤ 2 ^ 16) ⌝ }
+    ensures { λ r. ⌜ Moves (now (image .entry)) m (moves (min 5 records) (now (image .entry)) (reading-from (now (image .entry)) (place .head))) (now (image .exit)) (r .moves) (r .meter) ⌝ }
+{
+    let mut left = at_most_five(records);
+    let mut p = place;
+    let mut q = m;
+    let mut n = 0;
+    while 0 < left {
+        let t = next_move(image, p, q);
+        match t {
+            Turn::Stuck => {
+                return Swept { moves: n, meter: q };
+            }
+            Turn::Cut(r) => {
+                return Swept { moves: n, meter: r };
+            }
+            Turn::On(next, r) => {
+                p = next;
+                q = r;
+            }
+        }
+        n += 1;
+        left -= 1;
+    }
+    Swept { moves: n, meter: q }
+}
