@@ -155,7 +155,7 @@ module _ {s : Image} {p : Place} (w : Headed s p) where
   pub sound : Sound p
   sound =
       let o : Standing (length s) (p .head) (p .head) p = subst (Standing (length s) (p .head) (p .head)) (sym (w .same)) (stands s (p .head) (w .led)) in
-      record { free = o .free; inside = omega (arith, w .led .inside, o .whole); short = omega (arith, w .led .small, o .whole) }
+      record { inside = omega (arith, w .led .inside, o .whole); short = omega (arith, w .led .small, o .whole) }
 
   pub ready : {n d : ℕ} (k : ℕ) → Copies s p n d → k ≤ 2 ^ 31 → Ready p (length s) n d k
   ready k c l =

@@ -40,7 +40,7 @@ size-requires c κs = let t = found (c .before .before .before .before .before .
 
 -- src/step.rt:36:35
 after-requires : tie.Need-after-requires
-after-requires c κs = sound (c .before .before .before .before .before .before .before .before .before .pre)
+after-requires c κs = search needs
 
 enum-told : tie.Need-enum-told
 enum-told c = search needs
