@@ -1,7 +1,7 @@
 -- Sweep: from its moves and its meter to the definitions' outcome.
-use Prim.Native.Nat.{ℕ, _+_, _-_, _≤_, _<_, min}
+use Prim.Native.Nat.{ℕ, _-_, _≤_, _<_, min}
 use native.Mathlib.Omega.{arith}
-use mathlib.Core.Path.{_≡_, refl, sym, ap, ap₂, subst, _∙_}
+use mathlib.Core.Path.{_≡_, sym, ap, ap₂, _∙_}
 use mathlib.Core.Bool.{Bool, true, false, not}
 use mathlib.Core.List.{List}
 use lib.ListN.{length, take}
@@ -10,13 +10,13 @@ use Rattle.spec.specs.Step.{Image, Step, run}
 use Rattle.spec.specs.Basics.{give, checked, onward, concat}
 use Rattle.spec.specs.Geometry.{good-length}
 use Rattle.spec.specs.Chain.{Reading, reading-from}
-use Rattle.spec.specs.Sweep.{no-room, moves, sweep-moves}
+use Rattle.spec.specs.Sweep.{no-room, moves}
 use Rattle.spec.specs.Answers.{Numbers, Outcome, refusal, finished, numbers-of, carry-out, sweeping, settled-reading, sweep-of, sweep-plan, sweep}
 use Rattle.flash.specs.declared.Meter.{Meter}
 use Rattle.reading.specs.declared.Survey.{Survey}
 use Rattle.reading.specs.RuleLaws.{count-is}
 use Rattle.reading.specs.Read.{reading-of, Surveyed}
-use Rattle.sweeping.specs.Began.{Began, Moves, finished-all}
+use Rattle.sweeping.specs.Began.{Moves, finished-all}
 use Rattle.sweeping.specs.Planned.{Headed}
 use Rattle.lilota.specs.declared.Swept.{Swept}
 use Rattle.lilota.specs.Numbers.{outcome}

@@ -3,11 +3,9 @@
 use Prim.Native.Nat.{ℕ, suc, _+_, _-_, _≤_, _<_}
 use native.Mathlib.Omega.{arith}
 use mathlib.Core.Path.{_≡_, refl, sym, ap, _∙_}
-use mathlib.Core.Bool.{Bool, true, false}
 use mathlib.Core.List.{List, [], _∷_, _++_}
 use lib.ListN.{length, take, length-append}
 use lib.Seq.{take-all, take-append-le}
-use lib.Dec.{leb}
 use borrow.Author.Tests.{le-leb, lt-leb}
 use Rattle.spec.specs.Step.{Image, Step, run}
 use Rattle.spec.specs.Basics.{concat}
@@ -41,7 +39,7 @@ module _ {s t : Image} {m r : Meter} {a : List Step} (w : Began s m a t r) where
         bytes = did-both (began-whole h) d .bytes;
         whole = λ k. omega (arith, v .whole k, w .whole h, length-append a b);
         cut = λ k. omega (arith, v .cut k, w .whole h, w .same, length-append a b);
-        same = v .same ∙ w .same
+        same = v .same ∙ w .same;
       }
 
   -- the allowance ended among them: whatever were to follow is not begun
@@ -52,7 +50,7 @@ module _ {s t : Image} {m r : Meter} {a : List Step} (w : Began s m a t r) where
         bytes = w .bytes ∙ ap (run s) (sym (take-append-le (m .allowance - m .asked) a b k));
         whole = λ n. absurd (omega arith);
         cut = λ n. omega (arith, w .cut h, length-append a b);
-        same = w .same
+        same = w .same;
       }
 
 -- ---- moves, each a list of steps; n of them are finished
@@ -76,7 +74,7 @@ module _ {s t : Image} {m r : Meter} {a : List Step} (ms : List (List Step)) (w 
         begun = began-both w h (v .begun);
         count =
             rw (le-leb (m .asked + length a) (m .allowance) (omega (arith, w .whole h, w .same)), finished)
-            (ap suc (v .count ∙ rw (w .whole h, w .same)))
+            (ap suc (v .count ∙ rw (w .whole h, w .same)));
       }
 
 -- all are finished where the allowance is enough

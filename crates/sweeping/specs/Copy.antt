@@ -1,5 +1,5 @@
 -- The copy of the head's record: how many steps it is at most, and that it leaves the head's first byte alone.
-use Prim.Native.Nat.{ℕ, _+_, _≤_, _<_}
+use Prim.Native.Nat.{ℕ, _+_, _≤_}
 use native.Mathlib.Omega.{arith}
 use native.Mathlib.Nat.{add-zero}
 use mathlib.Core.Path.{_≡_, refl, sym, ap, _∙_}
@@ -11,7 +11,7 @@ use lib.ListN.{length, take, drop, getD, length-append}
 use lib.Seq.{getD-take, getD-drop}
 use Rattle.spec.specs.declared.Place.{Place}
 use Rattle.spec.specs.Geometry.{up8}
-use Rattle.spec.specs.Step.{Image, Step, program, erase, bytes-at, moved}
+use Rattle.spec.specs.Step.{Image, Step, program, bytes-at, moved}
 use Rattle.spec.specs.Bytes.{is-committed}
 use Rattle.spec.specs.Record.{four, size-of, size, Entry, name-of, content-of}
 use Rattle.spec.specs.Place.{fits, address, with-marker}
@@ -19,7 +19,7 @@ use Rattle.spec.specs.Write.{marker-steps, header-steps, name-steps, data-steps
 use Rattle.flash.specs.declared.Meter.{Meter}
 use Rattle.flash.specs.Did.{Did}
 use Rattle.writing.specs.Steps.{record-count}
-use Rattle.writing.specs.Kept.{Off, Apart, Avoids, avoids-append, kept, Inside, inside-bytes, inside-append, inside-moved, inside-avoids}
+use Rattle.writing.specs.Kept.{Off, Avoids, avoids-append, kept, Inside, inside-bytes, inside-append, inside-moved, inside-avoids}
 use Rattle.writing.specs.Room.{marker-before-turn}
 use Rattle.writing.specs.Head.{copy-of, HeadEnds, copy-apart}
 
@@ -70,9 +70,11 @@ turn-avoids p z h l = go (with-marker p z) l where
 inside-record : (name content : List ℕ) (z : ℕ) → z ≡ size-of (length name) (length content) → Inside 0 z (record-steps name content)
 inside-record name content z e =
     let d : List Step = data-steps (length name) content in
-    inside-append 0 z (header-steps (length content)) (name-steps name ++ (d ++ commit-steps))
-    ( omega arith, omega arith
-    , (omega arith, omega arith, inside-append 0 z (bytes-at 4 (four (length content))) (program 2 0xFE ∷ []) (inside-bytes 0 z 4 (four (length content)) (omega arith) (omega arith)) (omega arith, omega arith, tt)) )
+    inside-append 0 z (header-steps (length content)) (name-steps name ++ (d ++ commit-steps)) (
+      omega arith,
+      omega arith,
+      (omega arith, omega arith, inside-append 0 z (bytes-at 4 (four (length content))) (program 2 0xFE ∷ []) (inside-bytes 0 z 4 (four (length content)) (omega arith) (omega arith)) (omega arith, omega arith, tt)),
+    )
     (inside-append 0 z (name-steps name) (d ++ commit-steps)
     (inside-append 0 z (bytes-at 8 name) (program (8 + length name) 0x00 ∷ []) (inside-bytes 0 z 8 name (omega arith) (omega arith)) (omega arith, omega arith, tt))
     (inside-append 0 z d commit-steps (inside-bytes 0 z (8 + up8 (length name + 1)) content (omega arith) (omega arith)) (omega arith, omega arith, tt)))

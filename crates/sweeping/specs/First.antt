@@ -1,8 +1,8 @@
 -- The first record of a chain stands at the head, if a START or CLEAN byte does; the second one stands clear of it.
-use Prim.Native.Nat.{ℕ, zero, suc, _+_, _-_, _*_, _/_, _%_, _≤_, _<_}
+use Prim.Native.Nat.{ℕ, _+_, _-_, _%_, _≤_, _<_}
 use native.Mathlib.Omega.{arith}
 use native.Mathlib.Nat.{add-zero, not-suc-le-zero}
-use mathlib.Core.Path.{_≡_, refl, sym, ap, subst, _∙_}
+use mathlib.Core.Path.{_≡_, refl, sym, ap, _∙_}
 use mathlib.Core.Bool.{Bool, true, false, _&&_, _||_, cond}
 use mathlib.Core.Logic.{_⊎_, inl, inr}
 use mathlib.Core.List.{List, [], _∷_}
@@ -10,13 +10,12 @@ use lib.ListN.{length, drop, getD, length-drop}
 use lib.Seq.{take-length, getD-drop}
 use lib.Dec.{ltb, eqb}
 use Rattle.spec.specs.declared.Kind.{Kind}
-use Rattle.spec.specs.declared.Next.{Next}
 use Rattle.spec.specs.Step.{Image}
 use Rattle.spec.specs.Basics.{long}
 use Rattle.spec.specs.Geometry.{floor}
 use Rattle.spec.specs.Bytes.{is-record, is-wrap, is-start, is-clean, is-high, is-high-begun, is-erased, is-reserved, is-committed, is-migrating, is-dead, is-spare}
 use Rattle.spec.specs.Record.{low-of, high-of, status-of, spare-of, data-len-of, size-of, name-length}
-use Rattle.spec.specs.Next.{kind, sized, record-at, next-at, next}
+use Rattle.spec.specs.Next.{kind, sized, next-at, next}
 use Rattle.reading.specs.declared.Cursor.{Cursor}
 use Rattle.reading.specs.declared.Spot.{Spot}
 use Rattle.reading.specs.Cursor.{look, goes-on, unfinished-at, past}
@@ -128,7 +127,7 @@ module _ (image : Image) (h : ℕ) (l : h < length image) (b : Low (getD image h
         record {
           even = omega arith;
           up = λ z. (omega arith, omega arith, refl, refl);
-          round = λ z. never (sym z)
+          round = λ z. never (sym z);
         }
 
     -- the second record stands behind the first, or at 0 after the turn

@@ -1,7 +1,7 @@
 -- Steps (b) to (f) of a move.
-use Prim.Native.Nat.{ℕ, _+_, _*_, _/_, _%_, _≤_, _<_, _^_}
+use Prim.Native.Nat.{ℕ, _+_, _*_, _≤_, _<_}
 use native.Mathlib.Omega.{arith}
-use mathlib.Core.Path.{_≡_, refl, sym, ap, ap₂, subst, _∙_}
+use mathlib.Core.Path.{_≡_, refl, sym, ap, ap₂, _∙_}
 use mathlib.Core.Bool.{Bool, true, false}
 use mathlib.Core.Logic.{_⊎_, inl, inr, ⊎-elim}
 use mathlib.Core.List.{List, [], _∷_, _++_, map}
@@ -21,13 +21,13 @@ use Rattle.reading.specs.declared.Spot.{Spot}
 use Rattle.reading.specs.declared.Step as chain
 use Rattle.reading.specs.Cursor.{advance}
 use Rattle.reading.specs.Rest.{Run, entry-of, rest}
-use Rattle.reading.specs.Fold.{Whole, Not-record, rest-done}
+use Rattle.reading.specs.Fold.{Not-record, rest-done}
 use Rattle.reading.specs.Read.{first-cursor}
 use Rattle.writing.specs.Kept.{kept}
 use Rattle.recovery.specs.Close.{end-before, leave-steps, close-is}
 use Rattle.sweeping.specs.declared.Moved.{Moved}
 use Rattle.sweeping.specs.Way.{reached}
-use Rattle.sweeping.specs.First.{Low, apart, second-even}
+use Rattle.sweeping.specs.First.{apart, second-even}
 use Rattle.sweeping.specs.Steps.{hand-steps, hand-head, handing, heading}
 use Rattle.sweeping.specs.Standing.{Led, Found, entries-are, stands}
 
@@ -65,7 +65,7 @@ close-low s N x y h =
     let clean : List Step = clean-steps (length (content-of x)) (data-at x) (content-of x) in
     let u : Image = run (run s clean) (map erase starts) in
     let e : run s (clean ++ vacate-steps x y starts) ≡ run u (program (y .at) 0x00 ∷ forget-steps x starts) =
-        run-append s clean (vacate-steps x y starts) ∙ run-append (run s clean) (map erase starts) (program (y .at) 0x00 ∷ forget-steps x starts) in
+    run-append s clean (vacate-steps x y starts) ∙ run-append (run s clean) (map erase starts) (program (y .at) 0x00 ∷ forget-steps x starts) in
     ap (λ (i : Image). getD i (y .at) 0) e ∙ last-low u x (y .at) starts (omega (arith, ap length e, last-length u x (y .at) starts))
 
 -- ---- how the code comes to it
@@ -78,7 +78,7 @@ module _ {s : Image} {h : ℕ} (w : Led s h) (m : Meter) where
         did = rw (e, f (reading-from s h .place .length)) (did-none s m);
         head = rw e (sym b);
         led = λ l. w;
-        few = omega arith
+        few = omega arith;
       }
 
   pub hand-none : {k : Cursor} (q : chain.Step) → k ≡ first-cursor s h → q ≡ advance s k → Not-record q → Handed s h m s (record { head = h; meter = m })
@@ -103,7 +103,7 @@ module _ {s : Image} {h : ℕ} (w : Led s h) (m : Meter) where
       same-data g =
           let o = apart s h (w .inside) (w .low) x c (reached s (first-cursor s h) x c (t .step)) y d (reached s c y d (u .step)) in
           let off : (y .at < x .at + 8 + up8 (x .n + 1)) ⊎ (x .at + 8 + up8 (x .n + 1) + x .d ≤ y .at) =
-              ⊎-elim (λ (l : x .at + size-of (x .n) (x .d) ≤ y .at). inr (omega arith)) (λ (l : y .at < x .at). inl (omega arith)) o in
+          ⊎-elim (λ (l : x .at + size-of (x .n) (x .d) ≤ y .at). inr (omega arith)) (λ (l : y .at < x .at). inl (omega arith)) o in
           kept (x .at + 8 + up8 (x .n + 1)) (x .d) g (off, tt)
 
       same-close : {v : Image} {a : Meter} → length v ≡ length s → Did s m (program (y .at) 0xA0 ∷ []) v a
@@ -128,19 +128,19 @@ module _ {s : Image} {h : ℕ} (w : Led s h) (m : Meter) where
       hand-two {v} {z} {a} {q} l k g i b =
           let did : Did s m (handing s h) z q = rw handing-is (did-both g (rw (same-close l g) at i)) in
           let low : q .asked ≤ q .allowance → getD z (y .at) 0 ≡ 0 = λ n.
-              let j : z ≡ run (run s (program (y .at) 0xA0 ∷ [])) (close-steps (length s) (entry-of s x) (entry-of s y)) = did-all did n ∙ ap (run s) handing-is in
-              ap (λ (i : Image). getD i (y .at) 0) j ∙ close-low (run s (program (y .at) 0xA0 ∷ [])) (length s) (entry-of s x) (entry-of s y) (omega (arith, ap length j, u .turned .whole .fits)) in
+          let j : z ≡ run (run s (program (y .at) 0xA0 ∷ [])) (close-steps (length s) (entry-of s x) (entry-of s y)) = did-all did n ∙ ap (run s) handing-is in
+          ap (λ (i : Image). getD i (y .at) 0) j ∙ close-low (run s (program (y .at) 0xA0 ∷ [])) (length s) (entry-of s x) (entry-of s y) (omega (arith, ap length j, u .turned .whole .fits)) in
           record {
             did = did;
             head = sym heading-is;
             led = λ n.
-              record {
-                even = second-even s h (w .inside) (w .low) x c (reached s (first-cursor s h) x c (t .step)) (w .even) y d (reached s c y d (u .step));
-                inside = omega (arith, u .turned .whole .fits);
-                low = inl (low n);
-                eights = rw k (w .eights);
-                long = omega (arith, w .long);
-                small = omega (arith, w .small)
-              };
-            few = omega (arith, g .count, b)
+                record {
+                  even = second-even s h (w .inside) (w .low) x c (reached s (first-cursor s h) x c (t .step)) (w .even) y d (reached s c y d (u .step));
+                  inside = omega (arith, u .turned .whole .fits);
+                  low = inl (low n);
+                  eights = rw k (w .eights);
+                  long = omega (arith, w .long);
+                  small = omega (arith, w .small);
+                };
+            few = omega (arith, g .count, b);
           }

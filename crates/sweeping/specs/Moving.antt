@@ -1,17 +1,16 @@
 -- The whole move: (a), and then (b) to (f) on the image that (a) left.
-use Prim.Native.Nat.{ℕ, _+_, _*_, _≤_, _<_, _^_}
+use Prim.Native.Nat.{ℕ, _+_, _≤_, _<_, _^_}
 use native.Mathlib.Omega.{arith}
-use mathlib.Core.Path.{_≡_, refl, sym, ap, subst, _∙_}
-use mathlib.Core.List.{List, _++_}
+use mathlib.Core.Path.{_≡_, sym, ap, subst, _∙_}
+use mathlib.Core.List.{_++_}
 use lib.ListN.{length, getD}
-use Rattle.spec.specs.Step.{Image, Step, run}
-use Rattle.spec.specs.Chain.{Reading, reading-from}
+use Rattle.spec.specs.Step.{Image, run}
+use Rattle.spec.specs.Chain.{reading-from}
 use Rattle.spec.specs.Move.{Work, begin, move}
 use Rattle.flash.specs.declared.Meter.{Meter}
 use Rattle.flash.specs.Did.{Did, did-all}
 use Rattle.sweeping.specs.declared.Moved.{Moved}
 use Rattle.sweeping.specs.Began.{Began, began-did, began-both, began-cut}
-use Rattle.sweeping.specs.First.{Low}
 use Rattle.sweeping.specs.Steps.{copying, handing, heading, move-is}
 use Rattle.sweeping.specs.Standing.{Led, stands}
 use Rattle.sweeping.specs.Handed.{Handed}
@@ -40,7 +39,7 @@ led-still w l e =
       low = rw e (w .low);
       eights = rw l (w .eights);
       long = omega (arith, w .long);
-      small = omega (arith, w .small)
+      small = omega (arith, w .small);
     }
 
 module _ {s t : Image} {h : ℕ} {m a : Meter} (w : Led s h) (d : Did s m (copying s h) t a) (few : a .asked ≤ m .asked + length s + 14) where
@@ -52,7 +51,7 @@ module _ {s t : Image} {h : ℕ} {m a : Meter} (w : Led s h) (d : Did s m (copyi
       record {
         begun = rw steps-are (began-cut (began-did d) (handing (run s (copying s h)) h) l);
         left = λ n. absurd (omega arith);
-        few = omega (arith, w .small)
+        few = omega (arith, w .small);
       }
 
   pub moved-over : {u : Image} {r : Moved} → a .asked ≤ a .allowance → length t ≡ length s → Handed t h a u r → Moved-as s h m u r
@@ -61,14 +60,14 @@ module _ {s t : Image} {h : ℕ} {m a : Meter} (w : Led s h) (d : Did s m (copyi
       record {
         begun = rw steps-are (began-both (began-did d) l (began-did (subst (λ (i : Image). Did t a (handing i h) u (r .meter)) e (v .did))));
         left = λ n.
-          let j : u ≡ run (run s (copying s h)) (handing (run s (copying s h)) h) = did-all (v .did) n ∙ ap (λ (i : Image). run i (handing i h)) e in
-          record {
-            image = ap (λ (y : Work). y .image) (move-is s h (stands s h w .head)) ∙ sym j;
-            reading =
-                ap (λ (y : Work). y .reading) (move-is s h (stands s h w .head))
-                ∙ ap (λ (i : Image). reading-from i (heading (run s (copying s h)) h)) (sym j)
-                ∙ ap (reading-from u) (ap (λ (i : Image). heading i h) (sym e) ∙ sym (v .head));
-            led = v .led n
-          };
-        few = omega (arith, v .few, w .small)
+            let j : u ≡ run (run s (copying s h)) (handing (run s (copying s h)) h) = did-all (v .did) n ∙ ap (λ (i : Image). run i (handing i h)) e in
+            record {
+              image = ap (λ (y : Work). y .image) (move-is s h (stands s h w .head)) ∙ sym j;
+              reading =
+                  ap (λ (y : Work). y .reading) (move-is s h (stands s h w .head))
+                  ∙ ap (λ (i : Image). reading-from i (heading (run s (copying s h)) h)) (sym j)
+                  ∙ ap (reading-from u) (ap (λ (i : Image). heading i h) (sym e) ∙ sym (v .head));
+              led = v .led n;
+            };
+        few = omega (arith, v .few, w .small);
       }

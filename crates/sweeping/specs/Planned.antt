@@ -1,5 +1,5 @@
 -- What a move will do with the head's record, and what the copy is given.
-use Prim.Native.Nat.{ℕ, _+_, _*_, _/_, _%_, _≤_, _<_, _^_}
+use Prim.Native.Nat.{ℕ, _+_, _≤_, _^_}
 use native.Mathlib.Omega.{arith}
 use mathlib.Core.Path.{_≡_, refl, sym, ap, ap₂, subst, _∙_}
 use mathlib.Core.Bool.{Bool, true, false}
@@ -110,7 +110,7 @@ module _ {s : Image} {p : Place} (w : Headed s p) where
           let no : fits (r .place) (size (entry-of s x)) ≡ false = fitting false (placed-full p (size-of (x .n) (x .d)) (ap (placed p) (sym g) ∙ sym i ∙ j)) in
           record {
             stop = stuck-live r (entry-of s x) (rest s c .entries) false listed (living b e ∙ l) no;
-            room = ap (no-room r) listed ∙ room-live r (entry-of s x) (rest s c .entries) false (living b e ∙ l) no
+            room = ap (no-room r) listed ∙ room-live r (entry-of s x) (rest s c .entries) false (living b e ∙ l) no;
           }
 
       pub plan-copy : {y : ℕ} {v : Placed} {a : ℕ} {i : Bool} {o : Place} → b ≡ true → y ≡ size-of (x .n) (x .d) → v ≡ placed p y → v ≡ placed-as.At a i o → Copies s p (x .n) (x .d)
@@ -128,7 +128,7 @@ module _ {s : Image} {p : Place} (w : Headed s p) where
                 ∙ ap₂ (λ (v : Place) (i : ℕ). copy-of v (entry-at s i (x .n) (x .d))) (sym (w .same)) at;
             ends = record { inside = omega (arith, t .turned .whole .fits, stand .whole); before = stand .up };
             taken = taken;
-            named = omega (arith, t .turned .onward .name)
+            named = omega (arith, t .turned .onward .name);
           }
 
       pub plan-last : b ≡ false → (r : chain.Step) → r ≡ advance s c → Not-record r → Stops s (p .head) false
@@ -136,7 +136,7 @@ module _ {s : Image} {p : Place} (w : Headed s p) where
           let v : Reading = reading-from s (p .head) in
           record {
             stop = stuck-last v (entry-of s x) (rest s c .entries) listed (ap (λ (i : Run). i .entries) (rest-done s c r g z)) (living b e ∙ l);
-            room = ap (no-room v) listed ∙ room-dead v (entry-of s x) (rest s c .entries) (living b e ∙ l)
+            room = ap (no-room v) listed ∙ room-dead v (entry-of s x) (rest s c .entries) (living b e ∙ l);
           }
 
       pub plan-leave : {y : Spot} {d : Cursor} → b ≡ false → Found s c y d → (stuck (reading-from s (p .head)) ≡ false) × (copying s (p .head) ≡ [])
@@ -146,7 +146,7 @@ module _ {s : Image} {p : Place} (w : Headed s p) where
           let behind : rest s c .entries ≡ entry-of s y ∷ rest s d .entries = ap (λ (v : Run). v .entries) (u .turned .split) in
           let two : r .entries ≡ entry-of s x ∷ (entry-of s y ∷ rest s d .entries) = listed ∙ ap (λ (es : List Entry). entry-of s x ∷ es) behind in
           let dead : live (entry-of s x ∷ (entry-of s y ∷ rest s d .entries)) (entry-of s x) ≡ false =
-              sym (ap (λ (es : List Entry). live (entry-of s x ∷ es) (entry-of s x)) behind) ∙ living b e ∙ l in
+          sym (ap (λ (es : List Entry). live (entry-of s x ∷ es) (entry-of s x)) behind) ∙ living b e ∙ l in
           (stuck-not r (entry-of s x) (entry-of s y) (rest s d .entries) two dead, copy-dead r (entry-of s x) (entry-of s y ∷ rest s d .entries) two dead)
 
 -- ---- step (a)
@@ -166,7 +166,7 @@ module _ {s : Image} {p : Place} (w : Headed s p) where
         taken = c .taken;
         named = c .named;
         gap = λ a b. omega (arith, o .even, o .whole, w .led .eights);
-        few = omega (arith, c .ends .inside, c .named, o .whole, w .led .small)
+        few = omega (arith, c .ends .inside, c .named, o .whole, w .led .small);
       }
 
   module _ {t : Image} {m r : Meter} where
@@ -178,10 +178,11 @@ module _ {s : Image} {p : Place} (w : Headed s p) where
         let v : Whole s x = record { fits = omega (arith, c .ends .inside) } in
         let nl : length (name-of (entry-of s x)) ≡ n = name-length-is s x v in
         let dl : length (content-of (entry-of s x)) ≡ d = content-length-is s x v in
-        let z : size (entry-of s x) ≡ size-of n d = ap₂ size-of nl dl in
-        ( rw (c .steps) f
-        , omega (arith, f .count, copy-few p (entry-of s x), nl, dl, v .fits)
-        , copy-keeps-low p (entry-of s x) refl (rw z (c .ends)) (rw z (c .taken)) f )
+        let z : size (entry-of s x) ≡ size-of n d = ap₂ size-of nl dl in (
+          rw (c .steps) f,
+          omega (arith, f .count, copy-few p (entry-of s x), nl, dl, v .fits),
+          copy-keeps-low p (entry-of s x) refl (rw z (c .ends)) (rw z (c .taken)) f,
+        )
 
   pub not-copied : {m : Meter} → copying s (p .head) ≡ [] → Did s m (copying s (p .head)) s m × (m .asked ≤ m .asked + length s + 14) × (getD s (p .head) 0 ≡ getD s (p .head) 0)
   not-copied {m} e = (rw e (did-none s m), omega arith, refl)

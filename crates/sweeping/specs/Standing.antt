@@ -1,13 +1,12 @@
 -- A head in an image, and what the reading from it on says of its place.
-use Prim.Native.Nat.{ℕ, _+_, _*_, _/_, _%_, _≤_, _<_, _^_}
+use Prim.Native.Nat.{ℕ, _+_, _%_, _≤_, _<_, _^_}
 use native.Mathlib.Omega.{arith}
 use mathlib.Core.Path.{_≡_, refl, sym, ap, subst, _∙_}
 use mathlib.Core.Bool.{Bool, true, false}
-use mathlib.Core.List.{List, [], _∷_}
+use mathlib.Core.List.{List}
 use lib.ListN.{length, getD}
 use Rattle.spec.specs.declared.Place.{Place}
 use Rattle.spec.specs.Step.{Image}
-use Rattle.spec.specs.Geometry.{floor}
 use Rattle.spec.specs.Record.{size-of, Entry}
 use Rattle.spec.specs.Chain.{Reading, reading-from}
 use Rattle.spec.specs.Reading.{limit}
@@ -15,9 +14,9 @@ use Rattle.reading.specs.declared.Cursor.{Cursor}
 use Rattle.reading.specs.declared.Spot.{Spot}
 use Rattle.reading.specs.declared.Step.{Step}
 use Rattle.reading.specs.Cursor.{advance, Inside, Sound}
-use Rattle.reading.specs.Rest.{Run, entry-of, ahead, rest}
-use Rattle.reading.specs.Bridge.{shown, read-of, reading-is}
-use Rattle.reading.specs.Fold.{Whole, Turned, turned}
+use Rattle.reading.specs.Rest.{Run, rest}
+use Rattle.reading.specs.Bridge.{shown, reading-is}
+use Rattle.reading.specs.Fold.{Turned, turned}
 use Rattle.reading.specs.Read.{first-cursor}
 use Rattle.reading.specs.ReadLaws.{first-sound}
 use Rattle.sweeping.specs.Way.{On, Lands, Ends-on, never, ends-on, reached}
@@ -73,7 +72,6 @@ shown-entries image N h es (Step.TornWrap t) = refl
 shown-entries image N h es (Step.Broken t w) = refl
 
 module _ (image : Image) (h : ℕ) (w : Led image h) where
-
   pub entries-are : reading-from image h .entries ≡ rest image (first-cursor image h) .entries
   entries-are =
       let r : Run = rest image (first-cursor image h) in

@@ -1,7 +1,7 @@
 -- The definitions' moves: their steps and the head that each leaves, of the image that it meets.
 use Prim.Native.Nat.{ℕ, zero, suc}
 use mathlib.Core.Path.{_≡_, refl, sym, ap, ap₂, _∙_}
-use mathlib.Core.Bool.{Bool, true, false}
+use mathlib.Core.Bool.{true, false}
 use mathlib.Core.List.{List, [], _∷_, _++_, append-nil}
 use Rattle.spec.specs.Step.{Image, Step, program, run}
 use Rattle.spec.specs.Record.{Entry}
@@ -52,7 +52,7 @@ module _ (s : Image) (h : ℕ) where
 module _ (s : Image) (h : ℕ) (at-head : reading-from s h .place .head ≡ h) where
   pub move-is : move (begin s (reading-from s h))
       ≡ reread (begin s (reading-from s h)) (copying s h ++ handing (run s (copying s h)) h)
-        (run (run s (copying s h)) (handing (run s (copying s h)) h)) (heading (run s (copying s h)) h)
+      (run (run s (copying s h)) (handing (run s (copying s h)) h)) (heading (run s (copying s h)) h)
   unfolding move copying handing heading
   move-is =
       let w : Work = begin s (reading-from s h) in

@@ -1,10 +1,8 @@
 -- Whether a sweep goes on, by the first record and whether a second one stands behind it.
-use Prim.Native.Nat.{ℕ}
 use mathlib.Core.Path.{_≡_, refl, ap, _∙_}
 use mathlib.Core.Bool.{Bool, true, false, not}
 use mathlib.Core.List.{List, [], _∷_}
 use mathlib.Core.Option.{some}
-use Rattle.spec.specs.Step.{Step}
 use Rattle.spec.specs.Record.{Entry, size, name-of, content-of}
 use Rattle.spec.specs.Chain.{Reading}
 use Rattle.spec.specs.Files.{live}

@@ -1,13 +1,12 @@
 -- Moves one after another, as the sweep makes them.
-use Prim.Native.Nat.{ℕ, zero, suc, _+_, _*_, _≤_, _<_, _^_}
+use Prim.Native.Nat.{ℕ, suc, _+_, _*_, _≤_, _<_, _^_}
 use native.Mathlib.Omega.{arith}
 use native.Mathlib.Nat.{add-zero, zero-add}
-use native.Mathlib.Numerals.{add-one}
-use mathlib.Core.Path.{_≡_, refl, sym, ap, ap₂, subst, _∙_}
+use mathlib.Core.Path.{_≡_, sym, ap, ap₂, subst, _∙_}
 use mathlib.Core.Bool.{true, false}
-use mathlib.Core.List.{List, [], _∷_}
+use mathlib.Core.List.{[], _∷_}
 use Rattle.spec.specs.declared.Place.{Place}
-use Rattle.spec.specs.Step.{Image, Step}
+use Rattle.spec.specs.Step.{Image}
 use Rattle.spec.specs.Chain.{Reading, reading-from}
 use Rattle.spec.specs.Sweep.{stuck, moves}
 use Rattle.flash.specs.declared.Meter.{Meter}
@@ -51,11 +50,11 @@ on-seen {s} {t} {h} {m} {r} {v} on w l seen =
       within = l;
       left = left;
       headed =
-        record {
-          led = left .led;
-          same = ap (λ (x : Reading). x .place) (seen .same) ∙ ap (λ (i : ℕ). reading-from t i .place) (sym (seen .head))
-        };
-      few = w .few
+          record {
+            led = left .led;
+            same = ap (λ (x : Reading). x .place) (seen .same) ∙ ap (λ (i : ℕ). reading-from t i .place) (sym (seen .head));
+          };
+      few = w .few;
     }
 
 -- ---- the loop: whatever makes the moves that are left makes them all
@@ -93,8 +92,8 @@ module _ {s : Image} {m : Meter} {k h : ℕ} {t : Image} {q : Meter} {left : ℕ
         let e : moves i (moving t (p .head) .image) (moving t (p .head) .reading) ≡ moves i u (reading-from u (v .head)) = ap₂ (moves i) (c .left .image) (c .left .reading) in
         record {
           onward = λ x j y g.
-            let o : n + suc j ≡ n + 1 + j = omega arith in
-            rw o at (w .onward x (suc j) y (rw (next-is (c .on), e) (moves-more (moves i u (reading-from u (v .head))) (c .begun) (c .within) g)));
+              let o : n + suc j ≡ n + 1 + j = omega arith in
+              rw o at (w .onward x (suc j) y (rw (next-is (c .on), e) (moves-more (moves i u (reading-from u (v .head))) (c .begun) (c .within) g)));
           headed = c .headed;
-          few = omega (arith, w .few, c .few)
+          few = omega (arith, w .few, c .few);
         }

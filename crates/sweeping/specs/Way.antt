@@ -1,10 +1,9 @@
 -- The way of the chain from a head on: where its records stand, and where it ends.
-use Prim.Native.Nat.{ℕ, zero, suc, _+_, _-_, _*_, _/_, _%_, _≤_, _<_}
+use Prim.Native.Nat.{ℕ, zero, suc, _-_, _%_, _≤_, _<_}
 use native.Mathlib.Omega.{arith}
 use native.Mathlib.Nat.{not-suc-le-zero}
-use mathlib.Core.Path.{_≡_, refl, sym, ap, _∙_}
+use mathlib.Core.Path.{_≡_, refl, sym, _∙_}
 use mathlib.Core.Bool.{Bool, true, false}
-use mathlib.Core.List.{List}
 use lib.ListN.{length}
 use lib.Dec.{ltb}
 use borrow.Author.Tests.{ltb-true}
@@ -118,7 +117,7 @@ module _ (image : Image) (N h lo : ℕ) where
       record {
         even = omega (arith, p .even);
         up = λ z. (omega (arith, p .up z .0), omega (arith, r .fits, p .up z .1, p .up z .2), p .up z .2, p .up z .3);
-        round = λ z. (omega (arith, r .fits, p .round z .0, p .round z .1), p .round z .1, p .round z .2)
+        round = λ z. (omega (arith, r .fits, p .round z .0, p .round z .1), p .round z .1, p .round z .2);
       }
 
   lands : (c : Cursor) (t : ℕ) (w : Bool) → On N h lo c → Stops image c t w → Lands N h lo t w
@@ -127,7 +126,7 @@ module _ (image : Image) (N h lo : ℕ) where
       record {
         even = omega (arith, r .at, p .even);
         up = λ z. let u = p .up (sym (r .turned) ∙ z) in (omega (arith, r .at, u .0), omega (arith, r .at, u .1));
-        round = λ z. omega (arith, r .at, p .round (sym (r .turned) ∙ z) .0)
+        round = λ z. omega (arith, r .at, p .round (sym (r .turned) ∙ z) .0);
       }
 
   by-step : (k : ℕ) (c : Cursor) (r : Step) → left c < suc k → Less c r → Way image c r → On N h lo c → ((d : Cursor) → left d < k → On N h lo d → Ends-on N h lo (rest image d .ending))

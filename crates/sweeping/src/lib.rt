@@ -2,6 +2,7 @@
 // Each move reads the image that the one before it left, from the head it left.
 pub mod step;
 pub mod sweep;
+
 use flash::Meter;
 use spec::Place;
 

@@ -34,13 +34,16 @@ fn next_move(image: &mut [u8], place: Place, m: Meter) -> Turn
     Turn::On(next, q)
 }
 
-fn at_most_five(n: usize) -> usize
+// The moves of a sweep at most.
+const MOST: usize = 5;
+
+fn at_most(n: usize) -> usize
     ensures { λ r. ⌜ r ≡ min 5 n ⌝ }
 {
-    if n < 5 {
+    if n < MOST {
         return n;
     }
-    5
+    MOST
 }
 
 // The sweep of an image with this many records. Only finished moves are counted.
@@ -48,7 +51,7 @@ pub fn sweep(image: &mut [u8], place: Place, records: usize, m: Meter) -> Swept
     requires { ⌜ Headed (now image) place × (m .asked ≤ 2 ^ 16) ⌝ }
     ensures { λ r. ⌜ Moves (now (image .entry)) m (moves (min 5 records) (now (image .entry)) (reading-from (now (image .entry)) (place .head))) (now (image .exit)) (r .moves) (r .meter) ⌝ }
 {
-    let mut left = at_most_five(records);
+    let mut left = at_most(records);
     let mut p = place;
     let mut q = m;
     let mut n = 0;

@@ -4,28 +4,19 @@ use Rattle.lilota.specs.Sweep.{sweep-length, sweep-on}
 use borrow.Author.Needs.{needs}
 use Rattle.lilota.proofs.sweep.sweep.Statement.{statement}
 use Rattle.lilota.proofs.sweep.sweep.Tie as tie
-use Rattle.lilota.proofs.sweep.sweep.Reads as reads
-use Rattle.lilota.proofs.sweep.sweep.Lts as lts
-use Rattle.lilota.proofs.good_length.Reads as good-length-reads
-use Rattle.lilota.proofs.sweep.sweep_whole.Reads as sweep-whole-reads
 
--- src/sweep.rt:93:8
 good-length-requires : tie.Need-good-length-requires
 good-length-requires c κs = search needs
 
--- src/sweep.rt:94:9
 sweep-whole-requires : tie.Need-sweep-whole-requires
 sweep-whole-requires c κs = flag (c .before .before .good-length .ensures) (c .before .if1 .taken)
 
--- src/sweep.rt:94:9
 same-length : tie.Need-same-length
 same-length c = search needs
 
--- src/sweep.rt:94:9
 returns : tie.Need-returns
 returns c = let a = c .before .before .before .before .before .before .before .args in c .before .before .sweep-whole .ensures ∙ sweep-on (a .image .now) (a .allowance) (flag (c .before .before .before .before .before .good-length .ensures) (c .before .before .before .before .if1 .taken))
 
--- src/sweep.rt:90:1
 returns-2 : tie.Need-returns-2
 returns-2 c = let a = c .before .before .before .args in sweep-length (a .image .now) (a .allowance) (flag (c .before .good-length .ensures) (c .if1 .left))
 

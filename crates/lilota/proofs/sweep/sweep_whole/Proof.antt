@@ -9,40 +9,28 @@ use Rattle.lilota.specs.Sweep.{readied}
 use borrow.Author.Needs.{needs}
 use Rattle.lilota.proofs.sweep.sweep_whole.Statement.{statement}
 use Rattle.lilota.proofs.sweep.sweep_whole.Tie as tie
-use Rattle.lilota.proofs.sweep.sweep_whole.Reads as reads
-use Rattle.lilota.proofs.sweep.sweep_whole.Lts as lts
-use Rattle.lilota.proofs.sweep.sweep_read.Reads as sweep-read-reads
-use Rattle.reading.proofs.image.read_settled.Reads as read-settled-reads
 
--- src/sweep.rt:82:9
 read-settled-requires : tie.Need-read-settled-requires
 read-settled-requires c κs = let g = good (length (c .before .before .args .image .now)) (c .before .before .pre) in omega (arith, g .two, g .most)
 
--- src/sweep.rt:84:20
 enum-known-x : tie.Need-enum-known-x
 enum-known-x c = search needs
 
--- src/sweep.rt:84:26
 sweep-read-requires : tie.Need-sweep-read-requires
 sweep-read-requires c κs = readied (c .before .before .before .before .before .before .before .args .image .now) (c .before .before .x .given .0 .0) (c .before .before .before .before .before .before .before .pre) (sym (ap (answered (c .before .before .before .before .before .before .before .args .image .now)) (c .before .before .x .given .1)) ∙ c .before .before .before .before .read-settled .ensures .0) (rw (c .before .before .x .given .1) at (c .before .before .before .before .read-settled .ensures .1))
 
--- src/sweep.rt:85:23
 enum-known-x-2 : tie.Need-enum-known-x-2
 enum-known-x-2 c = search needs
 
--- src/sweep.rt:78:1
 same-length : tie.Need-same-length
 same-length c = search needs
 
--- src/sweep.rt:78:1
 returns : tie.Need-returns
 returns c = let a = c .before .before .before .before .before .before .before .before .before .before .args in c .before .before .sweep-read .ensures ∙ read-on (a .image .now) (a .allowance) (reading-of (a .image .now) (c .before .before .before .before .before .x .given .0 .0)) (sweep-of (a .image .now)) (sym (ap (answered (c .before .before .before .before .before .before .before .before .before .before .args .image .now)) (c .before .before .before .before .before .x .given .1)) ∙ c .before .before .before .before .before .before .before .read-settled .ensures .0)
 
--- src/sweep.rt:78:1
 same-length-2 : tie.Need-same-length-2
 same-length-2 c = search needs
 
--- src/sweep.rt:78:1
 returns-2 : tie.Need-returns-2
 returns-2 c = let a = c .before .before .before .before .before .before .args in read-refused (a .image .now) (a .allowance) (c .before .x2 .given .0 .0) (sweep-of (a .image .now)) (sym (ap (answered (c .before .before .before .before .before .before .args .image .now)) (c .before .x2 .given .1)) ∙ c .before .before .before .read-settled .ensures .0)
 

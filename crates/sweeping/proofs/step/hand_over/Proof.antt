@@ -6,62 +6,43 @@ use Rattle.sweeping.specs.Handed.{hand-none, hand-one, hand-two}
 use borrow.Author.Needs.{needs}
 use Rattle.sweeping.proofs.step.hand_over.Statement.{statement}
 use Rattle.sweeping.proofs.step.hand_over.Tie as tie
-use Rattle.sweeping.proofs.step.hand_over.Reads as reads
-use Rattle.sweeping.proofs.step.hand_over.Lts as lts
-use Rattle.flash.proofs.program.Reads as program-reads
-use Rattle.reading.proofs.chain.advance.Reads as advance-reads
-use Rattle.reading.proofs.image.first_cursor.Reads as first-cursor-reads
-use Rattle.recovery.proofs.close.close.Reads as close-reads
 
--- src/step.rt:63:48
 first-cursor-requires : tie.Need-first-cursor-requires
 first-cursor-requires c κs = search needs
 
--- src/step.rt:63:33
 advance-requires : tie.Need-advance-requires
 advance-requires c κs = start-sound (c .before .before .before .pre .0) (c .first-cursor .ensures)
 
--- src/step.rt:63:22
 enum-known-x : tie.Need-enum-known-x
 enum-known-x c = search needs
 
--- src/step.rt:64:9
 same-length : tie.Need-same-length
 same-length c = search needs
 
--- src/step.rt:64:9
 returns : tie.Need-returns
 returns c = hand-none (c .before .before .before .before .before .pre .0) (c .before .before .before .before .before .args .m) (c .before .advance .result) (c .before .before .first-cursor .ensures) (c .before .advance .ensures .0) (other-step (c .before .advance .result) (c .match .keys2))
 
--- src/step.rt:69:30
 advance-requires-2 : tie.Need-advance-requires-2
 advance-requires-2 c κs = let t = found (c .before .before .before .before .before .first-cursor .ensures) (c .before .before .before .before .advance .ensures .0) (c .before .before .before .before .advance .ensures .1) (c .before .before .x .given .1) in t .turned .onward .sound
 
--- src/step.rt:69:22
 enum-known-y : tie.Need-enum-known-y
 enum-known-y c = search needs
 
--- src/step.rt:70:9
 same-length-2 : tie.Need-same-length-2
 same-length-2 c = search needs
 
--- src/step.rt:70:9
 returns-2 : tie.Need-returns-2
 returns-2 c = let t = found (c .before .before .before .before .before .before .before .first-cursor .ensures) (c .before .before .before .before .before .before .advance .ensures .0) (c .before .before .before .before .before .before .advance .ensures .1) (c .before .before .before .before .x .given .1) in hand-one (c .before .before .before .before .before .before .before .before .before .before .pre .0) (c .before .before .before .before .before .before .before .before .before .before .args .m) t (c .before .advance2 .result) (c .before .advance2 .ensures .0) (other-step (c .before .advance2 .result) (c .match2 .keys2))
 
--- src/step.rt:75:9
 program-requires : tie.Need-program-requires
 program-requires c κs = let u = found refl (c .before .before .before .before .advance2 .ensures .0) (c .before .before .before .before .advance2 .ensures .1) (c .before .before .y .given .1) in (omega (arith, u .turned .whole .fits), omega (arith, c .before .before .before .before .before .before .before .before .before .before .before .before .before .pre .1))
 
--- src/step.rt:76:9
 close-requires : tie.Need-close-requires
 close-requires c κs = let t = found (c .before .before .before .before .before .before .before .before .before .before .before .before .before .before .first-cursor .ensures) (c .before .before .before .before .before .before .before .before .before .before .before .before .before .advance .ensures .0) (c .before .before .before .before .before .before .before .before .before .before .before .before .before .advance .ensures .1) (c .before .before .before .before .before .before .before .before .before .before .before .x .given .1) in let u = found refl (c .before .before .before .before .before .before .before .before .advance2 .ensures .0) (c .before .before .before .before .before .before .before .before .advance2 .ensures .1) (c .before .before .before .before .before .before .y .given .1) in (record { fits = omega (arith, t .turned .whole .fits) }, record { fits = omega (arith, u .turned .whole .fits) }, omega (arith, c .before .before .before .before .before .before .before .before .before .before .before .before .before .before .before .before .before .pre .0 .small), omega (arith, c .before .before .before .before .before .before .before .before .before .before .before .before .before .before .before .before .before .pre .1, c .before .before .before .program .ensures .count))
 
--- src/step.rt:59:1
 same-length-3 : tie.Need-same-length-3
 same-length-3 c = search needs
 
--- src/step.rt:59:1
 returns-3 : tie.Need-returns-3
 returns-3 c = let t = found (c .before .before .before .before .before .before .before .before .before .before .before .before .before .before .before .before .before .first-cursor .ensures) (c .before .before .before .before .before .before .before .before .before .before .before .before .before .before .before .before .advance .ensures .0) (c .before .before .before .before .before .before .before .before .before .before .before .before .before .before .before .before .advance .ensures .1) (c .before .before .before .before .before .before .before .before .before .before .before .before .before .before .x .given .1) in let u = found refl (c .before .before .before .before .before .before .before .before .before .before .before .advance2 .ensures .0) (c .before .before .before .before .before .before .before .before .before .before .before .advance2 .ensures .1) (c .before .before .before .before .before .before .before .before .before .y .given .1) in hand-two (c .before .before .before .before .before .before .before .before .before .before .before .before .before .before .before .before .before .before .before .before .pre .0) (c .before .before .before .before .before .before .before .before .before .before .before .before .before .before .before .before .before .before .before .before .args .m) t u (omega arith) (omega arith) (c .before .before .before .before .before .before .program .ensures) (c .before .before .close .ensures .0) (c .before .before .close .ensures .1)
 

@@ -3,32 +3,22 @@ use Rattle.sweeping.specs.Moving.{led-still, moved-cut, moved-over}
 use borrow.Author.Needs.{needs}
 use Rattle.sweeping.proofs.step.move_head.Statement.{statement}
 use Rattle.sweeping.proofs.step.move_head.Tie as tie
-use Rattle.sweeping.proofs.step.move_head.Reads as reads
-use Rattle.sweeping.proofs.step.move_head.Lts as lts
-use Rattle.sweeping.proofs.step.copy.Reads as copy-reads
-use Rattle.sweeping.proofs.step.hand_over.Reads as hand-over-reads
 
--- src/step.rt:88:9
 copy-requires : tie.Need-copy-requires
 copy-requires c κs = search needs
 
--- src/step.rt:90:9
 same-length : tie.Need-same-length
 same-length c = search needs
 
--- src/step.rt:90:9
 returns : tie.Need-returns
 returns c = moved-cut (c .before .before .before .before .before .before .before .pre .0 .led) (c .before .before .before .before .copy .ensures .0) (c .before .before .before .before .copy .ensures .1) (c .if1 .taken)
 
--- src/step.rt:95:5
 hand-over-requires : tie.Need-hand-over-requires
 hand-over-requires c κs = (led-still (c .before .before .before .before .before .before .before .before .pre .0 .led) (omega arith) (c .before .before .before .before .before .copy .ensures .2), omega (arith, c .before .before .before .before .before .copy .ensures .1, c .before .before .before .before .before .before .before .before .pre .2, c .before .before .before .before .before .before .before .before .pre .0 .led .small))
 
--- src/step.rt:84:1
 same-length-2 : tie.Need-same-length-2
 same-length-2 c = search needs
 
--- src/step.rt:84:1
 returns-2 : tie.Need-returns-2
 returns-2 c = moved-over (c .before .before .before .before .before .before .before .before .before .before .before .pre .0 .led) (c .before .before .before .before .before .before .before .before .copy .ensures .0) (c .before .before .before .before .before .before .before .before .copy .ensures .1) (c .before .before .before .before .if1 .left) (omega arith) (c .before .before .hand-over .ensures)
 

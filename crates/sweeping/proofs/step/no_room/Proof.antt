@@ -3,35 +3,25 @@ use Rattle.sweeping.specs.Planned.{full, full-is}
 use borrow.Author.Needs.{needs}
 use Rattle.sweeping.proofs.step.no_room.Statement.{statement}
 use Rattle.sweeping.proofs.step.no_room.Tie as tie
-use Rattle.sweeping.proofs.step.no_room.Reads as reads
-use Rattle.sweeping.proofs.step.no_room.Lts as lts
-use Rattle.sweeping.proofs.step.plan.Reads as plan-reads
 
--- src/step.rt:54:9
 plan-requires : tie.Need-plan-requires
 plan-requires c κs = search needs
 
--- src/step.rt:56:20
 enum-known-p : tie.Need-enum-known-p
 enum-known-p c = search needs
 
--- src/step.rt:57:24
 enum-told : tie.Need-enum-told
 enum-told c = search needs
 
--- src/step.rt:58:29
 enum-told-2 : tie.Need-enum-told-2
 enum-told-2 c = search needs
 
--- src/step.rt:50:1
 returns : tie.Need-returns
 returns c = ap full (sym (c .before .p .given .1)) ∙ full-is (c .before .before .before .before .before .args .image .now) (c .before .before .before .before .before .args .place) (c .before .before .before .plan .result) (c .before .before .before .plan .ensures)
 
--- src/step.rt:50:1
 returns-2 : tie.Need-returns-2
 returns-2 c = ap full (sym (c .enum-told .given .1)) ∙ full-is (c .before .before .before .before .args .image .now) (c .before .before .before .before .args .place) (c .before .before .plan .result) (c .before .before .plan .ensures)
 
--- src/step.rt:50:1
 returns-3 : tie.Need-returns-3
 returns-3 c = ap full (sym (c .enum-told2 .given .1)) ∙ full-is (c .before .before .before .before .args .image .now) (c .before .before .before .before .args .place) (c .before .before .plan .result) (c .before .before .plan .ensures)
 

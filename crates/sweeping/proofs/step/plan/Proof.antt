@@ -6,69 +6,49 @@ use Rattle.sweeping.specs.Planned.{plan-none, plan-full, plan-copy, plan
 use borrow.Author.Needs.{needs}
 use Rattle.sweeping.proofs.step.plan.Statement.{statement}
 use Rattle.sweeping.proofs.step.plan.Tie as tie
-use Rattle.sweeping.proofs.step.plan.Reads as reads
-use Rattle.sweeping.proofs.step.plan.Lts as lts
-use Rattle.reading.proofs.chain.advance.Reads as advance-reads
-use Rattle.reading.proofs.files.is_live.Reads as is-live-reads
-use Rattle.reading.proofs.image.first_cursor.Reads as first-cursor-reads
-use Rattle.record.proofs.size.Reads as size-reads
-use Rattle.spec.proofs.Place.after.Reads as after-reads
 
--- src/step.rt:31:9
 first-cursor-requires : tie.Need-first-cursor-requires
 first-cursor-requires c κs = search needs
 
--- src/step.rt:32:33
 advance-requires : tie.Need-advance-requires
 advance-requires c κs = start-sound (c .before .before .pre .led) (c .first-cursor .ensures)
 
--- src/step.rt:32:22
 enum-known-x : tie.Need-enum-known-x
 enum-known-x c = search needs
 
--- src/step.rt:33:9
 returns : tie.Need-returns
 returns c = plan-none (c .before .before .before .before .pre) (c .before .advance .result) (c .before .before .first-cursor .ensures) (c .before .advance .ensures .0) (other-step (c .before .advance .result) (c .match .keys2))
 
--- src/step.rt:35:8
 is-live-requires : tie.Need-is-live-requires
 is-live-requires c κs = let t = found (c .before .before .before .before .first-cursor .ensures) (c .before .before .before .advance .ensures .0) (c .before .before .before .advance .ensures .1) (c .before .x .given .1) in (start-sound (c .before .before .before .before .before .before .pre .led) (c .before .before .before .before .first-cursor .ensures), t .turned .whole)
 
--- src/step.rt:36:47
 size-requires : tie.Need-size-requires
 size-requires c κs = let t = found (c .before .before .before .before .before .before .first-cursor .ensures) (c .before .before .before .before .before .advance .ensures .0) (c .before .before .before .before .before .advance .ensures .1) (c .before .before .before .x .given .1) in (omega (arith, t .turned .onward .name), t .turned .onward .data-len)
 
--- src/step.rt:36:35
 after-requires : tie.Need-after-requires
 after-requires c κs = search needs
 
 enum-told : tie.Need-enum-told
 enum-told c = search needs
 
--- src/step.rt:37:13
 enum-told-2 : tie.Need-enum-told-2
 enum-told-2 c = search needs
 
--- src/step.rt:37:13
 returns-2 : tie.Need-returns-2
 returns-2 c = let t = found (c .before .before .before .before .before .before .before .before .before .before .first-cursor .ensures) (c .before .before .before .before .before .before .before .before .before .advance .ensures .0) (c .before .before .before .before .before .before .before .before .before .advance .ensures .1) (c .before .before .before .before .before .before .before .x .given .1) in plan-full (c .before .before .before .before .before .before .before .before .before .before .before .before .pre) t (c .before .before .before .before .before .before .before .before .before .before .first-cursor .ensures) (c .before .before .before .before .before .is-live .ensures) (c .before .before .before .before .if1 .taken) (c .before .before .before .size .ensures) (c .before .before .after .ensures) (c .enum-told2 .given .1)
 
--- src/step.rt:39:9
 returns-3 : tie.Need-returns-3
 returns-3 c = let t = found (c .before .before .before .before .before .before .before .before .before .before .first-cursor .ensures) (c .before .before .before .before .before .before .before .before .before .advance .ensures .0) (c .before .before .before .before .before .before .before .before .before .advance .ensures .1) (c .before .before .before .before .before .before .before .x .given .1) in plan-copy (c .before .before .before .before .before .before .before .before .before .before .before .before .pre) t (c .before .before .before .before .before .before .before .before .before .before .first-cursor .ensures) (c .before .before .before .before .before .is-live .ensures) (c .before .before .before .before .if1 .taken) (c .before .before .before .size .ensures) (c .before .before .after .ensures) (c .enum-told .given .1)
 
--- src/step.rt:41:30
 advance-requires-2 : tie.Need-advance-requires-2
 advance-requires-2 c κs = let t = found (c .before .before .before .before .before .before .first-cursor .ensures) (c .before .before .before .before .before .advance .ensures .0) (c .before .before .before .before .before .advance .ensures .1) (c .before .before .before .x .given .1) in t .turned .onward .sound
 
 enum-told-3 : tie.Need-enum-told-3
 enum-told-3 c = search needs
 
--- src/step.rt:42:9
 returns-4 : tie.Need-returns-4
 returns-4 c = let t = found (c .before .before .before .before .before .before .before .before .first-cursor .ensures) (c .before .before .before .before .before .before .before .advance .ensures .0) (c .before .before .before .before .before .before .before .advance .ensures .1) (c .before .before .before .before .before .x .given .1) in plan-last (c .before .before .before .before .before .before .before .before .before .before .pre) t (c .before .before .before .before .before .before .before .before .first-cursor .ensures) (c .before .before .before .is-live .ensures) (c .before .before .if1 .left) (c .before .advance2 .result) (c .before .advance2 .ensures .0) (other-step (c .before .advance2 .result) (c .match3 .keys2))
 
--- src/step.rt:27:1
 returns-5 : tie.Need-returns-5
 returns-5 c = let t = found (c .before .before .before .before .before .before .before .before .before .first-cursor .ensures) (c .before .before .before .before .before .before .before .before .advance .ensures .0) (c .before .before .before .before .before .before .before .before .advance .ensures .1) (c .before .before .before .before .before .before .x .given .1) in plan-leave (c .before .before .before .before .before .before .before .before .before .before .before .pre) t (c .before .before .before .before .before .before .before .before .before .first-cursor .ensures) (c .before .before .before .before .is-live .ensures) (c .before .before .before .if1 .left) (found refl (c .before .before .advance2 .ensures .0) (c .before .before .advance2 .ensures .1) (c .enum-told3 .given .1))
 

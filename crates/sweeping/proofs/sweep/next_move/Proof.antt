@@ -6,49 +6,34 @@ use Rattle.sweeping.proofs.Others.{not-stopped}
 use borrow.Author.Needs.{needs}
 use Rattle.sweeping.proofs.sweep.next_move.Statement.{statement}
 use Rattle.sweeping.proofs.sweep.next_move.Tie as tie
-use Rattle.sweeping.proofs.sweep.next_move.Reads as reads
-use Rattle.sweeping.proofs.sweep.next_move.Lts as lts
-use Rattle.recovery.proofs.survey.survey.Reads as survey-reads
-use Rattle.sweeping.proofs.step.move_head.Reads as move-head-reads
-use Rattle.sweeping.proofs.step.plan.Reads as plan-reads
 
--- src/sweep.rt:23:9
 plan-requires : tie.Need-plan-requires
 plan-requires c κs = search needs
 
--- src/sweep.rt:25:9
 enum-told : tie.Need-enum-told
 enum-told c = search needs
 
--- src/sweep.rt:25:9
 same-length : tie.Need-same-length
 same-length c = search needs
 
--- src/sweep.rt:25:9
 returns : tie.Need-returns
 returns c = (subst (Planned (c .before .before .before .before .before .args .image .now) (c .before .before .before .before .before .args .place)) (c .enum-told .given .1) (c .before .before .plan .ensures) .stop, refl)
 
--- src/sweep.rt:27:9
 move-head-requires : tie.Need-move-head-requires
 move-head-requires c κs = (c .before .before .before .before .before .pre .0, not-stopped (c .before .before .before .before .before .args .image .now) (c .before .before .before .before .before .args .place) (c .before .before .plan .result) (c .before .match .keys2) (c .before .before .plan .ensures), c .before .before .before .before .before .pre .1)
 
--- src/sweep.rt:30:9
 same-length-2 : tie.Need-same-length-2
 same-length-2 c = search needs
 
--- src/sweep.rt:30:9
 returns-2 : tie.Need-returns-2
 returns-2 c = record { on = going-on (c .before .before .before .before .before .before .before .before .before .before .before .args .image .now) (c .before .before .before .before .before .before .before .before .before .before .before .args .place) (c .before .before .before .before .before .before .before .before .plan .result) (not-stopped (c .before .before .before .before .before .before .before .before .before .before .before .args .image .now) (c .before .before .before .before .before .before .before .before .before .before .before .args .place) (c .before .before .before .before .before .before .before .before .plan .result) (c .before .before .before .before .before .before .before .match .keys2) (c .before .before .before .before .before .before .before .before .plan .ensures)); begun = c .before .before .before .before .before .move-head .ensures .begun; over = c .if1 .taken }
 
--- src/sweep.rt:32:9
 survey-requires : tie.Need-survey-requires
 survey-requires c κs = let l = c .before .before .before .before .before .before .move-head .ensures .left (c .before .if1 .left) .led in (omega (arith, l .inside), l .long, l .small)
 
--- src/sweep.rt:19:1
 same-length-3 : tie.Need-same-length-3
 same-length-3 c = search needs
 
--- src/sweep.rt:19:1
 returns-3 : tie.Need-returns-3
 returns-3 c = on-seen (going-on (c .before .before .before .before .before .before .before .before .before .before .before .before .before .before .args .image .now) (c .before .before .before .before .before .before .before .before .before .before .before .before .before .before .args .place) (c .before .before .before .before .before .before .before .before .before .before .before .plan .result) (not-stopped (c .before .before .before .before .before .before .before .before .before .before .before .before .before .before .args .image .now) (c .before .before .before .before .before .before .before .before .before .before .before .before .before .before .args .place) (c .before .before .before .before .before .before .before .before .before .before .before .plan .result) (c .before .before .before .before .before .before .before .before .before .before .match .keys2) (c .before .before .before .before .before .before .before .before .before .before .before .plan .ensures))) (c .before .before .before .before .before .before .before .before .move-head .ensures) (c .before .before .before .if1 .left) (c .before .survey .ensures)
 

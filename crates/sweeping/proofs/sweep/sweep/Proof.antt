@@ -6,10 +6,6 @@ use lib.ListN.{length}
 use Rattle.sweeping.specs.Sweeping.{Turned-as, Sweeping, sweeping-start, sweeping-end, sweeping-stuck, sweeping-cut, sweeping-more}
 use Rattle.sweeping.proofs.sweep.sweep.Statement.{statement}
 use Rattle.sweeping.proofs.sweep.sweep.Tie as tie
-use Rattle.sweeping.proofs.sweep.sweep.Reads as reads
-use Rattle.sweeping.proofs.sweep.sweep.Lts as lts
-use Rattle.sweeping.proofs.sweep.at_most_five.Reads as at-most-five-reads
-use Rattle.sweeping.proofs.sweep.next_move.Reads as next-move-reads
 
 abbrev Inv-loop : tie.InvT-loop
 Inv-loop image₀ records left₀ p₀ q₀ n₀ image left p q n = (length image ≡ length image₀) × (n + left ≤ 5) × Sweeping image₀ q₀ (min 5 records) (p₀ .head) image q left p n
@@ -17,67 +13,51 @@ Inv-loop image₀ records left₀ p₀ q₀ n₀ image left p q n = (length imag
 abbrev μ-loop : tie.MeasureT-loop
 μ-loop image₀ records left₀ p₀ q₀ n₀ image left p q n = left
 
--- src/sweep.rt:51:9
-at-most-five-requires : tie.Need-at-most-five-requires Inv-loop μ-loop
-at-most-five-requires c κs = search needs
+at-most-requires : tie.Need-at-most-requires Inv-loop μ-loop
+at-most-requires c κs = search needs
 
--- src/sweep.rt:55:5
 loop-holds : tie.Need-loop-holds Inv-loop μ-loop
-loop-holds c = (refl, omega (arith, c .at-most-five .ensures), rw (c .at-most-five .ensures) (sweeping-start (c .before .before .args .place) (c .before .before .pre .0) (omega arith) (c .before .before .pre .1)))
+loop-holds c = (refl, omega (arith, c .at-most .ensures), rw (c .at-most .ensures) (sweeping-start (c .before .before .args .place) (c .before .before .pre .0) (omega arith) (c .before .before .pre .1)))
 
--- src/sweep.rt:56:13
 next-move-requires : tie.Need-next-move-requires Inv-loop μ-loop
 next-move-requires c κs = let w = c .before .before .loop .inv .2 in (w .headed, omega (arith, w .few))
 
--- src/sweep.rt:59:17
 enum-told : tie.Need-enum-told Inv-loop μ-loop
 enum-told c = search needs
 
--- src/sweep.rt:59:17
 same-length : tie.Need-same-length Inv-loop μ-loop
 same-length c = search needs
 
--- src/sweep.rt:59:17
 returns : tie.Need-returns Inv-loop μ-loop
 returns c = sweeping-stuck (c .before .before .before .before .before .before .before .loop .inv .2) (subst (Turned-as (c .before .before .before .before .before .before .before .loop .image) (c .before .before .before .before .before .before .before .loop .p .head) (c .before .before .before .before .before .before .before .loop .q) (c .before .before .before .before .next-move .last .0)) (c .enum-told .given .1) (c .before .before .before .before .next-move .ensures))
 
--- src/sweep.rt:61:23
 enum-known-t : tie.Need-enum-known-t Inv-loop μ-loop
 enum-known-t c = search needs
 
--- src/sweep.rt:62:17
 same-length-2 : tie.Need-same-length-2 Inv-loop μ-loop
 same-length-2 c = search needs
 
--- src/sweep.rt:62:17
 returns-2 : tie.Need-returns-2 Inv-loop μ-loop
 returns-2 c = sweeping-cut (c .before .before .before .before .before .before .before .before .loop .inv .2) (c .before .before .before .before .before .before .before .before .loop .left - 1) (omega arith) (subst (Turned-as (c .before .before .before .before .before .before .before .before .loop .image) (c .before .before .before .before .before .before .before .before .loop .p .head) (c .before .before .before .before .before .before .before .before .loop .q) (c .before .before .before .before .before .next-move .last .0)) (c .before .t .given .1) (c .before .before .before .before .before .next-move .ensures))
 
--- src/sweep.rt:64:22
 enum-known-t-2 : tie.Need-enum-known-t-2 Inv-loop μ-loop
 enum-known-t-2 c = search needs
 
--- src/sweep.rt:69:9
 add-n : tie.Need-add-n Inv-loop μ-loop
 add-n c = search needs
 
--- src/sweep.rt:70:9
 sub-left : tie.Need-sub-left Inv-loop μ-loop
 sub-left c = search needs
 
--- src/sweep.rt:55:5
 loop-less : tie.Need-loop-less Inv-loop μ-loop
 loop-less c = search needs
 
--- src/sweep.rt:55:5
 loop-again : tie.Need-loop-again Inv-loop μ-loop
 loop-again c = (omega arith, omega arith, sweeping-more (c .before .before .before .before .before .before .before .before .loop .inv .2) (c .before .before .before .before .before .before .before .before .loop .left - 1) (omega arith) (subst (Turned-as (c .before .before .before .before .before .before .before .before .loop .image) (c .before .before .before .before .before .before .before .before .loop .p .head) (c .before .before .before .before .before .before .before .before .loop .q) (c .before .before .before .before .before .next-move .last .0)) (c .before .t2 .given .1) (c .before .before .before .before .before .next-move .ensures)))
 
--- src/sweep.rt:47:1
 same-length-3 : tie.Need-same-length-3 Inv-loop μ-loop
 same-length-3 c = search needs
 
--- src/sweep.rt:47:1
 returns-3 : tie.Need-returns-3 Inv-loop μ-loop
 returns-3 c = sweeping-end (c .before .loop .inv .2) (omega arith)
 
@@ -87,7 +67,7 @@ sweep-spec =
     (tie.spec
     Inv-loop
     μ-loop
-    at-most-five-requires
+    at-most-requires
     loop-holds
     next-move-requires
     enum-told
