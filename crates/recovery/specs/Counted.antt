@@ -1,11 +1,9 @@
 -- What mount answers once its repairs are done.
 use Prim.Native.Nat.{ℕ, _+_, _-_, _≤_, _<_}
 use native.Mathlib.Omega.{arith}
-use mathlib.Core.Path.{_≡_, refl, sym, ap, _∙_}
-use mathlib.Core.List.{List}
+use mathlib.Core.Path.{_≡_, sym, ap, _∙_}
 use lib.ListN.{length, take}
 use Rattle.spec.specs.Step.{Image, run}
-use Rattle.spec.specs.Record.{Entry}
 use Rattle.spec.specs.Chain.{Reading, reading-from}
 use Rattle.spec.specs.Files.{files}
 use Rattle.spec.specs.Move.{Work}
@@ -16,8 +14,7 @@ use Rattle.reading.specs.Rest.{rest}
 use Rattle.reading.specs.Read.{first-cursor, reading-of}
 use Rattle.recovery.specs.declared.Mended.{Mended}
 use Rattle.recovery.specs.Survey.{Seen}
-use Rattle.recovery.specs.Mending.{Mending, Done}
-use Rattle.recovery.specs.Mended.{Mends, place-head}
+use Rattle.recovery.specs.Mended.{Mends}
 
 -- the numbers of the reading that the repairs leave
 pub record Numbered (w : Work) (m : Meter) (r : Mended) : Type 0 where

@@ -1,15 +1,15 @@
 -- Repair 4: deleting a superseded record changes neither the chain nor which others are superseded.
-use Prim.Native.Nat.{ℕ, _+_, _-_, _≤_, _<_}
+use Prim.Native.Nat.{ℕ, _+_, _-_, _≤_}
 use native.Mathlib.Omega.{arith}
 use mathlib.Core.Path.{_≡_, refl, sym, ap, ap₂, subst, _∙_}
-use mathlib.Core.Logic.{_⊎_, inl, inr, ⊎-elim}
+use mathlib.Core.Logic.{inl, inr, ⊎-elim}
 use mathlib.Core.Bool.{Bool, true, false, _&&_, not}
 use mathlib.Core.List.{List, [], _∷_, _++_, map}
-use lib.ListN.{length, take, drop, set, getD, length-set}
+use lib.ListN.{length, set, getD}
 use lib.Seq.{take-nil, getD-drop, getD-set-same}
 use lib.Dec.{eqb}
 use borrow.Author.Tests.{eqb-true, ne-eqb}
-use Rattle.spec.specs.Step.{Image, Step, program, run}
+use Rattle.spec.specs.Step.{Image, program, run}
 use Rattle.spec.specs.Basics.{any, keep, empty}
 use Rattle.spec.specs.Bytes.{is-unfinished, is-erased, is-reserved}
 use Rattle.spec.specs.Record.{Entry, name-of, size-of}
@@ -17,17 +17,17 @@ use Rattle.spec.specs.Chain.{Reading, reading-from}
 use Rattle.spec.specs.Files.{named, named-as, has-named, superseded, same-name}
 use Rattle.spec.specs.Mount.{delete-step, drop-steps}
 use Rattle.flash.specs.declared.Meter.{Meter}
-use Rattle.flash.specs.Did.{Did, did-none}
+use Rattle.flash.specs.Did.{Did}
 use Rattle.reading.specs.declared.Cursor.{Cursor}
 use Rattle.reading.specs.declared.Spot.{Spot}
 use Rattle.reading.specs.declared.Step.{Step as Chain-step}
-use Rattle.reading.specs.Cursor.{Sound, look, goes-on, turn, unfinished-at, advance}
+use Rattle.reading.specs.Cursor.{Sound, turn, unfinished-at, advance}
 use Rattle.reading.specs.Rest.{Run, entry-of, followed, rest, rest-step}
-use Rattle.reading.specs.Fold.{Turned, Not-record, rest-done}
+use Rattle.reading.specs.Fold.{Not-record, rest-done}
 use Rattle.reading.specs.Bridge.{shown, reading-is}
 use Rattle.reading.specs.Read.{first-cursor}
 use Rattle.recovery.specs.Toward.{Toward, toward-more, toward-end, did-one}
-use Rattle.recovery.specs.Trail.{Stood, way, stood-fits, Tidy, Ahead, tidy-next, window-kept, look-dropped, here-again, there-again}
+use Rattle.recovery.specs.Trail.{way, stood-fits, Tidy, Ahead, tidy-next, window-kept, look-dropped, here-again, there-again}
 use Rattle.recovery.specs.Path.{Path, here, path-snoc, rest-path, path-tidy, path-kept, Passed, rest-kept}
 
 -- ---- the steps of one record, and of the others
@@ -66,7 +66,7 @@ pub record Still (t u : Image) (start : Cursor) (before : List Entry) (e : Spot)
   pub named : (x : Entry) → has-named 0xFC (rest u start .entries) x ≡ has-named 0xFC (rest t start .entries) x
   pub path : Path u start (before ++ (entry-of u e ∷ [])) behind
 
-rest-here : (image : Image) (c : Cursor) (e : Spot) (behind : Cursor) → advance image c ≡ Chain-step.Record e behind → rest image c .entries ≡ entry-of image e ∷ rest image behind .entries
+pub rest-here : (image : Image) (c : Cursor) (e : Spot) (behind : Cursor) → advance image c ≡ Chain-step.Record e behind → rest image c .entries ≡ entry-of image e ∷ rest image behind .entries
 rest-here image c e behind h = ap (λ (r : Run). r .entries) (rest-step image c ∙ ap (λ (x : Chain-step). followed image x (rest image)) h)
 
 module _ (t : Image) (start c : Cursor) (before : List Entry) (e : Spot) (behind : Cursor)

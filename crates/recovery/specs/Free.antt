@@ -1,10 +1,10 @@
 -- Repair 1: the free run's sectors, and the head.
-use Prim.Native.Nat.{ℕ, zero, suc, _+_, _≤_, _<_}
+use Prim.Native.Nat.{ℕ, zero, suc, _+_, _≤_}
 use native.Mathlib.Omega.{arith}
 use mathlib.Core.Path.{_≡_, refl, sym, ap, ap₂, _∙_}
 use mathlib.Core.Bool.{Bool, true, false}
 use mathlib.Core.List.{List, [], _∷_, _++_, map}
-use lib.ListN.{length, drop}
+use lib.ListN.{drop}
 use lib.Dec.{leb}
 use borrow.Author.Tests.{eq-eqb, ne-eqb}
 use Rattle.spec.specs.declared.Place.{Place}
@@ -12,15 +12,15 @@ use Rattle.spec.specs.Step.{Image, Step, program, erase}
 use Rattle.spec.specs.Basics.{keep}
 use Rattle.spec.specs.Bytes.{is-clean}
 use Rattle.spec.specs.Geometry.{floor, ceiling, sectors-by, sectors}
-use Rattle.spec.specs.Chain.{Reading, reading-from}
+use Rattle.spec.specs.Chain.{reading-from}
 use Rattle.spec.specs.Reading.{head-clean}
 use Rattle.spec.specs.Mount.{free-sectors, dirty, erase-steps}
 use Rattle.flash.specs.declared.Meter.{Meter}
-use Rattle.flash.specs.Did.{Did, did-both, did-none}
+use Rattle.flash.specs.Did.{Did, did-both}
 use Rattle.reading.specs.declared.Survey.{Survey}
 use Rattle.reading.specs.Rest.{entry-of, rest}
 use Rattle.reading.specs.RuleLaws.{head-none, head-low}
-use Rattle.reading.specs.Read.{first-cursor, reading-of}
+use Rattle.reading.specs.Read.{first-cursor}
 use Rattle.recovery.specs.Toward.{later-on}
 use Rattle.recovery.specs.Sectors.{dirty-same}
 use Rattle.recovery.specs.Survey.{Seen}
@@ -41,9 +41,6 @@ module _ (s t : Image) (low : ℕ) (same : drop low t ≡ drop low s) where
   unfolding sectors-by
   judged-by zero a b h = refl
   judged-by (suc k) a b h = go (leb (a + 4096) b) refl (judged-by k (a + 4096) b (omega arith)) where
-    pick : Bool → List ℕ → List ℕ
-    pick c l = elim c [ true ↦ a ∷ l | false ↦ l ]
-
     go : (c : Bool) → leb (a + 4096) b ≡ c → keep (dirty t) (sectors-by k (a + 4096) b) ≡ keep (dirty s) (sectors-by k (a + 4096) b)
         → keep (dirty t) (sectors-by (suc k) a b) ≡ keep (dirty s) (sectors-by (suc k) a b)
     go true e ih = rw (sectors-by, e) (ap₂ (λ (c : Bool) (l : List ℕ). elim c [ true ↦ a ∷ l | false ↦ l ]) (dirty-same s t a (later-on low a s t h same)) ih)

@@ -1,34 +1,30 @@
 -- The last thing of the chain.
 use Prim.Native.Nat.{ℕ, _+_}
 use native.Mathlib.Omega.{arith}
-use native.Mathlib.Nat.{zero-add}
-use mathlib.Core.Path.{_≡_, refl, sym, ap, ap₂, subst, _∙_}
+use mathlib.Core.Path.{_≡_, refl, sym, ap, _∙_}
 use mathlib.Core.Bool.{Bool, true, false}
 use mathlib.Core.List.{List, [], _∷_, _++_}
-use lib.ListN.{length, getD, drop}
+use lib.ListN.{length, getD}
 use lib.Seq.{getD-drop}
-use lib.Dec.{eqb}
 use borrow.Author.Tests.{eq-eqb, ne-eqb}
-use Rattle.spec.specs.declared.Ending.{Ending}
 use Rattle.spec.specs.Step.{Image, Step, program, moved}
 use Rattle.spec.specs.Basics.{Each}
 use Rattle.spec.specs.Bytes.{is-erased, is-reserved}
-use Rattle.spec.specs.Record.{Entry, name-of}
-use Rattle.spec.specs.Chain.{Reading, reading-from}
-use Rattle.spec.specs.Write.{status-step}
+use Rattle.spec.specs.Record.{Entry}
+use Rattle.spec.specs.Chain.{reading-from}
 use Rattle.spec.specs.Mount.{torn-steps, missing-steps, reserved-steps, void-steps, last-steps, torn-wrap-steps}
 use Rattle.flash.specs.declared.Meter.{Meter}
-use Rattle.flash.specs.Did.{Did, did-both, did-none}
+use Rattle.flash.specs.Did.{Did, did-both}
 use Rattle.reading.specs.declared.Cursor.{Cursor}
 use Rattle.reading.specs.declared.Spot.{Spot}
 use Rattle.reading.specs.declared.Tally.{Tally}
 use Rattle.reading.specs.declared.Survey.{Survey}
 use Rattle.reading.specs.Rest.{entry-of, rest}
-use Rattle.reading.specs.Fold.{Whole, spot-of, name-length-is}
+use Rattle.reading.specs.Fold.{Whole, name-length-is}
 use Rattle.reading.specs.Faithful.{Stands, faithful}
 use Rattle.reading.specs.Tally.{none-yet, noted, tally}
 use Rattle.reading.specs.RuleLaws.{count-is}
-use Rattle.reading.specs.Read.{Tallied, first-cursor, reading-of}
+use Rattle.reading.specs.Read.{Tallied, first-cursor}
 use Rattle.recovery.specs.Survey.{Seen}
 use Rattle.recovery.specs.Repairs.{steps-3}
 

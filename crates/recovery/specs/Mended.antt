@@ -1,14 +1,12 @@
 -- The four repairs in their order.
-use Prim.Native.Nat.{ℕ, _+_, _≤_, _<_}
-use native.Mathlib.Omega.{arith}
+use Prim.Native.Nat.{ℕ, _≤_, _<_}
 use mathlib.Core.Path.{_≡_, refl, sym, ap, ap₂, _∙_}
 use mathlib.Core.Logic.{_⊎_, inl, inr}
 use mathlib.Core.Bool.{Bool, true, false}
 use mathlib.Core.List.{List, [], _∷_, _++_, map}
 use lib.ListN.{length}
-use Rattle.spec.specs.Step.{Image, Step, program, erase}
+use Rattle.spec.specs.Step.{Image, program, erase}
 use Rattle.spec.specs.Basics.{empty}
-use Rattle.spec.specs.Geometry.{floor}
 use Rattle.spec.specs.Bytes.{is-start, is-clean}
 use Rattle.spec.specs.Record.{Entry, content-of, data-at}
 use Rattle.spec.specs.Chain.{Reading, reading-from}
@@ -22,7 +20,7 @@ use Rattle.reading.specs.Bridge.{shown, reading-is}
 use Rattle.reading.specs.Read.{first-cursor}
 use Rattle.recovery.specs.Repairs.{steps-1, pair-steps, pair-head, steps-2, head-2, steps-3, repair-1-is, repair-2-is, repair-3-is, repair-4-is}
 use Rattle.recovery.specs.Pair.{Handed}
-use Rattle.recovery.specs.Mending.{Done, Mending, mending-start, mending-more, mending-stop}
+use Rattle.recovery.specs.Mending.{Mending, mending-more, mending-stop}
 
 -- ---- the place of a reading
 

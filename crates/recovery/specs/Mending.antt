@@ -3,14 +3,14 @@ use Prim.Native.Nat.{ℕ, _+_, _-_, _≤_, _<_}
 use native.Mathlib.Omega.{arith}
 use native.Mathlib.Nat.{add-zero}
 use mathlib.Core.Path.{_≡_, refl, sym, ap, ap₂, _∙_}
-use mathlib.Core.Logic.{_⊎_, inl, inr, ⊎-elim}
-use mathlib.Core.Bool.{Bool, true, false}
+use mathlib.Core.Logic.{_⊎_, ⊎-elim}
+use mathlib.Core.Bool.{true, false}
 use mathlib.Core.List.{List, [], _∷_, _++_, append-nil}
 use lib.ListN.{length, take, length-append}
 use lib.Seq.{take-nil, take-append-le}
 use Rattle.spec.specs.Step.{Image, Step, run}
 use Rattle.spec.specs.Basics.{empty}
-use Rattle.spec.specs.Chain.{Reading, reading-from}
+use Rattle.spec.specs.Chain.{reading-from}
 use Rattle.spec.specs.Move.{Work, begin, after}
 use Rattle.flash.specs.declared.Meter.{Meter}
 use Rattle.flash.specs.Did.{Did, did-both, did-all}

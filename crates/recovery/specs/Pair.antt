@@ -3,7 +3,7 @@ use Prim.Native.Nat.{ℕ, _+_, _≤_, _<_}
 use native.Mathlib.Omega.{arith}
 use mathlib.Core.Path.{_≡_, refl, sym, ap, ap₂, _∙_}
 use mathlib.Core.Bool.{Bool, true, false}
-use mathlib.Core.List.{List, [], _∷_, _++_}
+use mathlib.Core.List.{List, [], _∷_}
 use lib.ListN.{length}
 use borrow.Author.Tests.{eq-eqb, ne-eqb}
 use Rattle.spec.specs.Step.{Image, Step, program}
@@ -15,7 +15,6 @@ use Rattle.spec.specs.Move.{close-steps}
 use Rattle.flash.specs.declared.Meter.{Meter}
 use Rattle.flash.specs.Did.{Did, did-none}
 use Rattle.reading.specs.declared.Tally.{Tally}
-use Rattle.reading.specs.declared.Spot.{Spot}
 use Rattle.reading.specs.declared.Survey.{Survey}
 use Rattle.reading.specs.Rest.{entry-of, rest}
 use Rattle.reading.specs.Faithful.{Stands, faithful}

@@ -3,19 +3,19 @@ use Prim.Native.Nat.{ℕ, zero, suc, _+_, _-_, _≤_, _<_}
 use native.Mathlib.Omega.{arith}
 use native.Mathlib.Nat.{not-suc-le-zero}
 use mathlib.Core.Path.{_≡_, refl, sym, ap, ap₂, _∙_}
-use mathlib.Core.Logic.{_⊎_, inl, inr, ⊎-elim}
+use mathlib.Core.Logic.{inl, inr, ⊎-elim}
 use mathlib.Core.Bool.{Bool, true, false}
 use mathlib.Core.List.{List, [], _∷_, _++_}
-use lib.ListN.{length, set}
+use lib.ListN.{set}
 use Rattle.spec.specs.declared.Next.{Next}
 use Rattle.spec.specs.Step.{Image}
 use Rattle.spec.specs.Record.{size-of, Entry}
 use Rattle.reading.specs.declared.Cursor.{Cursor}
 use Rattle.reading.specs.declared.Spot.{Spot}
 use Rattle.reading.specs.declared.Step.{Step}
-use Rattle.reading.specs.Cursor.{look, goes-on, turn, past, unfinished-at, settle, advance, left}
+use Rattle.reading.specs.Cursor.{look, goes-on, turn, past, settle, advance, left}
 use Rattle.reading.specs.CursorLaws.{advance-on, advance-here}
-use Rattle.reading.specs.Rest.{Run, Less, advance-less, Fits, look-inside, entry-of, ahead, followed, rest, rest-step}
+use Rattle.reading.specs.Rest.{Run, Less, advance-less, look-inside, entry-of, ahead, followed, rest, rest-step}
 use Rattle.recovery.specs.Trail.{Stood, way, stood-fits, Tidy, Ahead, Off, tidy-next, ahead-back, window-kept, entry-kept, unfinished-kept, look-kept, here-again, there-again}
 
 -- ---- the records from c up to d

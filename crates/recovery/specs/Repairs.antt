@@ -9,7 +9,7 @@ use Rattle.spec.specs.Record.{Entry}
 use Rattle.spec.specs.Chain.{Reading}
 use Rattle.spec.specs.Reading.{head-clean}
 use Rattle.spec.specs.Move.{Work, after, close-steps}
-use Rattle.spec.specs.Mount.{erase-steps, repair-1, repair-2, repair-2-on, last-steps, torn-wrap-steps, repair-3, drop-steps, repair-4}
+use Rattle.spec.specs.Mount.{erase-steps, repair-1, repair-2, last-steps, torn-wrap-steps, repair-3, drop-steps, repair-4}
 
 unfoldable pub steps-1 : Image → Reading → List Step
 steps-1 image r = elim (head-clean (r .entries)) [ true ↦ erase-steps image (r .place) ++ (program (r .place .head) 0x00 ∷ []) | false ↦ [] ]

@@ -2,14 +2,14 @@
 use Prim.Native.Nat.{ℕ, zero, suc, _+_, _-_, _≤_, _<_}
 use native.Mathlib.Omega.{arith}
 use mathlib.Core.Path.{_≡_, refl, sym, ap, ap₂, _∙_}
-use mathlib.Core.Logic.{_⊎_, inl, inr, ⊎-elim}
+use mathlib.Core.Logic.{⊎-elim}
 use mathlib.Core.Bool.{Bool, true, false, not}
 use mathlib.Core.List.{List, [], _∷_, _++_, map, append-assoc}
 use lib.ListN.{length, take, drop, length-append, length-replicate}
 use lib.Seq.{drop-drop, drop-append-add, length-take-le}
 use lib.Dec.{leb}
 use borrow.Author.Tests.{le-leb, lt-leb}
-use Rattle.spec.specs.Step.{Image, Step, erase, sector, apply}
+use Rattle.spec.specs.Step.{Image, erase, sector, apply}
 use Rattle.spec.specs.Basics.{blank, keep}
 use Rattle.spec.specs.Geometry.{sectors-by, sectors}
 use Rattle.spec.specs.Mount.{dirty}

@@ -3,12 +3,10 @@ use Prim.Native.Nat.{ℕ, _+_, _≤_, _^_}
 use native.Mathlib.Omega.{arith}
 use mathlib.Core.Path.{_≡_, refl}
 use mathlib.Core.Bool.{Bool, true, false}
-use mathlib.Core.List.{List}
 use lib.ListN.{length}
 use Rattle.spec.specs.declared.Ending.{Ending}
-use Rattle.spec.specs.declared.Place.{Place}
 use Rattle.spec.specs.Step.{Image}
-use Rattle.spec.specs.Chain.{Reading, reading-from}
+use Rattle.spec.specs.Chain.{reading-from}
 use Rattle.reading.specs.declared.Cursor.{Cursor}
 use Rattle.reading.specs.declared.Step.{Step}
 use Rattle.reading.specs.declared.Tally.{Tally}

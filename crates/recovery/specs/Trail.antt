@@ -1,25 +1,25 @@
 -- The chain after one byte was written: what is read before that byte stays as it was.
-use Prim.Native.Nat.{ℕ, zero, suc, _+_, _-_, _≤_, _<_}
+use Prim.Native.Nat.{ℕ, _+_, _-_, _≤_, _<_}
 use native.Mathlib.Omega.{arith}
 use mathlib.Core.Path.{_≡_, refl, sym, ap, ap₂, subst, _∙_}
 use mathlib.Core.Logic.{_⊎_, inl, inr, ⊎-elim}
 use mathlib.Core.Bool.{Bool, true, false}
-use mathlib.Core.List.{List, [], _∷_, _++_}
+use mathlib.Core.List.{List}
 use lib.ListN.{length, take, drop, set, getD, length-set, length-drop, length-take}
 use lib.Seq.{getD-take, getD-drop, getD-set-other, getD-set-same, take-set-le, drop-set-lt, drop-set-add}
 use lib.Dec.{ltb}
 use Rattle.spec.specs.declared.Next.{Next}
 use Rattle.spec.specs.Step.{Image}
 use Rattle.spec.specs.Bytes.{is-unfinished}
-use Rattle.spec.specs.Record.{size-of, rec-of, Rec, Entry, low-of, high-of, status-of, spare-of}
-use Rattle.spec.specs.Next.{next, kind}
+use Rattle.spec.specs.Record.{size-of, rec-of, Rec, low-of, high-of, status-of, spare-of}
+use Rattle.spec.specs.Next.{next}
 use Rattle.spec.specs.Chain.{allowed}
 use Rattle.reading.specs.declared.Cursor.{Cursor}
 use Rattle.reading.specs.declared.Spot.{Spot}
 use Rattle.reading.specs.declared.Step.{Step}
 use Rattle.reading.specs.Cursor.{window, look, goes-on, turn, past, torn-end, unfinished-at, settle, advance}
 use Rattle.reading.specs.CursorLaws.{part-window, advance-on, advance-here}
-use Rattle.reading.specs.Rest.{Fits, look-inside, entry-of, followed, rest, rest-step}
+use Rattle.reading.specs.Rest.{Fits, look-inside, entry-of}
 use Rattle.reading.specs.Bridge.{rec-part}
 use Rattle.recovery.specs.Kept.{next-kept, kind-dropped}
 

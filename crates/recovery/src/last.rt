@@ -7,7 +7,6 @@ use reading::Tally;
 use spec::Ending;
 use spec::HIGH;
 use spec::Status;
-ghost use mathlib.Core.Path.{_≡_};
 ghost use Prim.Native.Nat.{_+_, _≤_, _<_, _^_};
 ghost use lib.ListN.{length};
 ghost use Rattle.spec.specs.declared.Ending.{Ending};

@@ -16,7 +16,7 @@ use reading::files::count_files;
 use reading::image::first_cursor;
 use superseded::drop_superseded;
 use survey::survey;
-ghost use Prim.Native.Nat.{_+_, _*_, _≤_, _<_, _^_};
+ghost use Prim.Native.Nat.{_≤_, _<_, _^_};
 ghost use lib.ListN.{length};
 ghost use Rattle.recovery.specs.Mended.{Mends};
 ghost use Rattle.recovery.specs.Counted.{Counted};

@@ -19,7 +19,6 @@ ghost use Rattle.flash.specs.Did.{Did};
 ghost use Rattle.reading.specs.Cursor.{Sound};
 ghost use Rattle.reading.specs.Rest.{entry-of, rest};
 ghost use Rattle.reading.specs.Fold.{Whole};
-ghost use Rattle.reading.specs.Read.{first-cursor};
 
 // The record at e, if it is such a one of the chain from start on.
 fn drop_one(image: &mut [u8], start: Cursor, e: Spot, m: Meter) -> Meter

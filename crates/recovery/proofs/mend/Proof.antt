@@ -1,49 +1,36 @@
+-- The numbers are those of the reading that the repairs leave.
 use mathlib.Core.Path.{ap, _∙_}
 use native.Mathlib.Omega.{arith}
 use lib.ListN.{length}
 use Rattle.spec.specs.Files.{files}
 use Rattle.reading.specs.Rest.{rest}
 use Rattle.reading.specs.ReadLaws.{first-sound}
-use Rattle.recovery.specs.Counted.{counted-cut, counted-done}
+use Rattle.recovery.specs.Counted.{counted-done}
 use borrow.Author.Needs.{needs}
 use Rattle.recovery.proofs.mend.Statement.{statement}
 use Rattle.recovery.proofs.mend.Tie as tie
-use Rattle.recovery.proofs.mend.Reads as reads
-use Rattle.recovery.proofs.mend.Lts as lts
-use Rattle.reading.proofs.files.count_files.Reads as count-files-reads
-use Rattle.reading.proofs.image.first_cursor.Reads as first-cursor-reads
-use Rattle.recovery.proofs.repair.Reads as repair-reads
-use Rattle.recovery.proofs.survey.survey.Reads as survey-reads
 
--- src/lib.rt:73:9
 repair-requires : tie.Need-repair-requires
 repair-requires c κs = search needs
 
--- src/lib.rt:76:9
 same-length : tie.Need-same-length
 same-length c = search needs
 
--- src/lib.rt:76:9
 returns : tie.Need-returns
 returns c = search needs
 
--- src/lib.rt:83:9
 survey-requires : tie.Need-survey-requires
 survey-requires c κs = search needs
 
--- src/lib.rt:88:35
 first-cursor-requires : tie.Need-first-cursor-requires
 first-cursor-requires c κs = search needs
 
--- src/lib.rt:88:16
 count-files-requires : tie.Need-count-files-requires
 count-files-requires c κs = rw (c .first-cursor .ensures) (first-sound (c .before .before .before .before .before .before .before .before .before .before .repair .last .0) (c .before .before .before .before .before .before .before .before .before .before .repair .result .head) (omega (arith, c .before .before .before .before .before .before .before .before .before .before .repair .ensures .1)) (omega (arith, c .before .before .before .before .before .before .before .before .before .before .before .before .before .pre .2)))
 
--- src/lib.rt:69:1
 same-length-2 : tie.Need-same-length-2
 same-length-2 c = search needs
 
--- src/lib.rt:69:1
 returns-2 : tie.Need-returns-2
 returns-2 c = counted-done (c .before .before .before .before .before .before .before .before .before .before .before .repair .ensures .0) (c .before .before .before .before .survey .result) (c .count-files .result) (c .before .before .before .before .before .before .if1 .left) (c .before .before .before .before .survey .ensures) (c .count-files .ensures ∙ ap (λ k. length (files (rest (c .before .before .before .before .before .before .before .before .before .before .before .repair .last .0) k .entries))) (c .before .first-cursor .ensures))
 

@@ -1,51 +1,37 @@
+-- The pair is the definition's: it gets its step, or none.
 use mathlib.Core.Path.{sym, _∙_}
-use mathlib.Core.List.{List}
 use native.Mathlib.Omega.{arith}
-use Rattle.spec.specs.Move.{mark-steps}
 use Rattle.record.specs.Suffix.{flag}
-use Rattle.flash.specs.Did.{Did, did-none}
+use Rattle.flash.specs.Did.{did-none}
 use Rattle.recovery.specs.Clean.{mark-at, marked, unmarked}
 use borrow.Author.Needs.{needs}
 use Rattle.recovery.proofs.close.clean_pair.Statement.{statement}
 use Rattle.recovery.proofs.close.clean_pair.Tie as tie
-use Rattle.recovery.proofs.close.clean_pair.Reads as reads
-use Rattle.recovery.proofs.close.clean_pair.Lts as lts
-use Rattle.flash.proofs.program.Reads as program-reads
-use Rattle.recovery.proofs.close.is_mark.Reads as is-mark-reads
 
--- src/close.rt:36:16
 slice-read-is-mark : tie.Need-slice-read-is-mark
 slice-read-is-mark c = search needs
 
--- src/close.rt:36:33
 add-is-mark : tie.Need-add-is-mark
 add-is-mark c = search needs
 
--- src/close.rt:36:27
 slice-read-is-mark-2 : tie.Need-slice-read-is-mark-2
 slice-read-is-mark-2 c = search needs
 
--- src/close.rt:36:8
 is-mark-requires : tie.Need-is-mark-requires
 is-mark-requires c κs = search needs
 
--- src/close.rt:37:31
 add-program : tie.Need-add-program
 add-program c = search needs
 
--- src/close.rt:37:9
 program-requires : tie.Need-program-requires
 program-requires c κs = search needs
 
--- src/close.rt:37:9
 same-length : tie.Need-same-length
 same-length c = search needs
 
--- src/close.rt:37:9
 returns : tie.Need-returns
 returns c = let a = c .before .before .before .before .before .before .before .before .before .args in (rw (marked (a .image .now) (a .at) (sym (mark-at (a .image .now) (a .at)) ∙ flag (c .before .before .before .before .before .is-mark .ensures) (c .before .before .before .before .if1 .taken))) (c .before .before .program .ensures), omega arith)
 
--- src/close.rt:32:1
 returns-2 : tie.Need-returns-2
 returns-2 c = let a = c .before .before .before .before .before .args in (rw (unmarked (a .image .now) (a .at) (sym (mark-at (a .image .now) (a .at)) ∙ flag (c .before .is-mark .ensures) (c .if1 .left))) (did-none (a .image .now) (a .m)), omega arith)
 

@@ -1,43 +1,31 @@
+-- The data's phase, and the phases behind it.
 use native.Mathlib.Omega.{arith}
 use Rattle.recovery.specs.Close.{closed}
 use borrow.Author.Needs.{needs}
 use Rattle.recovery.proofs.close.close.Statement.{statement}
 use Rattle.recovery.proofs.close.close.Tie as tie
-use Rattle.recovery.proofs.close.close.Reads as reads
-use Rattle.recovery.proofs.close.close.Lts as lts
-use Rattle.record.proofs.up_8.Reads as up-8-reads
-use Rattle.recovery.proofs.close.clean_data.Reads as clean-data-reads
-use Rattle.recovery.proofs.close.vacate.Reads as vacate-reads
 
--- src/close.rt:95:31
 add-clean-data : tie.Need-add-clean-data
 add-clean-data c = search needs
 
--- src/close.rt:95:47
 add-up-8 : tie.Need-add-up-8
 add-up-8 c = search needs
 
--- src/close.rt:95:42
 up-8-requires : tie.Need-up-8-requires
 up-8-requires c κs = search needs
 
--- src/close.rt:95:31
 add-clean-data-2 : tie.Need-add-clean-data-2
 add-clean-data-2 c = search needs
 
--- src/close.rt:95:9
 clean-data-requires : tie.Need-clean-data-requires
 clean-data-requires c κs = search needs
 
--- src/close.rt:96:5
 vacate-requires : tie.Need-vacate-requires
 vacate-requires c κs = search needs
 
--- src/close.rt:91:1
 same-length : tie.Need-same-length
 same-length c = search needs
 
--- src/close.rt:91:1
 returns : tie.Need-returns
 returns c = let a = c .before .before .before .before .before .before .before .before .before .before .before .before .args in (closed (a .image .now) (a .x) (a .y) (c .before .before .before .before .before .before .before .before .before .before .before .before .pre .0) (c .before .before .before .before .before .before .before .up-8 .result) (c .before .before .before .before .before .before .before .up-8 .ensures) (omega arith) (c .before .before .before .before .before .before .clean-data .ensures .0) (c .before .before .vacate .ensures .0), omega arith)
 

@@ -1,26 +1,21 @@
+-- Byte against byte, as the code asks.
 use borrow.Author.Tests.{eq-eqb, ne-eqb}
 use Rattle.spec.specs.Bytes.{is-record, is-start, is-clean, is-high}
 use Rattle.recovery.proofs.close.is_mark.Statement.{statement}
 use Rattle.recovery.proofs.close.is_mark.Tie as tie
-use Rattle.recovery.proofs.close.is_mark.Reads as reads
-use Rattle.recovery.proofs.close.is_mark.Lts as lts
 
--- src/close.rt:20:9
 returns : tie.Need-returns
 unfolding is-record is-start is-clean is-high
 returns c = search (eq-eqb, ne-eqb)
 
--- src/close.rt:23:9
 returns-2 : tie.Need-returns-2
 unfolding is-record is-start is-clean is-high
 returns-2 c = search (eq-eqb, ne-eqb)
 
--- src/close.rt:26:9
 returns-3 : tie.Need-returns-3
 unfolding is-record is-start is-clean is-high
 returns-3 c = search (eq-eqb, ne-eqb)
 
--- src/close.rt:16:1
 returns-4 : tie.Need-returns-4
 unfolding is-record is-start is-clean is-high
 returns-4 c = search (eq-eqb, ne-eqb)

@@ -1,20 +1,16 @@
+-- Y at 0, or elsewhere.
 use native.Mathlib.Omega.{arith}
 use Rattle.recovery.specs.Close.{end-at-zero, end-at-floor}
 use borrow.Author.Needs.{needs}
 use Rattle.recovery.proofs.close.vacated_end.Statement.{statement}
 use Rattle.recovery.proofs.close.vacated_end.Tie as tie
-use Rattle.recovery.proofs.close.vacated_end.Reads as reads
-use Rattle.recovery.proofs.close.vacated_end.Lts as lts
 
--- src/close.rt:70:9
 returns : tie.Need-returns
 returns c = (end-at-zero (c .before .args .length) (c .before .args .y) (c .if1 .taken), omega arith)
 
--- src/close.rt:72:5
 mul-result : tie.Need-mul-result
 mul-result c = search needs
 
--- src/close.rt:65:1
 returns-2 : tie.Need-returns-2
 returns-2 c = (end-at-floor (c .before .args .length) (c .before .args .y) (c .if1 .left), omega arith)
 

@@ -1,3 +1,4 @@
+-- By the first record: none, a CLEAN one, another.
 use mathlib.Core.Path.{sym, _∙_}
 use native.Mathlib.Omega.{arith}
 use Rattle.flash.specs.Did.{did-none}
@@ -5,50 +6,34 @@ use Rattle.recovery.specs.Free.{head-missing, head-other, head-cleaned}
 use borrow.Author.Needs.{needs}
 use Rattle.recovery.proofs.free.erase_free.Statement.{statement}
 use Rattle.recovery.proofs.free.erase_free.Tie as tie
-use Rattle.recovery.proofs.free.erase_free.Reads as reads
-use Rattle.recovery.proofs.free.erase_free.Lts as lts
-use Rattle.flash.proofs.program.Reads as program-reads
-use Rattle.recovery.proofs.free.erase_run.Reads as erase-run-reads
-use Rattle.recovery.proofs.survey.low_of.Reads as low-of-reads
-use Rattle.recovery.proofs.survey.survey.Reads as survey-reads
 
--- src/free.rt:49:9
 survey-requires : tie.Need-survey-requires
 survey-requires c κs = search needs
 
--- src/free.rt:53:9
 same-length : tie.Need-same-length
 same-length c = search needs
 
--- src/free.rt:53:9
 returns : tie.Need-returns
 returns c = let a = c .before .before .before .before .before .before .before .args in (rw (head-missing (c .before .before .before .before .survey .ensures) (c .if1 .taken)) (did-none (a .image .now) (a .m)), omega arith)
 
--- src/free.rt:56:8
 low-of-requires : tie.Need-low-of-requires
 low-of-requires c κs = search needs
 
--- src/free.rt:57:13
 erase-run-requires : tie.Need-erase-run-requires
 erase-run-requires c κs = (c .before .before .before .before .before .before .before .before .before .survey .ensures .surveyed .place, (λ z. rw (c .before .before .before .before .before .before .before .before .before .survey .ensures .head) (c .before .before .before .before .before .before .before .before .before .survey .ensures .up z)), omega arith)
 
--- src/free.rt:58:9
 program-requires : tie.Need-program-requires
 program-requires c κs = search needs
 
--- src/free.rt:58:9
 same-length-2 : tie.Need-same-length-2
 same-length-2 c = search needs
 
--- src/free.rt:58:9
 returns-2 : tie.Need-returns-2
 returns-2 c = (head-cleaned (c .before .before .before .before .before .before .before .before .before .before .before .before .before .before .before .before .survey .ensures) (c .before .before .before .before .before .before .before .before .before .before .before .before .if1 .left) (sym (c .before .before .before .before .before .before .before .before .before .low-of .ensures) ∙ c .before .before .before .before .before .before .before .before .if2 .taken) (c .before .before .before .before .before .before .erase-run .ensures .0) (c .before .before .program .ensures), omega arith)
 
--- src/free.rt:45:1
 same-length-3 : tie.Need-same-length-3
 same-length-3 c = search needs
 
--- src/free.rt:45:1
 returns-3 : tie.Need-returns-3
 returns-3 c = let a = c .before .before .before .before .before .before .before .before .before .before .before .args in (rw (head-other (c .before .before .before .before .before .before .before .before .survey .ensures) (c .before .before .before .before .if1 .left) (λ q. c .if2 .left (c .before .low-of .ensures ∙ q))) (did-none (a .image .now) (a .m)), omega arith)
 

@@ -1,83 +1,59 @@
+-- By the second record: none, a CLEAN one, a START, another.
 use mathlib.Core.Path.{sym, _∙_}
 use native.Mathlib.Omega.{arith}
-use Rattle.flash.specs.Did.{did-none}
 use Rattle.recovery.specs.Pair.{handed-few, handed-clean, handed-start, handed-plain}
 use borrow.Author.Needs.{needs}
 use Rattle.recovery.proofs.hand.hand_over.Statement.{statement}
 use Rattle.recovery.proofs.hand.hand_over.Tie as tie
-use Rattle.recovery.proofs.hand.hand_over.Reads as reads
-use Rattle.recovery.proofs.hand.hand_over.Lts as lts
-use Rattle.flash.proofs.program.Reads as program-reads
-use Rattle.recovery.proofs.close.close.Reads as close-reads
-use Rattle.recovery.proofs.hand.at_head.Reads as at-head-reads
-use Rattle.recovery.proofs.survey.low_of.Reads as low-of-reads
-use Rattle.recovery.proofs.survey.survey.Reads as survey-reads
 
--- src/hand.rt:28:9
 survey-requires : tie.Need-survey-requires
 survey-requires c κs = search needs
 
--- src/hand.rt:31:9
 at-head-requires : tie.Need-at-head-requires
 at-head-requires c κs = search needs
 
--- src/hand.rt:31:9
 same-length : tie.Need-same-length
 same-length c = search needs
 
--- src/hand.rt:31:9
 returns : tie.Need-returns
 returns c = rw (c .at-head .ensures) (handed-few (c .before .before .before .before .survey .ensures) (c .before .if1 .taken), omega arith, omega arith)
 
--- src/hand.rt:35:9
 low-of-requires : tie.Need-low-of-requires
 low-of-requires c κs = search needs
 
--- src/hand.rt:37:30
 close-requires : tie.Need-close-requires
 close-requires c κs = search needs
 
--- src/hand.rt:37:9
 at-head-requires-2 : tie.Need-at-head-requires-2
 at-head-requires-2 c κs = search needs
 
--- src/hand.rt:37:9
 same-length-2 : tie.Need-same-length-2
 same-length-2 c = search needs
 
--- src/hand.rt:37:9
 returns-2 : tie.Need-returns-2
 returns-2 c = let w = c .before .before .before .before .before .before .before .before .before .before .before .before .before .survey .ensures in rw (c .at-head2 .ensures) (handed-clean w (c .before .before .before .before .before .before .before .before .before .before .if1 .left) (sym (c .before .before .before .before .before .before .low-of .ensures) ∙ c .before .before .before .before .before .if2 .taken) (c .before .before .before .close .ensures .0), omega arith, omega (arith, w .surveyed .tallied .spots .second .fits))
 
--- src/hand.rt:40:45
 add-program : tie.Need-add-program
 add-program c = search needs
 
--- src/hand.rt:40:30
 program-requires : tie.Need-program-requires
 program-requires c κs = search needs
 
--- src/hand.rt:40:9
 at-head-requires-3 : tie.Need-at-head-requires-3
 at-head-requires-3 c κs = search needs
 
--- src/hand.rt:40:9
 same-length-3 : tie.Need-same-length-3
 same-length-3 c = search needs
 
--- src/hand.rt:40:9
 returns-3 : tie.Need-returns-3
 returns-3 c = let w = c .before .before .before .before .before .before .before .before .before .before .before .before .before .before .before .survey .ensures in rw (c .at-head3 .ensures) (handed-start w (c .before .before .before .before .before .before .before .before .before .before .before .before .if1 .left) (sym (c .before .before .before .before .before .before .before .before .low-of .ensures) ∙ c .before .before .before .before .before .before .if3 .taken) (c .before .before .before .program .ensures), omega arith, omega (arith, w .surveyed .tallied .spots .second .fits))
 
--- src/hand.rt:42:5
 at-head-requires-4 : tie.Need-at-head-requires-4
 at-head-requires-4 c κs = search needs
 
--- src/hand.rt:24:1
 same-length-4 : tie.Need-same-length-4
 same-length-4 c = search needs
 
--- src/hand.rt:24:1
 returns-4 : tie.Need-returns-4
 returns-4 c = let w = c .before .before .before .before .before .before .before .before .before .before .survey .ensures in rw (c .at-head4 .ensures) (handed-plain w (c .before .before .before .before .before .before .before .if1 .left) (λ q. c .before .before .if2 .left (c .before .before .before .low-of .ensures ∙ q)) (λ q. c .before .if3 .left (c .before .before .before .low-of .ensures ∙ q)), omega arith, omega arith)
 

@@ -1,30 +1,23 @@
+-- The 00 is there or not.
 use native.Mathlib.Omega.{arith}
 use Rattle.flash.specs.Did.{did-none}
 use Rattle.recovery.specs.Last.{name-ended, name-open}
 use borrow.Author.Needs.{needs}
 use Rattle.recovery.proofs.last.end_name.Statement.{statement}
 use Rattle.recovery.proofs.last.end_name.Tie as tie
-use Rattle.recovery.proofs.last.end_name.Reads as reads
-use Rattle.recovery.proofs.last.end_name.Lts as lts
-use Rattle.flash.proofs.program.Reads as program-reads
 
--- src/last.rt:52:8
 slice-read-if1 : tie.Need-slice-read-if1
 slice-read-if1 c = search needs
 
--- src/last.rt:53:9
 returns : tie.Need-returns
 returns c = let a = c .before .before .before .args in (rw (name-ended (a .image .now) (a .at) (c .if1 .taken)) (did-none (a .image .now) (a .m)), omega arith)
 
--- src/last.rt:55:5
 program-requires : tie.Need-program-requires
 program-requires c κs = search needs
 
--- src/last.rt:48:1
 same-length : tie.Need-same-length
 same-length c = search needs
 
--- src/last.rt:48:1
 returns-2 : tie.Need-returns-2
 returns-2 c = let a = c .before .before .before .before .before .before .before .args in (rw (name-open (a .image .now) (a .at) (c .before .before .before .before .if1 .left)) (c .before .before .program .ensures), omega arith)
 

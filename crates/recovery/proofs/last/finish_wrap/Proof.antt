@@ -1,42 +1,31 @@
+-- By how the chain ends.
 use native.Mathlib.Omega.{arith}
 use Rattle.flash.specs.Did.{did-none}
-use Rattle.recovery.specs.Survey.{Torn-inside}
 use borrow.Author.Needs.{needs}
 use Rattle.recovery.proofs.last.finish_wrap.Statement.{statement}
 use Rattle.recovery.proofs.last.finish_wrap.Tie as tie
-use Rattle.recovery.proofs.last.finish_wrap.Reads as reads
-use Rattle.recovery.proofs.last.finish_wrap.Lts as lts
-use Rattle.recovery.proofs.last.finish_marker.Reads as finish-marker-reads
 
--- src/last.rt:107:25
 enum-told : tie.Need-enum-told
 enum-told c = search needs
 
--- src/last.rt:108:26
 enum-known-ending : tie.Need-enum-known-ending
 enum-known-ending c = search needs
 
--- src/last.rt:108:33
 finish-marker-requires : tie.Need-finish-marker-requires
 finish-marker-requires c κs = let p = rw (c .before .before .ending .given .1) at (c .before .before .before .before .before .pre .0) in (omega arith, omega arith)
 
--- src/last.rt:109:27
 enum-told-2 : tie.Need-enum-told-2
 enum-told-2 c = search needs
 
--- src/last.rt:102:1
 returns : tie.Need-returns
 returns c = let a = c .before .before .before .args in (rw (c .enum-told .given .1) (did-none (a .image .now) (a .m)), omega arith)
 
--- src/last.rt:102:1
 same-length : tie.Need-same-length
 same-length c = search needs
 
--- src/last.rt:102:1
 returns-2 : tie.Need-returns-2
 returns-2 c = (rw (c .before .before .before .before .before .ending .given .1) (c .before .before .finish-marker .ensures), omega arith)
 
--- src/last.rt:102:1
 returns-3 : tie.Need-returns-3
 returns-3 c = let a = c .before .before .before .args in (rw (c .enum-told2 .given .1) (did-none (a .image .now) (a .m)), omega arith)
 

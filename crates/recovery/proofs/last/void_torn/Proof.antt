@@ -1,45 +1,33 @@
+-- The seven steps one after another.
 use Rattle.flash.specs.Did.{did-both}
 use borrow.Author.Needs.{needs}
 use Rattle.recovery.proofs.last.void_torn.Statement.{statement}
 use Rattle.recovery.proofs.last.void_torn.Tie as tie
-use Rattle.recovery.proofs.last.void_torn.Reads as reads
-use Rattle.recovery.proofs.last.void_torn.Lts as lts
-use Rattle.flash.proofs.program.Reads as program-reads
-use Rattle.recovery.proofs.last.zero_lengths.Reads as zero-lengths-reads
 
--- src/last.rt:41:28
 add-program : tie.Need-add-program
 add-program c = search needs
 
--- src/last.rt:41:9
 program-requires : tie.Need-program-requires
 program-requires c κs = search needs
 
--- src/last.rt:42:9
 zero-lengths-requires : tie.Need-zero-lengths-requires
 zero-lengths-requires c κs = search needs
 
--- src/last.rt:43:28
 add-program-2 : tie.Need-add-program-2
 add-program-2 c = search needs
 
--- src/last.rt:43:9
 program-requires-2 : tie.Need-program-requires-2
 program-requires-2 c κs = search needs
 
--- src/last.rt:44:20
 add-program-3 : tie.Need-add-program-3
 add-program-3 c = search needs
 
--- src/last.rt:44:5
 program-requires-3 : tie.Need-program-requires-3
 program-requires-3 c κs = search needs
 
--- src/last.rt:37:1
 same-length : tie.Need-same-length
 same-length c = search needs
 
--- src/last.rt:37:1
 returns : tie.Need-returns
 returns c = did-both (c .before .before .before .before .before .before .before .before .before .before .before .before .before .before .program .ensures) (did-both (c .before .before .before .before .before .before .before .before .before .before .zero-lengths .ensures) (did-both (c .before .before .before .before .before .before .program2 .ensures) (c .before .before .program3 .ensures)))
 

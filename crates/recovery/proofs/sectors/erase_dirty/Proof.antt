@@ -1,21 +1,18 @@
-use mathlib.Core.Path.{ap, _∙_}
+-- The invariant: what erases the sectors that are left erases all, and those are as they were at entry.
+use mathlib.Core.Path.{ap, _∙_, _≡_, refl}
 use Rattle.spec.specs.Basics.{keep}
 use Rattle.spec.specs.Mount.{dirty}
 use borrow.Author.Needs.{needs}
 use native.Mathlib.Omega.{arith}
 use Prim.Native.Nat.{_+_, _-_, _≤_, _^_}
-use mathlib.Core.Path.{_≡_, refl}
 use mathlib.Core.List.{map}
 use lib.ListN.{length, drop}
 use Rattle.spec.specs.Step.{erase}
 use Rattle.spec.specs.Geometry.{sectors}
 use Rattle.recovery.specs.Toward.{Toward, toward-more, toward-end, later-on}
-use Rattle.recovery.specs.Sectors.{sectors-none, sectors-more, dirty-more}
+use Rattle.recovery.specs.Sectors.{sectors-none, dirty-more}
 use Rattle.recovery.proofs.sectors.erase_dirty.Statement.{statement}
 use Rattle.recovery.proofs.sectors.erase_dirty.Tie as tie
-use Rattle.recovery.proofs.sectors.erase_dirty.Reads as reads
-use Rattle.recovery.proofs.sectors.erase_dirty.Lts as lts
-use Rattle.recovery.proofs.sectors.erase_if_dirty.Reads as erase-if-dirty-reads
 
 abbrev Inv-loop : tie.InvT-loop
 Inv-loop image₀ from to q₀ a₀ image q a =
@@ -26,35 +23,27 @@ Inv-loop image₀ from to q₀ a₀ image q a =
 abbrev μ-loop : tie.MeasureT-loop
 μ-loop image₀ from to q₀ a₀ image q a = to - a
 
--- src/sectors.rt:49:5
 loop-holds : tie.Need-loop-holds Inv-loop μ-loop
 loop-holds c = (refl, omega arith, omega arith, omega arith, refl, refl, λ u r f. f)
 
--- src/sectors.rt:49:11
 add-loop : tie.Need-add-loop Inv-loop μ-loop
 add-loop c = search needs
 
--- src/sectors.rt:50:9
 erase-if-dirty-requires : tie.Need-erase-if-dirty-requires Inv-loop μ-loop
 erase-if-dirty-requires c κs = search needs
 
--- src/sectors.rt:51:9
 add-a : tie.Need-add-a Inv-loop μ-loop
 add-a c = search needs
 
--- src/sectors.rt:49:5
 loop-less : tie.Need-loop-less Inv-loop μ-loop
 loop-less c = search needs
 
--- src/sectors.rt:49:5
 loop-again : tie.Need-loop-again Inv-loop μ-loop
 loop-again c = let s = c .before .before .before .before .before .before .before .args .image .now in let to = c .before .before .before .before .before .before .before .args .to in let a = c .before .before .before .before .before .loop .a in let inv = c .before .before .before .before .before .loop .inv in let e = c .before .before .erase-if-dirty .ensures in (omega arith, omega arith, omega arith, omega arith, e .2 (a + 4096) (omega arith) ∙ later-on a (a + 4096) s (c .before .before .before .before .before .loop .image) (omega arith) (inv .4), e .2 to (omega arith) ∙ inv .5, toward-more (inv .6) (dirty-more s (c .before .before .before .before .before .loop .image) a to (omega arith) (inv .4)) (e .0))
 
--- src/sectors.rt:43:1
 same-length : tie.Need-same-length Inv-loop μ-loop
 same-length c = search needs
 
--- src/sectors.rt:43:1
 returns : tie.Need-returns Inv-loop μ-loop
 returns c = let inv = c .before .loop .inv in (toward-end (inv .6) (ap (λ l. map erase (keep (dirty (c .before .before .before .args .image .now)) l)) (sectors-none (c .before .loop .a) (c .before .before .before .args .to) (omega arith))), omega arith, inv .5)
 

@@ -1,3 +1,4 @@
+-- A sector that is all FF has no step.
 use mathlib.Core.Path.{refl}
 use native.Mathlib.Omega.{arith}
 use Rattle.flash.specs.Did.{did-none}
@@ -5,48 +6,34 @@ use Rattle.recovery.specs.Sectors.{dirty-is, erase-kept, erased-behind}
 use borrow.Author.Needs.{needs}
 use Rattle.recovery.proofs.sectors.erase_if_dirty.Statement.{statement}
 use Rattle.recovery.proofs.sectors.erase_if_dirty.Tie as tie
-use Rattle.recovery.proofs.sectors.erase_if_dirty.Reads as reads
-use Rattle.recovery.proofs.sectors.erase_if_dirty.Lts as lts
-use Rattle.flash.proofs.erase.Reads as erase-reads
-use Rattle.flash.proofs.is_blank.Reads as is-blank-reads
 
--- src/sectors.rt:35:15
 add-end : tie.Need-add-end
 add-end c = search needs
 
--- src/sectors.rt:36:17
 sub-is-blank : tie.Need-sub-is-blank
 sub-is-blank c = search needs
 
--- src/sectors.rt:36:17
 part-is-blank-start : tie.Need-part-is-blank-start
 part-is-blank-start c = search needs
 
--- src/sectors.rt:36:17
 part-is-blank-end : tie.Need-part-is-blank-end
 part-is-blank-end c = search needs
 
--- src/sectors.rt:36:8
 is-blank-requires : tie.Need-is-blank-requires
 is-blank-requires c κs = search needs
 
--- src/sectors.rt:37:9
 same-length : tie.Need-same-length
 same-length c = search needs
 
--- src/sectors.rt:37:9
 returns : tie.Need-returns
 returns c = let a = c .before .before .before .before .before .args in (rw (erase-kept (a .image .now) (a .at) (dirty-is (a .image .now) (a .at) (c .before .is-blank .ensures) (c .if1 .taken))) (did-none (a .image .now) (a .m)), omega arith, λ k h. refl)
 
--- src/sectors.rt:39:5
 erase-requires : tie.Need-erase-requires
 erase-requires c κs = search needs
 
--- src/sectors.rt:31:1
 same-length-2 : tie.Need-same-length-2
 same-length-2 c = search needs
 
--- src/sectors.rt:31:1
 returns-2 : tie.Need-returns-2
 returns-2 c = let a = c .before .before .before .before .before .before .before .before .before .args in (rw (erase-kept (a .image .now) (a .at) (dirty-is (a .image .now) (a .at) (c .before .before .before .before .before .is-blank .ensures) (c .before .before .before .before .if1 .left))) (c .before .before .erase .ensures), omega arith, λ k h. erased-behind (a .at) k h (omega arith) (c .before .before .erase .ensures))
 

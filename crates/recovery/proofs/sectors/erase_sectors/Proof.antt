@@ -1,19 +1,16 @@
-use mathlib.Core.Path.{ap}
+-- The invariant: what erases the sectors that are left erases all.
+use mathlib.Core.Path.{ap, _≡_, refl}
 use borrow.Author.Needs.{needs}
 use native.Mathlib.Omega.{arith}
 use Prim.Native.Nat.{_+_, _-_, _≤_, _^_}
-use mathlib.Core.Path.{_≡_, refl}
 use mathlib.Core.List.{map}
-use lib.ListN.{length, drop}
+use lib.ListN.{length}
 use Rattle.spec.specs.Step.{erase}
 use Rattle.spec.specs.Geometry.{sectors}
 use Rattle.recovery.specs.Toward.{Toward, toward-more, toward-end}
-use Rattle.recovery.specs.Sectors.{sectors-none, sectors-more, dirty-more}
+use Rattle.recovery.specs.Sectors.{sectors-none, sectors-more}
 use Rattle.recovery.proofs.sectors.erase_sectors.Statement.{statement}
 use Rattle.recovery.proofs.sectors.erase_sectors.Tie as tie
-use Rattle.recovery.proofs.sectors.erase_sectors.Reads as reads
-use Rattle.recovery.proofs.sectors.erase_sectors.Lts as lts
-use Rattle.flash.proofs.erase.Reads as erase-reads
 
 abbrev Inv-loop : tie.InvT-loop
 Inv-loop image₀ from to q₀ a₀ image q a =
@@ -23,35 +20,27 @@ Inv-loop image₀ from to q₀ a₀ image q a =
 abbrev μ-loop : tie.MeasureT-loop
 μ-loop image₀ from to q₀ a₀ image q a = to - a
 
--- src/sectors.rt:23:5
 loop-holds : tie.Need-loop-holds Inv-loop μ-loop
 loop-holds c = (refl, omega arith, omega arith, omega arith, λ u r f. f)
 
--- src/sectors.rt:23:11
 add-loop : tie.Need-add-loop Inv-loop μ-loop
 add-loop c = search needs
 
--- src/sectors.rt:24:9
 erase-requires : tie.Need-erase-requires Inv-loop μ-loop
 erase-requires c κs = search needs
 
--- src/sectors.rt:25:9
 add-a : tie.Need-add-a Inv-loop μ-loop
 add-a c = search needs
 
--- src/sectors.rt:23:5
 loop-less : tie.Need-loop-less Inv-loop μ-loop
 loop-less c = search needs
 
--- src/sectors.rt:23:5
 loop-again : tie.Need-loop-again Inv-loop μ-loop
 loop-again c = let a = c .before .before .before .before .before .before .before .args in let inv = c .before .before .before .before .before .loop .inv in (omega arith, omega arith, omega arith, omega arith, toward-more (inv .4) (ap (map erase) (sectors-more (c .before .before .before .before .before .loop .a) (a .to) (omega arith))) (c .before .before .erase .ensures))
 
--- src/sectors.rt:17:1
 same-length : tie.Need-same-length Inv-loop μ-loop
 same-length c = search needs
 
--- src/sectors.rt:17:1
 returns : tie.Need-returns Inv-loop μ-loop
 returns c = let inv = c .before .loop .inv in (toward-end (inv .4) (ap (map erase) (sectors-none (c .before .loop .a) (c .before .before .before .args .to) (omega arith))), omega arith)
 

@@ -1,11 +1,10 @@
+-- The invariant: what drops the superseded records that are left drops all; the chain is as it was but for the status of those passed.
 use Rattle.reading.specs.Rest.{rest}
 use borrow.Author.Needs.{needs}
 use native.Mathlib.Omega.{arith}
-use Prim.Native.Nat.{_+_, _*_, _≤_, _^_}
+use Prim.Native.Nat.{_+_, _≤_}
 use mathlib.Core.Path.{_≡_, refl, sym, ap, _∙_}
 use lib.ListN.{length}
-use Rattle.flash.specs.Did.{Did}
-use Rattle.spec.specs.Mount.{drop-steps}
 use Rattle.reading.specs.Cursor.{Sound, left}
 use Rattle.reading.specs.Fold.{turned}
 use Rattle.reading.specs.Read.{first-cursor}
@@ -14,11 +13,6 @@ use Rattle.reading.proofs.Others.{other-step}
 use Rattle.recovery.specs.Drop.{Dropping, dropping-start, dropping-more, dropping-end, tidy-first, sound-same, entries-of}
 use Rattle.recovery.proofs.superseded.drop_superseded.Statement.{statement}
 use Rattle.recovery.proofs.superseded.drop_superseded.Tie as tie
-use Rattle.recovery.proofs.superseded.drop_superseded.Reads as reads
-use Rattle.recovery.proofs.superseded.drop_superseded.Lts as lts
-use Rattle.reading.proofs.chain.advance.Reads as advance-reads
-use Rattle.reading.proofs.image.first_cursor.Reads as first-cursor-reads
-use Rattle.recovery.proofs.superseded.drop_one.Reads as drop-one-reads
 
 abbrev Inv-loop : tie.InvT-loop
 Inv-loop image₀ h start q₀ c₀ image q c =
@@ -27,39 +21,30 @@ Inv-loop image₀ h start q₀ c₀ image q c =
 abbrev μ-loop : tie.MeasureT-loop
 μ-loop image₀ h start q₀ c₀ image q c = left c
 
--- src/superseded.rt:40:9
 first-cursor-requires : tie.Need-first-cursor-requires Inv-loop μ-loop
 first-cursor-requires c κs = search needs
 
--- src/superseded.rt:43:5
 loop-holds : tie.Need-loop-holds Inv-loop μ-loop
 loop-holds c = let a = c .before .before .before .args in (refl, rw (c .first-cursor .ensures) (first-sound (a .image .now) (a .h) (omega arith) (c .before .before .before .pre .1)), omega arith, dropping-start (a .image .now) (c .first-cursor .result) (a .m))
 
--- src/superseded.rt:44:13
 advance-requires : tie.Need-advance-requires Inv-loop μ-loop
 advance-requires c κs = c .before .loop .inv .1
 
--- src/superseded.rt:45:26
 enum-known-s : tie.Need-enum-known-s Inv-loop μ-loop
 enum-known-s c = c .match .keys1
 
--- src/superseded.rt:46:13
 same-length : tie.Need-same-length Inv-loop μ-loop
 same-length c = search needs
 
--- src/superseded.rt:46:13
 returns : tie.Need-returns Inv-loop μ-loop
 returns c = let a = c .before .before .before .before .before .before .before .args in rw (ap (λ k. rest (a .image .now) k .entries) (c .before .before .before .before .first-cursor .ensures) ∙ entries-of (a .image .now) (a .h) (omega arith)) at (dropping-end (c .before .before .before .loop .inv .3) (c .before .advance .result) (c .before .advance .ensures .0) (other-step (c .before .advance .result) (c .match .keys2)))
 
--- src/superseded.rt:48:9
 drop-one-requires : tie.Need-drop-one-requires Inv-loop μ-loop
 drop-one-requires c κs = let t = (turned (c .before .before .before .before .before .before .loop .image) (c .before .before .before .before .before .before .loop .c) (c .before .before .before .before .advance .result) (c .before .before .s .given .0 .0) (c .before .before .s .given .0 .1 .0) (c .before .before .before .before .advance .ensures .0) (c .before .before .before .before .advance .ensures .1) (c .before .before .s .given .1)) in let a = c .before .before .before .before .before .before .before .before .before .before .args in (sound-same (a .image .now) (c .before .before .before .before .before .before .loop .image) (c .before .before .before .before .before .before .before .first-cursor .result) (rw (c .before .before .before .before .before .before .before .first-cursor .ensures) (first-sound (a .image .now) (a .h) (omega (arith, c .before .before .before .before .before .before .before .before .before .before .pre .0)) (c .before .before .before .before .before .before .before .before .before .before .pre .1))) (c .before .before .before .before .before .before .loop .inv .0), t .whole, omega (arith, c .before .before .before .before .before .before .loop .inv .2, ap left (c .before .before .before .before .before .before .before .first-cursor .ensures), t .onward .less, c .before .before .before .before .before .before .before .before .before .before .pre .2))
 
--- src/superseded.rt:43:5
 loop-less : tie.Need-loop-less Inv-loop μ-loop
 loop-less c = let t = (turned (c .before .before .before .before .before .before .before .before .before .loop .image) (c .before .before .before .before .before .before .before .before .before .loop .c) (c .before .before .before .before .before .before .before .advance .result) (c .before .before .before .before .before .s .given .0 .0) (c .before .before .before .before .before .s .given .0 .1 .0) (c .before .before .before .before .before .before .before .advance .ensures .0) (c .before .before .before .before .before .before .before .advance .ensures .1) (c .before .before .before .before .before .s .given .1)) in t .onward .less
 
--- src/superseded.rt:43:5
 loop-again : tie.Need-loop-again Inv-loop μ-loop
 loop-again c = let t = (turned (c .before .before .before .before .before .before .before .before .before .loop .image) (c .before .before .before .before .before .before .before .before .before .loop .c) (c .before .before .before .before .before .before .before .advance .result) (c .before .before .before .before .before .s .given .0 .0) (c .before .before .before .before .before .s .given .0 .1 .0) (c .before .before .before .before .before .before .before .advance .ensures .0) (c .before .before .before .before .before .before .before .advance .ensures .1) (c .before .before .before .before .before .s .given .1)) in let a = c .before .before .before .before .before .before .before .before .before .before .before .before .before .args in (omega (arith, c .before .before .before .before .before .before .before .before .before .loop .inv .0), sound-same (c .before .before .before .before .before .before .before .before .before .loop .image) (c .before .before .drop-one .last .0) (c .before .before .before .before .before .s .given .0 .1 .0) (t .onward .sound) (omega arith), omega (arith, c .before .before .before .before .before .before .before .before .before .loop .inv .2, t .onward .less, c .before .before .drop-one .ensures .1), dropping-more (c .before .before .before .before .before .before .before .before .before .loop .inv .3) (c .before .before .before .before .before .s .given .0 .0) (c .before .before .before .before .before .s .given .0 .1 .0) (rw (c .before .before .before .before .before .before .before .before .before .before .first-cursor .ensures) (tidy-first (a .image .now) (a .h) (omega (arith, c .before .before .before .before .before .before .before .before .before .before .before .before .before .pre .0)))) (sym (c .before .before .before .before .before .before .before .advance .ensures .0) ∙ c .before .before .before .before .before .s .given .1) (t .whole .fits) (c .before .before .drop-one .ensures .0))
 

@@ -1,3 +1,4 @@
+-- The first byte of the record.
 use mathlib.Core.Path.{sym, ap, _∙_}
 use native.Mathlib.Nat.{add-zero}
 use lib.ListN.{getD}
@@ -5,14 +6,10 @@ use lib.Seq.{getD-drop}
 use borrow.Author.Needs.{needs}
 use Rattle.recovery.proofs.survey.low_of.Statement.{statement}
 use Rattle.recovery.proofs.survey.low_of.Tie as tie
-use Rattle.recovery.proofs.survey.low_of.Reads as reads
-use Rattle.recovery.proofs.survey.low_of.Lts as lts
 
--- src/survey.rt:60:5
 shared-slice-read-result : tie.Need-shared-slice-read-result
 shared-slice-read-result c = search needs
 
--- src/survey.rt:55:1
 returns : tie.Need-returns
 returns c = let a = c .before .args in sym (getD-drop (a .e .at) (a .image .now) 0 0 ∙ ap (λ n. getD (a .image .now) n 0) (add-zero (a .e .at)))
 

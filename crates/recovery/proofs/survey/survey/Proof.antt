@@ -1,28 +1,19 @@
-use mathlib.Core.Path.{sym}
+-- What the pass found, as a survey.
 use Rattle.reading.specs.ReadLaws.{first-sound}
 use Rattle.recovery.specs.Survey.{seen}
 use borrow.Author.Needs.{needs}
 use Rattle.recovery.proofs.survey.survey.Statement.{statement}
 use Rattle.recovery.proofs.survey.survey.Tie as tie
-use Rattle.recovery.proofs.survey.survey.Reads as reads
-use Rattle.recovery.proofs.survey.survey.Lts as lts
-use Rattle.reading.proofs.image.first_cursor.Reads as first-cursor-reads
-use Rattle.reading.proofs.scan.pass.Reads as pass-reads
-use Rattle.recovery.proofs.survey.survey_of.Reads as survey-of-reads
 
--- src/survey.rt:48:25
 first-cursor-requires : tie.Need-first-cursor-requires
 first-cursor-requires c κs = search needs
 
--- src/survey.rt:48:9
 pass-requires : tie.Need-pass-requires
 pass-requires c κs = let a = c .before .before .args in (rw (c .first-cursor .ensures) (first-sound (a .image .now) (a .h) (c .before .before .pre .0) (c .before .before .pre .2)), c .before .before .pre .1)
 
--- src/survey.rt:51:5
 survey-of-requires : tie.Need-survey-of-requires
 survey-of-requires c κs = search needs
 
--- src/survey.rt:44:1
 returns : tie.Need-returns
 returns c = let a = c .before .before .before .before .before .args in rw (c .survey-of .ensures) (seen (a .image .now) (a .h) (c .before .before .before .before .before .pre .0) (c .before .before .before .before .before .pre .2) (c .before .before .before .first-cursor .result) (c .before .before .pass .result) (c .before .before .before .first-cursor .ensures) (c .before .before .pass .ensures .0) (c .before .before .pass .ensures .1) (c .before .before .pass .ensures .2))
 

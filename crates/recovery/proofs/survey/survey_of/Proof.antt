@@ -1,57 +1,43 @@
+-- By how the chain ends.
 use mathlib.Core.Path.{sym, ap, _∙_}
 use Rattle.recovery.specs.Survey.{survey-of}
 use borrow.Author.Needs.{needs}
 use Rattle.recovery.proofs.survey.survey_of.Statement.{statement}
 use Rattle.recovery.proofs.survey.survey_of.Tie as tie
-use Rattle.recovery.proofs.survey.survey_of.Reads as reads
-use Rattle.recovery.proofs.survey.survey_of.Lts as lts
-use Rattle.recovery.proofs.survey.told.Reads as told-reads
 
--- src/survey.rt:37:52
 enum-told : tie.Need-enum-told
 enum-told c = search needs
 
--- src/survey.rt:37:31
 told-requires : tie.Need-told-requires
 told-requires c κs = search needs
 
--- src/survey.rt:38:19
 enum-known-end : tie.Need-enum-known-end
 enum-known-end c = search needs
 
--- src/survey.rt:38:36
 told-requires-2 : tie.Need-told-requires-2
 told-requires-2 c κs = search needs
 
--- src/survey.rt:39:24
 enum-known-end-2 : tie.Need-enum-known-end-2
 enum-known-end-2 c = search needs
 
--- src/survey.rt:39:31
 told-requires-3 : tie.Need-told-requires-3
 told-requires-3 c κs = search needs
 
--- src/survey.rt:40:22
 enum-known-end-3 : tie.Need-enum-known-end-3
 enum-known-end-3 c = search needs
 
--- src/survey.rt:40:39
 told-requires-4 : tie.Need-told-requires-4
 told-requires-4 c κs = search needs
 
--- src/survey.rt:33:1
 returns : tie.Need-returns
 returns c = let a = c .before .before .before .args in c .told .ensures ∙ ap (λ s. survey-of (a .n) (a .h) s (a .t)) (sym (c .before .enum-told .given .1))
 
--- src/survey.rt:33:1
 returns-2 : tie.Need-returns-2
 returns-2 c = let a = c .before .before .before .before .args in c .told2 .ensures ∙ ap (λ s. survey-of (a .n) (a .h) s (a .t)) (sym (c .before .before .end .given .1))
 
--- src/survey.rt:33:1
 returns-3 : tie.Need-returns-3
 returns-3 c = let a = c .before .before .before .before .args in c .told3 .ensures ∙ ap (λ s. survey-of (a .n) (a .h) s (a .t)) (sym (c .before .before .end2 .given .1))
 
--- src/survey.rt:33:1
 returns-4 : tie.Need-returns-4
 returns-4 c = let a = c .before .before .before .before .args in c .told4 .ensures ∙ ap (λ s. survey-of (a .n) (a .h) s (a .t)) (sym (c .before .before .end3 .given .1))
 
