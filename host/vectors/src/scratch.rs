@@ -68,6 +68,21 @@ impl Edit {
     }
 }
 
+/// The enums and structs of a source, which the definitions use; its functions, and so their proofs, stay out.
+fn types(source: &str) -> String {
+    let mut inside = false;
+    let mut text = String::new();
+    for line in source.lines() {
+        inside |= line.starts_with("pub enum ") || line.starts_with("pub struct ");
+        if inside {
+            text += line;
+            text += "\n";
+        }
+        inside &= line != "}";
+    }
+    text
+}
+
 /// The numbers of the vectors that differ, over definitions with these edits.
 pub fn check_edited(
     spec: &Path,
@@ -77,9 +92,9 @@ pub fn check_edited(
 ) -> Result<Vec<usize>, String> {
     let folder = Folder::new(job)?;
     let specs = folder.0.join("crates/spec/specs");
-    for part in ["specs", "src"] {
-        copy(&spec.join(part), &folder.0.join("crates/spec").join(part))?;
-    }
+    copy(&spec.join("specs"), &specs)?;
+    std::fs::create_dir_all(folder.0.join("crates/spec/src")).map_err(|e| e.to_string())?;
+    write(&folder.0.join("crates/spec/src/lib.rt"), &types(&helper::read(&spec.join("src/lib.rt"))?))?;
     write(&folder.0.join("crates.txt"), "spec:\n")?;
     for edit in edits {
         edit.apply(&specs)?;
