@@ -110,6 +110,7 @@ impl Scratch {
         let _ = fs::remove_dir_all(&to);
         copy(&root.join("crates"), &to.join("crates"));
         fs::copy(root.join("crates.txt"), to.join("crates.txt")).unwrap();
+        definitions_alone(&to.join("crates/spec"));
         Scratch { root: to }
     }
 
@@ -145,6 +146,22 @@ impl Drop for Scratch {
     fn drop(&mut self) {
         let _ = fs::remove_dir_all(&self.root);
     }
+}
+
+/// Crate spec without its functions: their proofs would refuse a wrong definition before the crate that is asked.
+fn definitions_alone(spec: &Path) {
+    let source = fs::read_to_string(spec.join("src/lib.rt")).unwrap();
+    let mut inside = false;
+    let mut types = String::new();
+    for line in source.lines() {
+        inside |= line.starts_with("pub enum ") || line.starts_with("pub struct ");
+        if inside {
+            types += &format!("{line}\n");
+        }
+        inside &= line != "}";
+    }
+    fs::write(spec.join("src/lib.rt"), types).unwrap();
+    let _ = fs::remove_dir_all(spec.join("proofs"));
 }
 
 fn copy(from: &Path, to: &Path) {
