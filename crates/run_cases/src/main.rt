@@ -1,0 +1,135 @@
+// The cases of document 01 that it does not mark with *, run on the proved library and printed as a table.
+// The stored output, which the run is held to, was worked out by hand from document 01.
+use lilota::format;
+use lilota::get;
+use lilota::get_place;
+use lilota::mount::mount;
+use lilota::put::put;
+use lilota::sweep::sweep;
+
+// More steps than any call here needs.
+const ENOUGH: usize = 1000000;
+
+fn text(bytes: &[u8]) {
+    io::write_all(1, bytes);
+}
+
+// A number, set to the right in six places.
+fn number(n: usize) {
+    text(b"  ");
+    if n < 1000 {
+        text(b" ");
+    }
+    if n < 100 {
+        text(b" ");
+    }
+    if n < 10 {
+        text(b" ");
+    }
+    io::print_decimal(1, n as u64);
+}
+
+fn wide(byte: u8) -> u64 {
+    byte as u64
+}
+
+// The byte at this index, if the file is so long.
+fn byte_at(file: &[u8], i: usize) {
+    if i < file.len() {
+        text(b" ");
+        io::print_hex(1, wide(file[i]), 2);
+    }
+}
+
+// The first three bytes of a file, or as many as it has.
+fn first_bytes(file: &[u8]) {
+    if file.len() > 0 {
+        text(b" ");
+    }
+    byte_at(file, 0);
+    byte_at(file, 1);
+    byte_at(file, 2);
+    text(b"\n");
+}
+
+// What mount answers, and the four numbers of its success.
+fn mounted(image: &mut [u8]) {
+    let m = mount(image, ENOUGH);
+    number(m.answer() as usize);
+    number(m.steps());
+    number(m.head());
+    number(m.tail());
+    number(m.files());
+}
+
+// A put within an allowance, the mount after it, and what get then gives of that name.
+fn put_row(image: &mut [u8], name: &[u8], content: &[u8], allowance: usize) {
+    let w = put(image, name, content, allowance);
+    number(w.answer() as usize);
+    number(w.steps());
+    mounted(image);
+    let h = get_place(image, name);
+    number(h.answer as usize);
+    number(h.length);
+    first_bytes(get(image, name));
+}
+
+// The same on an image that was just formatted.
+fn first_put_row(image: &mut [u8], name: &[u8], content: &[u8], allowance: usize) {
+    format(image, ENOUGH);
+    put_row(image, name, content, allowance);
+}
+
+// A put that replaces a file of that name.
+fn second_put_row(image: &mut [u8], name: &[u8], old: &[u8], new: &[u8], allowance: usize) {
+    format(image, ENOUGH);
+    put(image, name, old, ENOUGH);
+    put_row(image, name, new, allowance);
+}
+
+// A sweep after the first put, and the mount after it.
+fn sweep_row(image: &mut [u8], name: &[u8], content: &[u8]) {
+    format(image, ENOUGH);
+    put(image, name, content, ENOUGH);
+    let w = sweep(image, ENOUGH);
+    number(w.answer() as usize);
+    number(w.moves());
+    number(w.steps());
+    mounted(image);
+    first_bytes(get(image, name));
+}
+
+fn main() {
+    let mut space = [0u8; 8192];
+    let image: &mut [u8] = &mut space;
+    let large = [7u8; 2704];
+    let dose = b"dose";
+    let old = b"\x01\x02\x03";
+    let new = b"\x07\x08\x09";
+    let named = b"abcdefghijklmnopqrstuvwxyz0123456789ABCDEFGHIJKLMNOPQRSTUVWXYZ_";
+    let overlong = b"abcdefghijklmnopqrstuvwxyz0123456789ABCDEFGHIJKLMNOPQRSTUVWXYZ_+";
+
+    text(
+        b"case                      put steps mount steps  head  tail files   get bytes  the first\n",
+    );
+    text(b"put, cut after 15      ");
+    first_put_row(image, dose, old, 15);
+    text(b"put, with 16           ");
+    first_put_row(image, dose, old, 16);
+    text(b"replacing, cut at 16   ");
+    second_put_row(image, dose, old, new, 16);
+    text(b"2,704 bytes            ");
+    first_put_row(image, dose, &large, ENOUGH);
+    text(b"name of 63 bytes       ");
+    first_put_row(image, named, old, ENOUGH);
+    text(b"name of 64 bytes       ");
+    first_put_row(image, overlong, old, ENOUGH);
+    text(b"name \"a/\"              ");
+    first_put_row(image, b"a/", old, ENOUGH);
+    text(b"empty content          ");
+    first_put_row(image, dose, b"", ENOUGH);
+
+    text(b"\ncase                    sweep moves steps mount steps  head  tail files  the first\n");
+    text(b"sweep, data 00 5A 03   ");
+    sweep_row(image, dose, b"\x00\x5A\x03");
+}
