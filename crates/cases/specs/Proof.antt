@@ -29,7 +29,8 @@ use Rattle.cases.specs.Table.{table}
 -- ---- the test of a case
 
 abbrev same-numbers : Numbers → Numbers → Bool
-same-numbers m n = eqb (m .answer) (n .answer) && eqb (m .first) (n .first) && eqb (m .second) (n .second) && eqb (m .third) (n .third) && eqb (m .steps) (n .steps)
+same-numbers m n =
+    eqb (m .answer) (n .answer) && eqb (m .first) (n .first) && eqb (m .second) (n .second) && eqb (m .third) (n .third) && eqb (m .steps) (n .steps)
 
 holds : Case → Bool
 holds c = same-numbers (outcome (given c) (c .call) .numbers) (c .numbers) && same (take (length (c .bytes)) (drop (c .at) (left c))) (c .bytes)
@@ -88,14 +89,27 @@ each : (cs : List Case) → all holds cs ≡ true → Each Holds cs
 each [] h = tt
 each (c ∷ cs) h = go (holds c) refl (each cs) h
   where
-    go : (b : Bool) → holds c ≡ b → (all holds cs ≡ true → Each Holds cs) → elim b as (λ b. Bool) [ true ↦ all holds cs | false ↦ false ] ≡ true → Each Holds (c ∷ cs)
+    go : (b : Bool) → holds c ≡ b → (all holds cs ≡ true → Each Holds cs) → elim b as (λ b. Bool) [ true ↦ all holds cs | false ↦ false ] ≡ true
+        → Each Holds (c ∷ cs)
     go true e ih h = (case-holds c e, ih h)
     go false e ih h = absurd (let z : _≡_ {A = ℕ} 0 1 = cc in omega arith)
 
 -- ---- the table
 
 table-holds : all holds table ≡ true
-unfolding holds table Basics.long Basics.blank Basics.same Step.sector Geometry.good-length Geometry.sectors-by Bytes.is-record Bytes.is-wrap Bytes.is-start Bytes.is-clean Bytes.is-high Bytes.is-high-begun Bytes.is-erased Bytes.is-reserved Bytes.is-committed Bytes.is-migrating Bytes.is-wrapped Bytes.is-dead Bytes.is-unfinished Bytes.is-spare Bytes.is-name-begun Bytes.ends-name Bytes.is-printable Bytes.is-slash Record.name-length Record.ends-in-slash Record.name-ok Next.kind Next.sized Next.torn-at Next.torn-wrap-at Next.clear-at Next.next-at Next.next Head.walk-next Head.walk Head.search Head.chosen Head.head Chain.chain Chain.joined Chain.read-on Files.named Files.has-named Files.live Files.superseded Files.file-named Files.doubled Reading.free-blank Reading.tail-blank Reading.free-ok Reading.second-ok Reading.marks-ok Reading.name-legal Reading.names-ok Reading.single Reading.legal Reading.judged Reading.reading Place.fits-at-tail Place.fits Place.address Place.with-marker Place.place-after Place.fits-all Place.largest-with Write.put-steps Write.format-steps Move.after Move.copy-steps Move.clean-steps Move.vacated-end Move.close-steps Move.hand-over Move.move Mount.free-sectors Mount.erase-steps Mount.repair-1 Mount.repair-2 Mount.void-steps Mount.last-steps Mount.repair-3 Mount.drop-steps Mount.repair-4 Mount.mended Mount.settled Sweep.no-room Sweep.at-end Sweep.stuck Sweep.moves Answers.numbers-of Answers.carry-out Answers.if-settled Answers.settled-reading Answers.format-plan Answers.mount-plan Answers.put-into Answers.put-plan Answers.file-plan Answers.remove-plan Answers.get-plan Answers.list-plan Answers.sweep-of Answers.sweep-plan History.commit-place History.put-done History.fed
+unfolding holds table Basics.long Basics.blank Basics.same Step.sector Geometry.good-length Geometry.sectors-by Bytes.is-record Bytes.is-wrap
+    Bytes.is-start Bytes.is-clean Bytes.is-high Bytes.is-high-begun Bytes.is-erased Bytes.is-reserved Bytes.is-committed Bytes.is-migrating
+    Bytes.is-wrapped Bytes.is-dead Bytes.is-unfinished Bytes.is-spare Bytes.is-name-begun Bytes.ends-name Bytes.is-printable Bytes.is-slash
+    Record.name-length Record.ends-in-slash Record.name-ok Next.kind Next.sized Next.torn-at Next.torn-wrap-at Next.clear-at Next.next-at Next.next
+    Head.walk-next Head.walk Head.search Head.chosen Head.head Chain.chain Chain.joined Chain.read-on Files.named Files.has-named Files.live
+    Files.superseded Files.file-named Files.doubled Reading.free-blank Reading.tail-blank Reading.free-ok Reading.second-ok Reading.marks-ok
+    Reading.name-legal Reading.names-ok Reading.single Reading.legal Reading.judged Reading.reading Place.fits-at-tail Place.fits Place.address
+    Place.with-marker Place.place-after Place.fits-all Place.largest-with Write.put-steps Write.format-steps Move.after Move.copy-steps
+    Move.clean-steps Move.vacated-end Move.close-steps Move.hand-over Move.move Mount.free-sectors Mount.erase-steps Mount.repair-1 Mount.repair-2
+    Mount.void-steps Mount.last-steps Mount.repair-3 Mount.drop-steps Mount.repair-4 Mount.mended Mount.settled Sweep.no-room Sweep.at-end Sweep.stuck
+    Sweep.moves Answers.numbers-of Answers.carry-out Answers.if-settled Answers.settled-reading Answers.format-plan Answers.mount-plan
+    Answers.put-into Answers.put-plan Answers.file-plan Answers.remove-plan Answers.get-plan Answers.list-plan Answers.sweep-of Answers.sweep-plan
+    History.commit-place History.put-done History.fed
 table-holds = refl
 
 -- THE statement

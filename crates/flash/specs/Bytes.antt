@@ -7,7 +7,8 @@ use mathlib.Core.List.{List, [], _∷_, _++_}
 use lib.ListN.{length, take, getD}
 use Rattle.spec.specs.Step.{Step, program, bytes-at}
 
-pub bytes-more : (a : ℕ) (w : List ℕ) (i : ℕ) → i < length w → bytes-at a (take (i + 1) w) ≡ bytes-at a (take i w) ++ (program (a + i) (getD w i 0) ∷ [])
+pub bytes-more : (a : ℕ) (w : List ℕ) (i : ℕ) → i < length w
+    → bytes-at a (take (i + 1) w) ≡ bytes-at a (take i w) ++ (program (a + i) (getD w i 0) ∷ [])
 bytes-more a [] i h = absurd (omega arith)
 bytes-more a (x ∷ w) zero h = rw add-zero
 bytes-more a (x ∷ w) (suc i) h =

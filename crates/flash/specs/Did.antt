@@ -91,7 +91,8 @@ run-part : (s : Image) (a : ℕ) (ss : List Step) → a ≤ length s → run s (
 run-part s a ss h =
     ap₂ (λ (l : List ℕ) (n : ℕ). run l (moved n ss)) (sym (take-append-drop a s)) (sym (length-take-le a s h)) ∙ run-past (take a s) (drop a s) ss
 
-did-part : (s : Image) (a : ℕ) {t : Image} {m r : Meter} {ss : List Step} → a ≤ length s → Did (drop a s) m ss t r → Did s m (moved a ss) (take a s ++ t) r
+did-part : (s : Image) (a : ℕ) {t : Image} {m r : Meter} {ss : List Step} → a ≤ length s → Did (drop a s) m ss t r
+    → Did s m (moved a ss) (take a s ++ t) r
 did-part s a {t} {m} {r} {ss} h d =
     let k : ℕ = m .allowance - m .asked in
     record {

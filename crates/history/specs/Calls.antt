@@ -41,15 +41,19 @@ bad-name : (n c : List ℕ) (im : Image) → name-ok n ≡ false → good-length
 unfolding put-plan
 bad-name n c im e g = rw (put-plan, g, e)
 
-good-name : (n c : List ℕ) (im : Image) (a : Answer Reading) → name-ok n ≡ true → good-length (length im) ≡ true → settled-reading im ≡ a → put-plan n c im ≡ onward a (put-into n c)
+good-name : (n c : List ℕ) (im : Image) (a : Answer Reading) → name-ok n ≡ true → good-length (length im) ≡ true → settled-reading im ≡ a
+    → put-plan n c im ≡ onward a (put-into n c)
 unfolding put-plan
 good-name n c im a e g s = rw (put-plan, g, e) (ap (λ (x : Answer Reading). onward x (put-into n c)) s)
 
-room-no : (n c : List ℕ) (r : Reading) → room (r .place) (size-of (length n) (length c)) (largest-with n (size-of (length n) (length c)) (r .entries)) ≡ false → put-into n c r ≡ refuse 28
+room-no : (n c : List ℕ) (r : Reading)
+    → room (r .place) (size-of (length n) (length c)) (largest-with n (size-of (length n) (length c)) (r .entries)) ≡ false
+    → put-into n c r ≡ refuse 28
 unfolding put-into
 room-no n c r e = ap (λ (b : Bool). checked b 28 (give (doing (put-steps (r .place) (file-named n (r .entries)) n c) 0 0 0))) e
 
-room-yes : (n c : List ℕ) (r : Reading) → room (r .place) (size-of (length n) (length c)) (largest-with n (size-of (length n) (length c)) (r .entries)) ≡ true →
+room-yes : (n c : List ℕ) (r : Reading)
+    → room (r .place) (size-of (length n) (length c)) (largest-with n (size-of (length n) (length c)) (r .entries)) ≡ true →
     put-into n c r ≡ give (doing (put-steps (r .place) (file-named n (r .entries)) n c) 0 0 0)
 unfolding put-into
 room-yes n c r e = ap (λ (b : Bool). checked b 28 (give (doing (put-steps (r .place) (file-named n (r .entries)) n c) 0 0 0))) e
@@ -72,8 +76,15 @@ puts-of l im n c i = go (name-ok n) refl (settling l im i)
     size : ℕ
     size = size-of (length n) (length c)
 
-    on : (r : Reading) (q : Rested l im r) → name-ok n ≡ true → (b : Bool) → room (r .place) size (largest-with n size (r .entries)) ≡ b → Puts l im n c
-    on r q e false f = put-no (record { number = 28; is = good-name n c im (give r) e (i .good) (rested-settled q) ∙ room-no n c r f; not-done = refl; not-cut = refl })
+    on : (r : Reading) (q : Rested l im r) → name-ok n ≡ true → (b : Bool) → room (r .place) size (largest-with n size (r .entries)) ≡ b
+        → Puts l im n c
+    on r q e false f =
+        put-no (record {
+          number = 28;
+          is = good-name n c im (give r) e (i .good) (rested-settled q) ∙ room-no n c r f;
+          not-done = refl;
+          not-cut = refl;
+        })
     on r q e true f =
         put-yes r q e (room-fits r size (largest-with n size (r .entries) ∷ largest-with n size (r .entries) ∷ []) f)
         (good-name n c im (give r) e (i .good) (rested-settled q) ∙ room-yes n c r f)
@@ -94,7 +105,8 @@ bad-file : (n : List ℕ) (f : Entry → Plan) (im : Image) → name-ok n ≡ fa
 unfolding file-plan
 bad-file n f im e g = rw (file-plan, g, e)
 
-good-file : (n : List ℕ) (f : Entry → Plan) (im : Image) (a : Answer Reading) → name-ok n ≡ true → good-length (length im) ≡ true → settled-reading im ≡ a → file-plan n f im ≡ onward a (file-of n f)
+good-file : (n : List ℕ) (f : Entry → Plan) (im : Image) (a : Answer Reading) → name-ok n ≡ true → good-length (length im) ≡ true
+    → settled-reading im ≡ a → file-plan n f im ≡ onward a (file-of n f)
 unfolding file-plan
 good-file n f im a e g s = rw (file-plan, g, e) (ap (λ (x : Answer Reading). onward x (file-of n f)) s)
 
@@ -103,7 +115,13 @@ pub finds-of : (l : Ledger) (im : Image) (n : List ℕ) (f : Entry → Plan) →
 finds-of l im n f i = go (name-ok n) refl (settling l im i)
   where
     on : (r : Reading) (q : Rested l im r) → name-ok n ≡ true → (o : Option Entry) → file-named n (r .entries) ≡ o → Finds l im n f
-    on r q e none k = find-no (record { number = 2; is = good-file n f im (give r) e (i .good) (rested-settled q) ∙ ap (found f) k; not-done = refl; not-cut = refl })
+    on r q e none k =
+        find-no (record {
+          number = 2;
+          is = good-file n f im (give r) e (i .good) (rested-settled q) ∙ ap (found f) k;
+          not-done = refl;
+          not-cut = refl;
+        })
     on r q e (some x) k = find-yes r x q k (good-file n f im (give r) e (i .good) (rested-settled q) ∙ ap (found f) k)
 
     go : (b : Bool) → name-ok n ≡ b → Settling l im → Finds l im n f
@@ -117,7 +135,8 @@ sweep-is : (im : Image) (a : Answer Reading) → good-length (length im) ≡ tru
 unfolding sweep-plan
 sweep-is im a g s = rw (sweep-plan, g) (ap (λ (x : Answer Reading). onward x (sweep-of im)) s)
 
-sweep-by : (im : Image) (r : Reading) (b : Bool) → no-room r (r .entries) ≡ b → sweep-of im r ≡ checked (not b) 28 (give (sweeping (sweep-moves im r)))
+sweep-by : (im : Image) (r : Reading) (b : Bool) → no-room r (r .entries) ≡ b
+    → sweep-of im r ≡ checked (not b) 28 (give (sweeping (sweep-moves im r)))
 unfolding sweep-of
 sweep-by im r b e = ap (λ (b : Bool). checked (not b) 28 (give (sweeping (sweep-moves im r)))) e
 
@@ -131,7 +150,13 @@ pub swept-of : (l : Ledger) (im : Image) → Inv l im → Swept l im
 swept-of l im i = go (settling l im i)
   where
     on : (r : Reading) (q : Rested l im r) → (b : Bool) → no-room r (r .entries) ≡ b → Swept l im
-    on r q true k = sweep-no (record { number = 28; is = sweep-is im (give r) (i .good) (rested-settled q) ∙ sweep-by im r true k; not-done = refl; not-cut = refl })
+    on r q true k =
+        sweep-no (record {
+          number = 28;
+          is = sweep-is im (give r) (i .good) (rested-settled q) ∙ sweep-by im r true k;
+          not-done = refl;
+          not-cut = refl;
+        })
     on r q false k = sweep-yes r q (sweep-is im (give r) (i .good) (rested-settled q) ∙ sweep-by im r false k)
 
     go : Settling l im → Swept l im

@@ -43,7 +43,8 @@ mark-long (x ∷ []) e = absurd (not-both (mark-here (x ∷ [])) (and-false (is-
 mark-long (x ∷ y ∷ s) e = omega arith
 
 set-in : (p s q : List ℕ) (a : ℕ) → length p ≡ a → 2 ≤ length s → set (p ++ (s ++ q)) (a + 1) 0 ≡ p ++ (set s 1 0 ++ q)
-set-in p s q a e l = ap (λ (n : ℕ). set (p ++ (s ++ q)) (n + 1) 0) (sym e) ∙ set-past p (s ++ q) 1 0 ∙ ap (λ (m : List ℕ). p ++ m) (set-append-left s q 1 0 l)
+set-in p s q a e l =
+    ap (λ (n : ℕ). set (p ++ (s ++ q)) (n + 1) 0) (sym e) ∙ set-past p (s ++ q) 1 0 ∙ ap (λ (m : List ℕ). p ++ m) (set-append-left s q 1 0 l)
 
 -- all of (c): no mark is left
 pub record Clean-now (k : ℕ) (p s q l : List ℕ) : Type 0 where
@@ -56,7 +57,8 @@ quiet-nil : (k : ℕ) → Quiet k []
 quiet-nil k = calm-quiet k [] tt
 
 -- the first word w has no mark, nor has the rest
-word-more : (k : ℕ) (p s q l u v w : List ℕ) → s ≡ u ++ v → length w ≡ length u → length w ≡ 8 → mark-here w ≡ false → Clean-now k (p ++ w) v q l → Clean-now (suc k) p s q l
+word-more : (k : ℕ) (p s q l u v w : List ℕ) → s ≡ u ++ v → length w ≡ length u → length w ≡ 8 → mark-here w ≡ false → Clean-now k (p ++ w) v q l
+    → Clean-now (suc k) p s q l
 word-more k p s q l u v w e h i m c =
     record {
       now = w ++ c .now;
@@ -78,7 +80,8 @@ pub clean-done : (k a : ℕ) (p s q : List ℕ) → length p ≡ a → length s 
 unfolding clean-steps
 clean-done zero a p s q e l = record { now = s; is = refl; same-length = refl; quiet = tt }
 clean-done (suc k) a p s q e l =
-    go (mark-here s) (ltb (length s) 8) refl refl (λ w i. clean-done k (a + 8) (p ++ w) (drop 8 s) q (length-append p w ∙ omega arith) (omega (arith, length-drop 8 s)))
+    go (mark-here s) (ltb (length s) 8) refl refl
+        (λ w i. clean-done k (a + 8) (p ++ w) (drop 8 s) q (length-append p w ∙ omega arith) (omega (arith, length-drop 8 s)))
   where
     none-left : (i : length s < 8) → (n : ℕ) → clean-steps n (a + 8) (drop 8 s) ≡ []
     none-left i n = ap (clean-steps n (a + 8)) (drop-of-length-le s {i = 8} (omega arith)) ∙ clean-nil n (a + 8)
@@ -91,8 +94,14 @@ clean-done (suc k) a p s q e l =
         Clean-now (suc k) p s q (run (p ++ (s ++ q)) (clean-steps (suc k) a s))
     go true true x y f =
         let i : length s < 8 = ltb-true (length s) 8 y in
-        subst (λ (ss : List Step). Clean-now (suc k) p s q (run (p ++ (s ++ q)) ss)) (sym (clean-hit k a s x ∙ ap (λ (m : List Step). program (a + 1) 0 ∷ m) (none-left i k)))
-        (record { now = set s 1 0; is = set-in p s q a e (mark-long s x); same-length = length-set s 1 0; quiet = short-quiet (set s 1 0) (omega (arith, length-set s 1 0)) (mark-set s (mark-long s x)) })
+        subst (λ (ss : List Step). Clean-now (suc k) p s q (run (p ++ (s ++ q)) ss))
+            (sym (clean-hit k a s x ∙ ap (λ (m : List Step). program (a + 1) 0 ∷ m) (none-left i k)))
+        (record {
+          now = set s 1 0;
+          is = set-in p s q a e (mark-long s x);
+          same-length = length-set s 1 0;
+          quiet = short-quiet (set s 1 0) (omega (arith, length-set s 1 0)) (mark-set s (mark-long s x));
+        })
     go true false x y f =
         let i : 8 ≤ length s = ltb-false (length s) 8 y in
         let i′ : 8 ≤ length (set s 1 0) = omega (arith, length-set s 1 0) in
@@ -100,9 +109,11 @@ clean-done (suc k) a p s q e l =
         let lu : length U ≡ 8 = length-take-le 8 (set s 1 0) i′ in
         let m : set s 1 0 ≡ U ++ drop 8 s = sym (take-append-drop 8 (set s 1 0)) ∙ ap (λ (l : List ℕ). U ++ l) (drop-set-lt 8 s 1 0 (omega arith)) in
         let n : set (p ++ (s ++ q)) (a + 1) 0 ≡ (p ++ U) ++ (drop 8 s ++ q) =
-        set-in p s q a e (mark-long s x) ∙ ap (λ (l : List ℕ). p ++ (l ++ q)) m ∙ ap (λ (l : List ℕ). p ++ l) (append-assoc U (drop 8 s) q) ∙ sym (append-assoc p U (drop 8 s ++ q)) in
+        set-in p s q a e (mark-long s x) ∙ ap (λ (l : List ℕ). p ++ (l ++ q)) m ∙ ap (λ (l : List ℕ). p ++ l) (append-assoc U (drop 8 s) q)
+            ∙ sym (append-assoc p U (drop 8 s ++ q)) in
         subst (λ (ss : List Step). Clean-now (suc k) p s q (run (p ++ (s ++ q)) ss)) (sym (clean-hit k a s x))
-        (word-more k p s q _ (take 8 s) (drop 8 s) U (sym (take-append-drop 8 s)) (lu ∙ sym (length-take-le 8 s i)) lu (mark-take (set s 1 0) i′ ∙ mark-set s (mark-long s x))
+        (word-more k p s q _ (take 8 s) (drop 8 s) U (sym (take-append-drop 8 s)) (lu ∙ sym (length-take-le 8 s i)) lu
+            (mark-take (set s 1 0) i′ ∙ mark-set s (mark-long s x))
         (subst (λ (l : List ℕ). Clean-now k (p ++ U) (drop 8 s) q (run l (clean-steps k (a + 8) (drop 8 s)))) (sym n) (f U lu)))
     go false true x y f =
         let i : length s < 8 = ltb-true (length s) 8 y in
@@ -112,7 +123,8 @@ clean-done (suc k) a p s q e l =
         let i : 8 ≤ length s = ltb-false (length s) 8 y in
         let lu : length (take 8 s) ≡ 8 = length-take-le 8 s i in
         let n : p ++ (s ++ q) ≡ (p ++ take 8 s) ++ (drop 8 s ++ q) =
-        ap (λ (l : List ℕ). p ++ (l ++ q)) (sym (take-append-drop 8 s)) ∙ ap (λ (l : List ℕ). p ++ l) (append-assoc (take 8 s) (drop 8 s) q) ∙ sym (append-assoc p (take 8 s) (drop 8 s ++ q)) in
+        ap (λ (l : List ℕ). p ++ (l ++ q)) (sym (take-append-drop 8 s)) ∙ ap (λ (l : List ℕ). p ++ l) (append-assoc (take 8 s) (drop 8 s) q)
+            ∙ sym (append-assoc p (take 8 s) (drop 8 s ++ q)) in
         subst (λ (ss : List Step). Clean-now (suc k) p s q (run (p ++ (s ++ q)) ss)) (sym (clean-miss k a s x))
         (word-more k p s q _ (take 8 s) (drop 8 s) (take 8 s) (sym (take-append-drop 8 s)) refl lu (mark-take s i ∙ x)
         (subst (λ (l : List ℕ). Clean-now k (p ++ take 8 s) (drop 8 s) q (run l (clean-steps k (a + 8) (drop 8 s)))) (sym n) (f (take 8 s) lu)))

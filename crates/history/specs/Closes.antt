@@ -40,22 +40,30 @@ pub record Rests (l : Ledger) (im : Image) (ss : List Step) (h : ℕ) : Type 0 w
 -- steps that keep the invariant, and such steps behind them
 rests-append : {l : Ledger} {im : Image} (ss ts : List Step) {h : ℕ} → Safe (Inv l) im ss → Rests l (run im ss) ts h → Rests l im (ss ++ ts) h
 rests-append {l} {im} ss ts {h} s r =
-    record { safe = safe-append (Inv l) im ss ts s (r .safe); rested = subst (λ (i : Image). Rested l i (reading-from i h)) (sym (run-append im ss ts)) (r .rested) }
+    record {
+      safe = safe-append (Inv l) im ss ts s (r .safe);
+      rested = subst (λ (i : Image). Rested l i (reading-from i h)) (sym (run-append im ss ts)) (r .rested);
+    }
 
 -- kind both: the last step of the move
 pub both-rests :
     {l : Ledger} {im : Image} {h S T : ℕ} (B F : ℕ) {t u : Bool} {x y : Entry} {es : List Entry} → good-length (length im) ≡ true →
-    Laid im h S t (x ∷ y ∷ es) seg-none (blanks B) (blanks F) → Tail h S t seg-none (blanks B) (blanks F) T u → x .it .low ≡ 0 → alive x ≡ false → Cleaned (x .it) → y .it .low ≡ 0 →
+    Laid im h S t (x ∷ y ∷ es) seg-none (blanks B) (blanks F) → Tail h S t seg-none (blanks B) (blanks F) T u → x .it .low ≡ 0 → alive x ≡ false
+        → Cleaned (x .it) → y .it .low ≡ 0 →
     floor (y .at) ≡ floor h → Each Unmarked es → Ok (x ∷ y ∷ es) l → Rests l im (program (x .at + 1) 0 ∷ []) (y .at)
 both-rests {l} {im} B F {x = x} {y} {es} g d e a b c y₀ f m o =
     let r : Rested l (set im (x .at + 1) 0) (reading-from (set im (x .at + 1) 0) (y .at)) =
     rested-of B F (rw (length-set im (x .at + 1) 0) g) (forget-laid d c f) (tail-along f (tail-here e .tail)) (y₀, m) (ok-behead x (y ∷ es) l o b) in
-    record { safe = (record { good = g; kind = both B F d e a b c y₀ f m o }, (omega (arith, first-is d, laid-head d), refl), rested-inv r); rested = r }
+    record {
+      safe = (record { good = g; kind = both B F d e a b c y₀ f m o }, (omega (arith, first-is d, laid-head d), refl), rested-inv r);
+      rested = r;
+    }
 
 -- ---- kind clean
 
 -- a step list of (d) to (f) that erases
-vacate-are : (x y : Entry) (A k : ℕ) (zs : List ℕ) → map erase zs ≡ erases A (suc k) → vacate-steps x y zs ≡ erases A (suc k) ++ (program (y .at) 0 ∷ [])
+vacate-are : (x y : Entry) (A k : ℕ) (zs : List ℕ) → map erase zs ≡ erases A (suc k)
+    → vacate-steps x y zs ≡ erases A (suc k) ++ (program (y .at) 0 ∷ [])
 vacate-are x y A k [] e = cc
 vacate-are x y A k (z ∷ zs) e = ap (λ (ss : List Step). ss ++ (program (y .at) 0 ∷ [])) e
 
@@ -67,7 +75,8 @@ vacate-anew x y c (z ∷ zs) = refl
 -- (d) to (f), X's data being cleaned
 vacate-rests :
     {l : Ledger} {im : Image} {h S : ℕ} (B F : ℕ) {t : Bool} {x y : Entry} {es : List Entry} → good-length (length im) ≡ true →
-    Laid im h S t (x ∷ y ∷ es) seg-none (blanks B) (blanks F) → Tail h S t seg-none (blanks B) (blanks F) S t → x .it .low ≡ 0 → alive x ≡ false → Cleaned (x .it) → y .it .low ≡ 160 →
+    Laid im h S t (x ∷ y ∷ es) seg-none (blanks B) (blanks F) → Tail h S t seg-none (blanks B) (blanks F) S t → x .it .low ≡ 0 → alive x ≡ false
+        → Cleaned (x .it) → y .it .low ≡ 160 →
     Each Unmarked es → Ok (x ∷ y ∷ es) l → Rests l im (vacate-steps x y (vacated (length im) x y)) (y .at)
 vacate-rests {l} {im} {h} {S} B F {t} {x} {y} {es} g d e a b c y₁ m o = go (leaves B F g d e c)
   where
@@ -78,7 +87,8 @@ vacate-rests {l} {im} {h} {S} B F {t} {x} {y} {es} g d e a b c y₁ m o = go (le
     go (near n p q) =
         let Y : Entry = record { at = y .at; it = relow 0 (y .it) } in
         let r : Rests l (set im (y .at) 0) (program (x .at + 1) 0 ∷ []) (y .at) =
-        both-rests B F (rw (length-set im (y .at) 0) g) (relow-laid (x ∷ []) es y d 0 low-start (low-high (omega (arith, first-is d)))) e a b c refl (p ∙ ap floor (first-is d)) m
+        both-rests B F (rw (length-set im (y .at) 0) g) (relow-laid (x ∷ []) es y d 0 low-start (low-high (omega (arith, first-is d)))) e a b c refl
+            (p ∙ ap floor (first-is d)) m
         (ok-same (x ∷ []) es y Y l o (relow-alive y 0) refl refl) in
         subst (λ (zs : List ℕ). Rests l im (vacate-steps x y zs) (y .at)) (sym n)
         (record { safe = (here, (omega (arith, entry-inside (x ∷ []) es y d), refl), r .safe); rested = r .rested })
@@ -89,19 +99,23 @@ vacate-rests {l} {im} {h} {S} B F {t} {x} {y} {es} g d e a b c y₁ m o = go (le
         λ j q. cut j (omega (arith, length-erases A (suc k))) (good-cut j) ok₁ in
         let g₁ : good-length (length (run im (erases A (suc k)))) ≡ true =
         subst (λ (ss : List Step). good-length (length (run im ss)) ≡ true) (take-erases (suc k) (suc k) A (omega arith)) (good-cut (suc k)) in
-        let r : Rested l (set (run im (erases A (suc k))) (y .at) 0) (reading-from (set (run im (erases A (suc k))) (y .at) 0) (y .at)) = bare-rested g₁ y₁ m ok₁ w in
+        let r : Rested l (set (run im (erases A (suc k))) (y .at) 0) (reading-from (set (run im (erases A (suc k))) (y .at) 0) (y .at)) = bare-rested
+            g₁ y₁ m ok₁ w in
+        
         subst (λ (ss : List Step). Rests l im ss (y .at)) (sym (vacate-are x y A k (vacated (length im) x y) p))
         (rests-append (erases A (suc k)) (program (y .at) 0 ∷ []) (safe-from (Inv l) im (erases A (suc k)) cuts (erases-sound A (suc k) im z i))
         (record { safe = bare-safe g₁ y₁ m ok₁ w (rested-inv r); rested = r }))
       where
-        cut : (j : ℕ) → j ≤ suc k → good-length (length (run im (take j (erases A (suc k))))) ≡ true → Ok (y ∷ es) l → Inv l (run im (take j (erases A (suc k))))
+        cut : (j : ℕ) → j ≤ suc k → good-length (length (run im (take j (erases A (suc k))))) ≡ true → Ok (y ∷ es) l
+            → Inv l (run im (take j (erases A (suc k))))
         cut zero q g₁ ok₁ = here
         cut (suc j) q g₁ ok₁ = vacant-inv g₁ y₁ m ok₁ (v j (omega arith))
 
 -- kind clean: the rest of the move
 pub close-rests :
     {l : Ledger} {im : Image} {h S T : ℕ} (B F : ℕ) {t u : Bool} {x y : Entry} {es : List Entry} → good-length (length im) ≡ true →
-    Laid im h S t (x ∷ y ∷ es) seg-none (blanks B) (blanks F) → Tail h S t seg-none (blanks B) (blanks F) T u → x .it .low ≡ 0 → alive x ≡ false → y .it .low ≡ 160 → Each Unmarked es →
+    Laid im h S t (x ∷ y ∷ es) seg-none (blanks B) (blanks F) → Tail h S t seg-none (blanks B) (blanks F) T u → x .it .low ≡ 0 → alive x ≡ false
+        → y .it .low ≡ 160 → Each Unmarked es →
     Ok (x ∷ y ∷ es) l → Rests l im (close-steps (length im) x y) (y .at)
 unfolding close-steps
 close-rests {l} {im} {h} {S} B F {t} {x = x} {y} {es} g d e a b c m o =
@@ -109,12 +123,14 @@ close-rests {l} {im} {h} {S} B F {t} {x = x} {y} {es} g d e a b c m o =
     let cs : List Step = clean-steps (length (content-of x)) (data-at x) (content-of x) in
     let w : Swept l im cs h S B F t x y es = sweep-data B F g d tl a b c m o in
     rests-append cs (vacate-steps x y (vacated (length im) x y)) (w .safe)
-    (subst (λ (ss : List Step). Rests l (run im cs) ss (y .at)) (vacate-anew x y (w .now) (vacated (length (run im cs)) x y) ∙ ap (λ (n : ℕ). vacate-steps x y (vacated n x y)) (w .same))
+    (subst (λ (ss : List Step). Rests l (run im cs) ss (y .at))
+        (vacate-anew x y (w .now) (vacated (length (run im cs)) x y) ∙ ap (λ (n : ℕ). vacate-steps x y (vacated n x y)) (w .same))
     (vacate-rests B F {x = anew x (w .now)} (rw (w .same) g) (w .laid) tl a (w .dead) (w .cleaned) c m (w .ok)))
 
 -- kind vacated: repair 1
 pub vacated-rests :
-    {l : Ledger} {im : Image} {h S T : ℕ} {t u : Bool} {x : Entry} {es : List Entry} {below free : List ℕ} → good-length (length im) ≡ true → Laid im h S t (x ∷ es) seg-none below free →
+    {l : Ledger} {im : Image} {h S T : ℕ} {t u : Bool} {x : Entry} {es : List Entry} {below free : List ℕ} → good-length (length im) ≡ true
+        → Laid im h S t (x ∷ es) seg-none below free →
     Tail h S t seg-none below free T u → tail-blank im (place im h T u) ≡ true → x .it .low ≡ 160 → Each Unmarked es → Ok (x ∷ es) l →
     Rests l im (erase-steps im (place im h T u) ++ (program h 0 ∷ [])) h
 vacated-rests {l} {im} {h} {S} {T} {t} {u} {x} {es} {below} {free} g d e b a m o =
@@ -128,5 +144,8 @@ vacated-rests {l} {im} {h} {S} {T} {t} {u} {x} {es} {below} {free} g d e b a m o
         let W : Image → Type 0 = Vacates (length im) h S t (x ∷ es) in
         let g₁ : good-length (length (run im ss)) ≡ true = rw (safe-end W im ss (n .safe) .len) g in
         let r : Rested l (set (run im ss) h 0) (reading-from (set (run im ss) h 0) h) = bare-rested g₁ a m o (n .bare) in
-        rests-append ss (program h 0 ∷ []) (safe-map W (Inv l) (λ i v. record { good = rw (v .len) g; kind = vacated-kind (v .laid) (v .tail) (v .blank) a m o }) im ss (n .safe))
+        rests-append ss (program h 0 ∷ []) (safe-map W (Inv l) (λ i v. record {
+          good = rw (v .len) g;
+          kind = vacated-kind (v .laid) (v .tail) (v .blank) a m o;
+        }) im ss (n .safe))
         (record { safe = bare-safe g₁ a m o (n .bare) (rested-inv r); rested = r })

@@ -46,7 +46,20 @@ inv-perm p im i = record { good = i .good; kind = kind-perm p im (i .kind) }
 
 rested-perm : {k l : Ledger} {im : Image} {r : Reading} → List·Permᴰ k l → Rested k im r → Rested l im r
 rested-perm {k} {l} p q =
-    record { good = q .good; h = q .h; S = q .S; B = q .B; F = q .F; t = q .t; es = q .es; laid = q .laid; tail = q .tail; starts = q .starts; ok = ok-perm (q .es) k l p (q .ok); is = q .is }
+    record {
+      good = q .good;
+      h = q .h;
+      S = q .S;
+      B = q .B;
+      F = q .F;
+      t = q .t;
+      es = q .es;
+      laid = q .laid;
+      tail = q .tail;
+      starts = q .starts;
+      ok = ok-perm (q .es) k l p (q .ok);
+      is = q .is;
+    }
 
 -- ---- what put leaves
 
@@ -54,7 +67,8 @@ rested-perm {k} {l} p q =
 head-read : {l : Ledger} {im : Image} {r : Reading} {h : ℕ} → Rested l im r → r .place .head ≡ h → r ≡ reading-from im h
 head-read {l} {im} {r} {h} q e =
     let k : q .h ≡ h = sym (ap (λ (x : Reading). x .place .head) (q .is)) ∙ e in
-    q .is ∙ sym (laid-reads (q .laid) (q .tail) ∙ ap (λ (fs : List Entry). read (length im) (q .h) (q .S) (q .t) fs Ending.Tail) (append-nil (q .es))) ∙ ap (reading-from im) k
+    q .is ∙ sym (laid-reads (q .laid) (q .tail) ∙ ap (λ (fs : List Entry). read (length im) (q .h) (q .S) (q .t) fs Ending.Tail) (append-nil (q .es)))
+        ∙ ap (reading-from im) k
 
 none-left : {xs ys : List File} → List·Permᴰ xs ys → xs ≡ [] → ys ≡ []
 none-left List·Permᴰ·nil e = refl
@@ -72,7 +86,8 @@ pub record Dead-first (es : List Entry) : Type 0 where
 
 -- a file is there, and not the first record
 dead-first : (x : Entry) (zs : List Entry) (f : File) (l : Ledger) → alive x ≡ false → Matches (x ∷ zs) (f ∷ l) → Dead-first (x ∷ zs)
-dead-first x [] f l d m = absurd (let e : f ∷ l ≡ [] = none-left m (ap (map as-file) (keep-no alive x [] d)) in let z : _≡_ {A = ℕ} 0 1 = cc in omega arith)
+dead-first x [] f l d m =
+    absurd (let e : f ∷ l ≡ [] = none-left m (ap (map as-file) (keep-no alive x [] d)) in let z : _≡_ {A = ℕ} 0 1 = cc in omega arith)
 dead-first x (y ∷ zs) f l d m = record { x = x; y = y; rest = zs; is = refl; dead = d }
 
 -- ---- the copy
@@ -94,7 +109,8 @@ last-delete p x n c =
     )
 
 -- the first record of an image whose last step was that
-head-dead : {l : Ledger} {im : Image} {r : Reading} (q : Rested l im r) (h : ℕ) (before : Image) → q .h ≡ h → im ≡ set before (h + 2) 0 → (x : Rec) (rest : List Entry) →
+head-dead : {l : Ledger} {im : Image} {r : Reading} (q : Rested l im r) (h : ℕ) (before : Image) → q .h ≡ h → im ≡ set before (h + 2) 0
+    → (x : Rec) (rest : List Entry) →
     q .es ≡ record { at = q .h; it = x } ∷ rest →
     alive (record { at = q .h; it = x }) ≡ false
 head-dead {l} {im} q h before e w x rest k =
@@ -105,7 +121,8 @@ head-dead {l} {im} q h before e w x rest k =
     (sym (status-at [] rest f d) ∙ ap₂ (λ (i : Image) (a : ℕ). getD i (a + 2) 0) w e
     ∙ getD-set-same before (h + 2) 0 0 (omega (arith, entry-inside [] rest f d, ap length w, length-set before (h + 2) 0)))
 
-module _ {l : Ledger} {im : Image} {r : Reading} (q : Rested l im r) (x : Entry) (es : List Entry) (i : q .es ≡ x ∷ es) (live : alive x ≡ true) (room : fits (r .place) (size x) ≡ true) where
+module _ {l : Ledger} {im : Image} {r : Reading} (q : Rested l im r) (x : Entry) (es : List Entry) (i : q .es ≡ x ∷ es) (live : alive x ≡ true)
+    (room : fits (r .place) (size x) ≡ true) where
   abbrev n : List ℕ
   n = name-of x
 
@@ -121,7 +138,8 @@ module _ {l : Ledger} {im : Image} {r : Reading} (q : Rested l im r) (x : Entry)
   entries-is : r .entries ≡ x ∷ es
   entries-is = ap (λ (y : Reading). y .entries) (q .is) ∙ i
 
-  commits : Commits l (with-file n c l) im ss (length n + length c + 9 + one-if-fc (some x) + three-if (with-marker (r .place) (size-of (length n) (length c)))) (r .place .head)
+  commits : Commits l (with-file n c l) im ss
+      (length n + length c + 9 + one-if-fc (some x) + three-if (with-marker (r .place) (size-of (length n) (length c)))) (r .place .head)
   commits = put-commits q (some x) n c (old-some [] es x entries-is live refl) (ok .well-named .0 live) (ok .bytes .0 live) room
 
   again : List·Permᴰ (with-file n c l) l
@@ -130,7 +148,10 @@ module _ {l : Ledger} {im : Image} {r : Reading} (q : Rested l im r) (x : Entry)
   -- cut anywhere, the files are those of the ledger
   pub copy-safe : Safe (Inv l) im ss
   copy-safe =
-      let k : Commits l (with-file n c l) im ss (length n + length c + 9 + one-if-fc (some x) + three-if (with-marker (r .place) (size-of (length n) (length c)))) (r .place .head) = commits in
+      let k : Commits l (with-file n c l) im ss
+          (length n + length c + 9 + one-if-fc (some x) + three-if (with-marker (r .place) (size-of (length n) (length c))))
+          (r .place .head) = commits in
+      
       subst (Safe (Inv l) im) (sym (k .is))
       (safe-append (Inv l) im (k .before) (k .commit ∷ k .behind) (k .safe-before) (
         safe-end (Inv l) im (k .before) (k .safe-before),
@@ -150,16 +171,22 @@ module _ {l : Ledger} {im : Image} {r : Reading} (q : Rested l im r) (x : Entry)
       here = subst (λ (fs : List Entry). Laid im (q .h) (q .S) (q .t) fs seg-none (blanks (q .B)) (blanks (q .F))) i (q .laid)
 
       same-head : commits .rested .h ≡ x .at
-      same-head = sym (ap (λ (y : Reading). y .place .head) (commits .rested .is)) ∙ commits .head ∙ ap (λ (y : Reading). y .place .head) (q .is) ∙ sym (first-is here)
+      same-head =
+          sym (ap (λ (y : Reading). y .place .head) (commits .rested .is)) ∙ commits .head ∙ ap (λ (y : Reading). y .place .head) (q .is)
+              ∙ sym (first-is here)
 
       ends : run im ss ≡ set (run im (last-delete (r .place) x n c .0)) (x .at + 2) 0
       ends = ap (run im) (last-delete (r .place) x n c .1) ∙ run-append im (last-delete (r .place) x n c .0) (program (x .at + 2) 0 ∷ [])
 
-      go : (y : Rec) × (rest : List Entry) × (commits .rested .es ≡ record { at = commits .rested .h; it = y } ∷ rest) → Dead-first (commits .rested .es)
+      go : (y : Rec) × (rest : List Entry) × (commits .rested .es ≡ record {
+        at = commits .rested .h;
+        it = y;
+      } ∷ rest) → Dead-first (commits .rested .es)
       go w =
           let f : Entry = record { at = commits .rested .h; it = w .0 } in
           subst Dead-first (sym (w .2))
-          (dead-first f (w .1) (record { name = n; content = c }) (without n l) (head-dead (commits .rested) (x .at) (run im (last-delete (r .place) x n c .0)) same-head ends (w .0) (w .1) (w .2))
+          (dead-first f (w .1) (record { name = n; content = c }) (without n l)
+              (head-dead (commits .rested) (x .at) (run im (last-delete (r .place) x n c .0)) same-head ends (w .0) (w .1) (w .2))
           (subst (λ (fs : List Entry). Matches fs (with-file n c l)) (w .2) (commits .rested .ok .matches)))
 
   -- at the end: rested, and the head's record is dead

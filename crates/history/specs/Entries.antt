@@ -38,7 +38,8 @@ entries-append at (r ∷ xs) ys =
     (entries-append (at + rsize r) xs ys ∙ ap (λ (n : ℕ). entries-of (at + rsize r) xs ++ entries-of n ys) (add-assoc at (rsize r) (sizes xs)))
 
 -- what is in each record is fine in each entry
-pub entries-fine : (at : ℕ) (rs : List Rec) (es : List Entry) → All-fine rs → Each (λ (e : Entry). Fine (e .it)) es → Each (λ (e : Entry). Fine (e .it)) (entries-of at rs ++ es)
+pub entries-fine : (at : ℕ) (rs : List Rec) (es : List Entry) → All-fine rs → Each (λ (e : Entry). Fine (e .it)) es
+    → Each (λ (e : Entry). Fine (e .it)) (entries-of at rs ++ es)
 entries-fine at [] es f g = g
 entries-fine at (r ∷ rs) es f g = (f .0, entries-fine (at + rsize r) rs es (f .1) g)
 
@@ -51,7 +52,8 @@ pub record Among (at : ℕ) (rs : List Rec) (xs : List Entry) (e : Entry) (ys : 
   pub left : xs ≡ entries-of at before
   pub right : ys ≡ entries-of (e .at + rsize (e .it)) after
 
-among-on : {at : ℕ} {r : Rec} {rs : List Rec} {x e : Entry} {xs ys : List Entry} → record { at = at; it = r } ≡ x → Among (at + rsize r) rs xs e ys → Among at (r ∷ rs) (x ∷ xs) e ys
+among-on : {at : ℕ} {r : Rec} {rs : List Rec} {x e : Entry} {xs ys : List Entry} → record { at = at; it = r } ≡ x → Among (at + rsize r) rs xs e ys
+    → Among at (r ∷ rs) (x ∷ xs) e ys
 among-on {at} {r} p m =
     record {
       before = r ∷ m .before;
@@ -94,7 +96,8 @@ module _ {at : ℕ} {rs : List Rec} {xs ys : List Entry} {e : Entry} (m : Among 
     -- the entries with r in its place
     pub entries-with : xs ++ (record { at = e .at; it = r } ∷ ys) ≡ entries-of at (m .before ++ (r ∷ m .after))
     entries-with =
-        ap₂ (λ (l k : List Entry). l ++ (record { at = e .at; it = r } ∷ k)) (m .left) (m .right ∙ ap (λ (n : ℕ). entries-of (e .at + n) (m .after)) (sym same))
+        ap₂ (λ (l k : List Entry). l ++ (record { at = e .at; it = r } ∷ k)) (m .left)
+            (m .right ∙ ap (λ (n : ℕ). entries-of (e .at + n) (m .after)) (sym same))
         ∙ ap (λ (n : ℕ). entries-of at (m .before) ++ entries-of n (r ∷ m .after)) (m .there)
         ∙ sym (entries-append at (m .before) (r ∷ m .after))
 
@@ -102,8 +105,11 @@ module _ {at : ℕ} {rs : List Rec} {xs ys : List Entry} {e : Entry} (m : Among 
     pub sizes-with : sizes (m .before ++ (r ∷ m .after)) ≡ sizes rs
     sizes-with =
         let k : rsize r + sizes (m .after) ≡ rsize (e .it) + sizes (m .after) = ap (λ (n : ℕ). n + sizes (m .after)) same in
-        sizes-append (m .before) (r ∷ m .after) ∙ ap (λ (n : ℕ). sizes (m .before) + n) k ∙ sym (sizes-append (m .before) (e .it ∷ m .after)) ∙ ap sizes (sym (m .is))
+        sizes-append (m .before) (r ∷ m .after) ∙ ap (λ (n : ℕ). sizes (m .before) + n) k ∙ sym (sizes-append (m .before) (e .it ∷ m .after))
+            ∙ ap sizes (sym (m .is))
 
     -- the records are still fine
     pub fine-with : All-fine rs → Fine r → All-fine (m .before ++ (r ∷ m .after))
-    fine-with f g = fine-append (m .before) (r ∷ m .after) (fine-left (m .before) (e .it ∷ m .after) (fine-all f)) (g, fine-right (m .before) (e .it ∷ m .after) (fine-all f) .1)
+    fine-with f g =
+        fine-append (m .before) (r ∷ m .after) (fine-left (m .before) (e .it ∷ m .after) (fine-all f))
+            (g, fine-right (m .before) (e .it ∷ m .after) (fine-all f) .1)

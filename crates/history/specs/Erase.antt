@@ -38,15 +38,19 @@ pub erase-mid : (p q s : List ℕ) (a : ℕ) → length p ≡ a → length q ≡
 erase-mid p q s a e l = rw (take-at p (q ++ s) a e, drop-at p (q ++ s) a e, drop-at q s 4096 l)
 
 -- j sectors of q, from its start
-pub erase-run : (j a : ℕ) (p q s : List ℕ) → length p ≡ a → 4096 * j ≤ length q → run (p ++ (q ++ s)) (erases a j) ≡ p ++ (blanks (4096 * j) ++ (drop (4096 * j) q ++ s))
+pub erase-run : (j a : ℕ) (p q s : List ℕ) → length p ≡ a → 4096 * j ≤ length q
+    → run (p ++ (q ++ s)) (erases a j) ≡ p ++ (blanks (4096 * j) ++ (drop (4096 * j) q ++ s))
 erase-run zero a p q s e l = refl
 erase-run (suc j) a p q s e l =
     let q₁ : List ℕ = take 4096 q in
     let q₂ : List ℕ = drop 4096 q in
     let i : 4096 + 4096 * j ≡ 4096 * suc j = omega arith in
-    let c : p ++ (q ++ s) ≡ p ++ (q₁ ++ (q₂ ++ s)) = ap (λ (l : List ℕ). p ++ l) (ap (λ (l : List ℕ). l ++ s) (sym (take-append-drop 4096 q)) ∙ append-assoc q₁ q₂ s) in
+    let c : p ++ (q ++ s) ≡ p ++ (q₁ ++ (q₂ ++ s)) = ap (λ (l : List ℕ). p ++ l)
+        (ap (λ (l : List ℕ). l ++ s) (sym (take-append-drop 4096 q)) ∙ append-assoc q₁ q₂ s) in
+    
     ap (λ (m : List ℕ). run m (erases a (suc j))) c
-    ∙ ap (λ (m : List ℕ). run m (erases (a + 4096) j)) (erase-mid p q₁ (q₂ ++ s) a e (length-take-le 4096 q (omega arith)) ∙ sym (append-assoc p sector (q₂ ++ s)))
+    ∙ ap (λ (m : List ℕ). run m (erases (a + 4096) j))
+        (erase-mid p q₁ (q₂ ++ s) a e (length-take-le 4096 q (omega arith)) ∙ sym (append-assoc p sector (q₂ ++ s)))
     ∙ erase-run j (a + 4096) (p ++ sector) q₂ s (omega (arith, length-append p sector, length-sector)) (omega (arith, length-drop 4096 q))
     ∙ append-assoc p sector (blanks (4096 * j) ++ (drop (4096 * j) q₂ ++ s))
     ∙ ap (λ (m : List ℕ). p ++ m) (sym (append-assoc sector (blanks (4096 * j)) (drop (4096 * j) q₂ ++ s))
@@ -58,7 +62,9 @@ unfolding sectors-by
 sectors-more zero zero a b e l = refl
 sectors-more (suc n) zero a b e l = rw (sectors-by, lt-leb (a + 4096) b (omega arith))
 sectors-more zero (suc k) a b e l = absurd (not-suc-le-zero l)
-sectors-more (suc n) (suc k) a b e l = rw (sectors-by, le-leb (a + 4096) b (omega arith)) (ap (λ (m : List Step). erase a ∷ m) (sectors-more n k (a + 4096) b (omega arith) (omega arith)))
+sectors-more (suc n) (suc k) a b e l =
+    rw (sectors-by, le-leb (a + 4096) b (omega arith))
+        (ap (λ (m : List Step). erase a ∷ m) (sectors-more n k (a + 4096) b (omega arith) (omega arith)))
 
 -- from a to b, in sectors
 pub sectors-are : (k a b : ℕ) → a + 4096 * k ≡ b → map erase (sectors a b) ≡ erases a k
@@ -82,7 +88,8 @@ half-erased i k q = blanks (4096 * i) ++ take (4096 * (k - i)) (drop (4096 * i) 
 pub half-erased-length : (i k : ℕ) (q : List ℕ) → i ≤ k → 4096 * k ≤ length q → length (half-erased i k q) ≡ 4096 * k
 half-erased-length i k q h l =
     length-append (blanks (4096 * i)) (take (4096 * (k - i)) (drop (4096 * i) q))
-    ∙ ap₂ _+_ (length-replicate (4096 * i) 255) (length-take-le (4096 * (k - i)) (drop (4096 * i) q) (omega (arith, length-drop (4096 * i) q))) ∙ omega arith
+    ∙ ap₂ _+_ (length-replicate (4096 * i) 255) (length-take-le (4096 * (k - i)) (drop (4096 * i) q) (omega (arith, length-drop (4096 * i) q)))
+        ∙ omega arith
 
 -- all k of them: FF
 pub all-erased : (k : ℕ) (q : List ℕ) → half-erased k k q ≡ blanks (4096 * k)
@@ -101,7 +108,8 @@ erase-cut i k a pre q s e l h =
     ap (λ (x : List ℕ). x ++ s) (sym (take-append-drop m d)) ∙ append-assoc (take m d) (drop m d) s
     ∙ ap (λ (x : List ℕ). take m d ++ (x ++ s)) (drop-drop m (4096 * i) q ∙ ap (λ (y : ℕ). drop y q) n) in
     ap (run (pre ++ (q ++ s))) (take-erases i k a h) ∙ erase-run i a pre q s e (omega arith)
-    ∙ ap (λ (x : List ℕ). pre ++ (blanks (4096 * i) ++ x)) c ∙ ap (λ (x : List ℕ). pre ++ x) (sym (append-assoc (blanks (4096 * i)) (take m d) (drop (4096 * k) q ++ s)))
+    ∙ ap (λ (x : List ℕ). pre ++ (blanks (4096 * i) ++ x)) c
+        ∙ ap (λ (x : List ℕ). pre ++ x) (sym (append-assoc (blanks (4096 * i)) (take m d) (drop (4096 * k) q ++ s)))
 
 -- from the second sector on q has no mark: so neither has what is left
 module _ (k r : ℕ) (q : List ℕ) (long : length q ≡ 4096 * suc k + 8 * r) (quiet : Quiet (512 * k + r) (drop 4096 q)) where
@@ -110,7 +118,8 @@ module _ (k r : ℕ) (q : List ℕ) (long : length q ≡ 4096 * suc k + 8 * r) (
       let e : 512 * k + r ≡ 512 * i + (512 * (k - i) + r) = omega arith in
       let d : 4096 + 8 * (512 * i) ≡ 4096 * suc i = omega arith in
       subst (λ (n : ℕ). Quiet (512 * (k - i) + r) (drop n q)) d
-      (rw (drop-drop (8 * (512 * i)) 4096 q) at (quiet-drop (512 * i) (512 * (k - i) + r) (drop 4096 q) (subst (λ (n : ℕ). Quiet n (drop 4096 q)) e quiet)))
+      (rw (drop-drop (8 * (512 * i)) 4096 q) at
+          (quiet-drop (512 * i) (512 * (k - i) + r) (drop 4096 q) (subst (λ (n : ℕ). Quiet n (drop 4096 q)) e quiet)))
 
   -- what is left behind the sectors has no mark
   pub quiet-lost : Quiet r (drop (4096 * suc k) q)
@@ -130,7 +139,8 @@ module _ (k r : ℕ) (q : List ℕ) (long : length q ≡ 4096 * suc k + 8 * r) (
       (quiet-append (512 * suc i) (512 * (k - i)) (blanks (4096 * suc i)) (take m d) (length-replicate (4096 * suc i) 255 ∙ omega arith) b a)
 
 -- the head's first sector holds its header, so the rest of it has no mark
-pub quiet-second : (x : Rec) (lost z : List ℕ) (l w : ℕ) → length lost ≡ 8 * l → 8 * l < 4096 → Quiet (511 - l + w) (body (x .name) (x .content) z) → Quiet w (drop 4096 (lost ++ onto x z))
+pub quiet-second : (x : Rec) (lost z : List ℕ) (l w : ℕ) → length lost ≡ 8 * l → 8 * l < 4096 → Quiet (511 - l + w) (body (x .name) (x .content) z)
+    → Quiet w (drop 4096 (lost ++ onto x z))
 quiet-second x lost z l w e h q =
     let n : 4096 - 8 * l ≡ 8 + 8 * (511 - l) = omega arith in
     let d : drop 4096 (lost ++ onto x z) ≡ drop (8 * (511 - l)) (body (x .name) (x .content) z) =

@@ -33,10 +33,13 @@ use Rattle.history.specs.Turned.{open-ff}
 
 -- ---- one sector of a part without marks
 
-quiet-swap : (j n r : ℕ) (u q w s : List ℕ) → length u ≡ 8 * j → length q ≡ 8 * n → length s ≡ 8 * n → Quiet n s → Quiet (j + (n + r)) (u ++ (q ++ w)) → Quiet (j + (n + r)) (u ++ (s ++ w))
+quiet-swap : (j n r : ℕ) (u q w s : List ℕ) → length u ≡ 8 * j → length q ≡ 8 * n → length s ≡ 8 * n → Quiet n s → Quiet (j + (n + r)) (u ++ (q ++ w))
+    → Quiet (j + (n + r)) (u ++ (s ++ w))
 quiet-swap j n r u q w s lu lq ls qs h =
     let a : Quiet j u = quiet-take j (n + r) u (q ++ w) lu h in
-    let d : Quiet (n + r) (q ++ w) = subst (λ (m : List ℕ). Quiet (n + r) m) (drop-at u (q ++ w) (8 * j) lu) (quiet-drop j (n + r) (u ++ (q ++ w)) h) in
+    let d : Quiet (n + r) (q ++ w) = subst (λ (m : List ℕ). Quiet (n + r) m) (drop-at u (q ++ w) (8 * j) lu) (quiet-drop j (n + r) (u ++ (q ++ w)) h)
+        in
+    
     let b : Quiet r w = subst (λ (m : List ℕ). Quiet r m) (drop-at q w (8 * n) lq) (quiet-drop n r (q ++ w) d) in
     quiet-append j (n + r) u (s ++ w) lu a (quiet-append n r s w ls qs b)
 
@@ -69,7 +72,8 @@ module _ {s : List ℕ} {j : ℕ} (c : Cut s j) where
   blanked-length : length blanked ≡ length s
   blanked-length =
       length-append (c .u) (sector ++ c .w)
-      ∙ ap (λ (n : ℕ). length (c .u) + n) (length-append sector (c .w) ∙ ap (λ (n : ℕ). n + length (c .w)) (length-sector ∙ sym (c .lq)) ∙ sym (length-append (c .q) (c .w)))
+      ∙ ap (λ (n : ℕ). length (c .u) + n)
+          (length-append sector (c .w) ∙ ap (λ (n : ℕ). n + length (c .w)) (length-sector ∙ sym (c .lq)) ∙ sym (length-append (c .q) (c .w)))
       ∙ sym (length-append (c .u) (c .q ++ c .w)) ∙ ap length (sym (c .is))
 
   blanked-quiet : (f : ℕ) → length s ≡ 8 * f → j % 8 ≡ 0 → Quiet f s → Quiet f blanked
@@ -77,18 +81,21 @@ module _ {s : List ℕ} {j : ℕ} (c : Cut s j) where
       let n : f ≡ j / 8 + (512 + (f - 512 - j / 8)) =
       omega (arith, ap length (c .is), length-append (c .u) (c .q ++ c .w), length-append (c .q) (c .w), c .lu, c .lq) in
       subst (λ (m : ℕ). Quiet m blanked) (sym n)
-      (quiet-swap (j / 8) 512 (f - 512 - j / 8) (c .u) (c .q) (c .w) sector (omega (arith, c .lu)) (c .lq) length-sector (quiet-ff 512 sector sector-is)
+      (quiet-swap (j / 8) 512 (f - 512 - j / 8) (c .u) (c .q) (c .w) sector (omega (arith, c .lu)) (c .lq) length-sector
+          (quiet-ff 512 sector sector-is)
       (subst (λ (m : ℕ). Quiet m (c .u ++ (c .q ++ c .w))) n (subst (λ (m : List ℕ). Quiet f m) (c .is) h)))
 
   -- the erase, in an image where the part stands at address a
   blanked-is : (pre post : List ℕ) (a z : ℕ) → length pre ≡ a → a + j ≡ z → apply (pre ++ (s ++ post)) (erase z) ≡ pre ++ (blanked ++ post)
   blanked-is pre post a z p e =
       ap (λ (l : List ℕ). apply l (erase z))
-      (ap (λ (l : List ℕ). pre ++ (l ++ post)) (c .is) ∙ ap (λ (l : List ℕ). pre ++ l) (append-assoc (c .u) (c .q ++ c .w) post ∙ ap (λ (l : List ℕ). c .u ++ l) (append-assoc (c .q) (c .w) post))
+      (ap (λ (l : List ℕ). pre ++ (l ++ post)) (c .is)
+          ∙ ap (λ (l : List ℕ). pre ++ l) (append-assoc (c .u) (c .q ++ c .w) post ∙ ap (λ (l : List ℕ). c .u ++ l) (append-assoc (c .q) (c .w) post))
       ∙ sym (append-assoc pre (c .u) (c .q ++ (c .w ++ post))))
       ∙ erase-mid (pre ++ c .u) (c .q) (c .w ++ post) z (length-append pre (c .u) ∙ omega (arith, c .lu)) (c .lq)
       ∙ append-assoc pre (c .u) (sector ++ (c .w ++ post))
-      ∙ ap (λ (l : List ℕ). pre ++ l) (ap (λ (l : List ℕ). c .u ++ l) (sym (append-assoc sector (c .w) post)) ∙ sym (append-assoc (c .u) (sector ++ c .w) post))
+      ∙ ap (λ (l : List ℕ). pre ++ l)
+          (ap (λ (l : List ℕ). c .u ++ l) (sym (append-assoc sector (c .w) post)) ∙ sym (append-assoc (c .u) (sector ++ c .w) post))
 
 -- ---- one erase of a vacant image
 
@@ -103,12 +110,14 @@ pub record Mid (N h S lim : ℕ) (t : Bool) (es : List Entry) (im : Image) : Typ
   pub vac : Vacant h S t es im
   pub ends : S + length (vac .free) ≡ lim
 
-front-blanked : (u q w lost : List ℕ) (j : ℕ) → length u ≡ j → j % 4096 ≡ 0 → (getD ((u ++ (q ++ w)) ++ lost) 1 0 ≡ 90 → ⊥) → getD ((u ++ (sector ++ w)) ++ lost) 1 0 ≡ 90 → ⊥
+front-blanked : (u q w lost : List ℕ) (j : ℕ) → length u ≡ j → j % 4096 ≡ 0 → (getD ((u ++ (q ++ w)) ++ lost) 1 0 ≡ 90 → ⊥)
+    → getD ((u ++ (sector ++ w)) ++ lost) 1 0 ≡ 90 → ⊥
 front-blanked [] q w lost j e z f = subst (λ (s : List ℕ). getD ((s ++ w) ++ lost) 1 0 ≡ 90 → ⊥) (sym sector-is) (second-ff 4096 w lost (omega arith))
 front-blanked (x ∷ []) q w lost j e z f = absurd (omega arith)
 front-blanked (x ∷ y ∷ u) q w lost j e z f = f
 
-low-erase : {im : Image} {h S z : ℕ} {es : List Entry} {below free : List ℕ} → Laid im h S false es seg-none below free → (c : Cut below z) → z % 4096 ≡ 0 →
+low-erase : {im : Image} {h S z : ℕ} {es : List Entry} {below free : List ℕ} → Laid im h S false es seg-none below free → (c : Cut below z)
+    → z % 4096 ≡ 0 →
     Laid (apply im (erase z)) h S false es seg-none (blanked c) free
 low-erase {im} {h} {S} {z} {es} {below} {free} (laid-straight {a} {l} {lost} {x} {ys} f s t₁ S₁ e₁ lf qf) c m =
     laid-straight {x = x} {ys = ys} f
@@ -130,28 +139,41 @@ low-erase (laid-turned s t₁ S₁ e₁ b) c m = let n : _≡_ {A = ℕ} 0 1 = c
 own-blanked : (free : List ℕ) (j m : ℕ) (c : Cut free j) → m ≤ 4096 → j ≡ 0 → take m (blanked c) ≡ blanks m
 own-blanked free j m c l z =
     let u₀ : c .u ≡ [] = c .u-is ∙ ap (λ (i : ℕ). take i free) z in
-    ap (λ (u : List ℕ). take m (u ++ (sector ++ c .w))) u₀ ∙ take-append-le m sector (c .w) (omega (arith, length-sector)) ∙ ap (take m) sector-is ∙ take-blanks m 4096 l
+    ap (λ (u : List ℕ). take m (u ++ (sector ++ c .w))) u₀ ∙ take-append-le m sector (c .w) (omega (arith, length-sector)) ∙ ap (take m) sector-is
+        ∙ take-blanks m 4096 l
 
 own-kept : (free : List ℕ) (j m : ℕ) (c : Cut free j) → take m free ≡ blanks m → m ≤ j → take m (blanked c) ≡ blanks m
 own-kept free j m c e l = take-append-le m (c .u) (sector ++ c .w) (omega (arith, c .lu)) ∙ ap (take m) (c .u-is) ∙ take-take m j free l ∙ e
 
-own-after : (S m z : ℕ) (free : List ℕ) (c : Cut free (z - S)) → S + m ≡ floor S + 4096 → z % 4096 ≡ 0 → ceiling S ≤ z → take m free ≡ blanks m → take m (blanked c) ≡ blanks m
+own-after : (S m z : ℕ) (free : List ℕ) (c : Cut free (z - S)) → S + m ≡ floor S + 4096 → z % 4096 ≡ 0 → ceiling S ≤ z → take m free ≡ blanks m
+    → take m (blanked c) ≡ blanks m
 own-after S m z free c o y l e = go (leb m (z - S)) refl
   where
     go : (b : Bool) → leb m (z - S) ≡ b → take m (blanked c) ≡ blanks m
     go true p = own-kept free (z - S) m c e (leb-true m (z - S) p)
     go false p = let n : z - S < m = leb-false m (z - S) p in own-blanked free (z - S) m c (omega arith) (omega arith)
 
-low-mid : {N h S lim : ℕ} {es : List Entry} {im : Image} (z : ℕ) → Mid N h S lim false es im → z % 4096 ≡ 0 → z + 4096 ≤ floor h → Mid N h S lim false es (apply im (erase z))
+low-mid : {N h S lim : ℕ} {es : List Entry} {im : Image} (z : ℕ) → Mid N h S lim false es im → z % 4096 ≡ 0 → z + 4096 ≤ floor h
+    → Mid N h S lim false es (apply im (erase z))
 low-mid {im = im} z d m l =
     let c : Cut (d .vac .below) z = cut-at (d .vac .below) z (omega (arith, laid-below (d .vac .laid) refl)) in
     record {
       len = erase-length im z (omega (arith, laid-head (d .vac .laid))) ∙ d .len;
-      vac = record { below = blanked c; free = d .vac .free; m = d .vac .m; laid = low-erase (d .vac .laid) c m; own = d .vac .own; whole = d .vac .whole; ff = d .vac .ff };
+      vac =
+          record {
+            below = blanked c;
+            free = d .vac .free;
+            m = d .vac .m;
+            laid = low-erase (d .vac .laid) c m;
+            own = d .vac .own;
+            whole = d .vac .whole;
+            ff = d .vac .ff;
+          };
       ends = d .ends;
     }
 
-mid-erase : {N h S lim : ℕ} {t : Bool} {es : List Entry} {im : Image} {z : ℕ} → Mid N h S lim t es im → Erasable h S lim t z → Mid N h S lim t es (apply im (erase z))
+mid-erase : {N h S lim : ℕ} {t : Bool} {es : List Entry} {im : Image} {z : ℕ} → Mid N h S lim t es im → Erasable h S lim t z
+    → Mid N h S lim t es (apply im (erase z))
 mid-erase {N} {h} {S} {lim} {t} {es} {im} {z} d (low-sector f m l) =
     subst (λ (b : Bool). Mid N h S lim b es im → Mid N h S lim b es (apply im (erase z))) (sym f) (λ c. low-mid z c m l) d
 mid-erase {N} {h} {S} {lim} {t} {es} {im} {z} d (high-sector m g l) =
@@ -161,7 +183,9 @@ mid-erase {N} {h} {S} {lim} {t} {es} {im} {z} d (high-sector m g l) =
     let f : (f : ℕ) × (length (v .free) ≡ 8 * f) × Quiet f (v .free) = free-quiet (v .laid) in
     let e : length (blanked c) ≡ length (v .free) = blanked-length c in
     let own : take (v .m) (blanked c) ≡ blanks (v .m) = own-after S (v .m) z (v .free) c (v .own) m g (v .ff) in
-    let i : apply im (erase z) ≡ k .pre ++ (blanked c ++ k .post) = ap (λ (x : Image). apply x (erase z)) (k .is) ∙ blanked-is c (k .pre) (k .post) S z (k .at) (omega arith) in
+    let i : apply im (erase z) ≡ k .pre ++ (blanked c ++ k .post) = ap (λ (x : Image). apply x (erase z)) (k .is)
+        ∙ blanked-is c (k .pre) (k .post) S z (k .at) (omega arith) in
+    
     record {
       len = erase-length im z (omega (arith, laid-length (v .laid), d .ends)) ∙ d .len;
       vac = record {
@@ -170,7 +194,8 @@ mid-erase {N} {h} {S} {lim} {t} {es} {im} {z} d (high-sector m g l) =
         m = v .m;
         laid = subst (λ (x : Image). Laid x h S t es seg-none (v .below) (blanked c)) (sym i)
             (k .plug seg-none (f .0) (blanked c) Next.Clear (e ∙ f .1) (blanked-quiet c (f .0) (f .1) (omega (arith, laid-eight (v .laid))) (f .2))
-            (open-ff (v .m) (drop (v .m) (blanked c)) (blanked c) (sym (take-append-drop (v .m) (blanked c)) ∙ ap (λ (x : List ℕ). x ++ drop (v .m) (blanked c)) own) (vacant-long v))
+            (open-ff (v .m) (drop (v .m) (blanked c)) (blanked c)
+                (sym (take-append-drop (v .m) (blanked c)) ∙ ap (λ (x : List ℕ). x ++ drop (v .m) (blanked c)) own) (vacant-long v))
             (ap (λ (n : ℕ). 0 + n) e));
         own = v .own;
         whole = omega (arith, v .whole);
@@ -190,7 +215,9 @@ sectors-between zero a b = tt
 sectors-between (suc n) a b = go (leb (a + 4096) b) refl (sectors-between n (a + 4096) b)
   where
     go : (t : Bool) → leb (a + 4096) b ≡ t → Each (Between (a + 4096) b) (sectors-by n (a + 4096) b) → Each (Between a b) (sectors-by (suc n) a b)
-    go true e i = rw (sectors-by, e) ((omega arith, leb-true (a + 4096) b e, refl), each-map (sectors-by n (a + 4096) b) (λ z p. (omega (arith, p .0), p .1, p .2 ∙ omega arith)) i)
+    go true e i =
+        rw (sectors-by, e) ((omega arith, leb-true (a + 4096) b e, refl), each-map (sectors-by n (a + 4096) b)
+            (λ z p. (omega (arith, p .0), p .1, p .2 ∙ omega arith)) i)
     go false e i = rw (sectors-by, e) tt
 
 each-keep : {A : Type 0} (P : A → Type 0) (f : A → Bool) (xs : List A) → Each P xs → Each P (keep f xs)
@@ -201,16 +228,19 @@ each-keep P f (x ∷ xs) p = go (f x) refl (each-keep P f xs (p .1))
     go true e i = subst (Each P) (sym (keep-yes f x xs e)) (p .0, i)
     go false e i = subst (Each P) (sym (keep-no f x xs e)) i
 
-free-erasable : (im : Image) (h S : ℕ) (t : Bool) → length im % 4096 ≡ 0 → Each (Erasable h S (limit (place im h S t)) t) (free-sectors (place im h S t))
+free-erasable : (im : Image) (h S : ℕ) (t : Bool) → length im % 4096 ≡ 0
+    → Each (Erasable h S (limit (place im h S t)) t) (free-sectors (place im h S t))
 unfolding free-sectors Between
 free-erasable im h S true n =
     each-map (sectors (ceiling S) (floor h)) (λ z p. high-sector (p .2 ∙ omega arith) (p .0) (p .1)) (sectors-between (floor h) (ceiling S) (floor h))
 free-erasable im h S false n =
     each-append (Erasable h S (length im) false) (sectors 0 (floor h)) (sectors (ceiling S) (length im))
     (each-map (sectors 0 (floor h)) (λ z p. low-sector refl (p .2 ∙ omega arith) (p .1)) (sectors-between (floor h) 0 (floor h)))
-    (each-map (sectors (ceiling S) (length im)) (λ z p. high-sector (p .2 ∙ omega arith) (p .0) (p .1)) (sectors-between (length im) (ceiling S) (length im)))
+    (each-map (sectors (ceiling S) (length im)) (λ z p. high-sector (p .2 ∙ omega arith) (p .0) (p .1))
+        (sectors-between (length im) (ceiling S) (length im)))
 
-mid-safe : {N h S lim : ℕ} {t : Bool} {es : List Entry} (zs : List ℕ) (im : Image) → Each (Erasable h S lim t) zs → Mid N h S lim t es im → Safe (Mid N h S lim t es) im (map erase zs)
+mid-safe : {N h S lim : ℕ} {t : Bool} {es : List Entry} (zs : List ℕ) (im : Image) → Each (Erasable h S lim t) zs → Mid N h S lim t es im
+    → Safe (Mid N h S lim t es) im (map erase zs)
 mid-safe [] im e d = d
 mid-safe {N} {h} {S} {lim} {t} {es} (z ∷ zs) im e d = (d, sound (e .0), mid-safe zs (apply im (erase z)) (e .1) (mid-erase d (e .0)))
   where
@@ -219,9 +249,11 @@ mid-safe {N} {h} {S} {lim} {t} {es} (z ∷ zs) im e d = (d, sound (e .0), mid-sa
     sound (high-sector m g l) = (m, omega (arith, laid-length (d .vac .laid), d .ends))
 
 -- erases in the free run, cut anywhere
-pub erase-safe : {im : Image} {h S : ℕ} {t : Bool} {es : List Entry} → good-length (length im) ≡ true → Mid (length im) h S (limit (place im h S t)) t es im →
+pub erase-safe : {im : Image} {h S : ℕ} {t : Bool} {es : List Entry} → good-length (length im) ≡ true
+    → Mid (length im) h S (limit (place im h S t)) t es im →
     Safe (Mid (length im) h S (limit (place im h S t)) t es) im (erase-steps im (place im h S t))
 unfolding erase-steps
 erase-safe {im} {h} {S} {t} g d =
     mid-safe (keep (dirty im) (free-sectors (place im h S t))) im
-    (each-keep (Erasable h S (limit (place im h S t)) t) (dirty im) (free-sectors (place im h S t)) (free-erasable im h S t (good-mod (length im) g))) d
+    (each-keep (Erasable h S (limit (place im h S t)) t) (dirty im) (free-sectors (place im h S t)) (free-erasable im h S t (good-mod (length im) g)))
+        d

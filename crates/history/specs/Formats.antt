@@ -46,7 +46,8 @@ format-run raw k f e g =
     run-append raw (map erase (sectors 0 (length raw))) first-steps
     ∙ ap (λ (i : Image). run i first-steps)
     (ap₂ run (sym (append-nil raw)) (sectors-are k 0 (length raw) (omega arith)) ∙ erase-run k 0 [] raw [] refl (omega arith)
-    ∙ ap₂ (λ (x y : List ℕ). x ++ (y ++ [])) (blank-split 16 (8 * f) (4096 * k) (omega arith)) (ap (λ (n : ℕ). drop n raw) (sym e) ∙ drop-length raw) ∙ append-nil (blanks 16 ++ blanks (8 * f)))
+    ∙ ap₂ (λ (x y : List ℕ). x ++ (y ++ [])) (blank-split 16 (8 * f) (4096 * k) (omega arith)) (ap (λ (n : ℕ). drop n raw) (sym e) ∙ drop-length raw)
+        ∙ append-nil (blanks 16 ++ blanks (8 * f)))
     ∙ first-written (blanks (8 * f))
 
 -- ---- the image
@@ -78,7 +79,12 @@ head-dead = refl
 fresh-ok : Ok (head ∷ []) []
 unfolding alive named
 fresh-ok =
-    record { unique = (tt, tt); well-named = ((λ k. let z : false ≡ true = sym head-dead ∙ k in cc), tt); bytes = ((λ k. let z : false ≡ true = sym head-dead ∙ k in tt), tt); matches = List·Permᴰ·nil }
+    record {
+      unique = (tt, tt);
+      well-named = ((λ k. let z : false ≡ true = sym head-dead ∙ k in cc), tt);
+      bytes = ((λ k. let z : false ≡ true = sym head-dead ∙ k in tt), tt);
+      matches = List·Permᴰ·nil;
+    }
 
 fresh-inv : (f : ℕ) → 1 ≤ f → good-length (16 + 8 * f) ≡ true → Inv [] (fresh f)
 fresh-inv f one g =

@@ -43,7 +43,8 @@ finish-sound : {c : ℕ} (k : ℕ) → Begun c → Steps-sound (torn-wrap c k) f
 finish-sound k begun-ff = ((omega arith, refl), ((omega arith, refl), tt))
 finish-sound k begun-5a = ((omega arith, refl), ((omega arith, refl), tt))
 
-module _ {l : Ledger} {im : Image} (a m c k : ℕ) {h : ℕ} {lost : List ℕ} {x : Rec} {ys : List Rec} (s : Straight im a m (blanks (4096 * a)) lost h (x ∷ ys) seg-none (torn-wrap c k))
+module _ {l : Ledger} {im : Image} (a m c k : ℕ) {h : ℕ} {lost : List ℕ} {x : Rec} {ys : List Rec}
+    (s : Straight im a m (blanks (4096 * a)) lost h (x ∷ ys) seg-none (torn-wrap c k))
     (b : Begun c) (z : 1 ≤ a)
     (st : Starts (entries-of h (x ∷ ys))) (ok : Ok (entries-of h (x ∷ ys)) l) (good : good-length (length im) ≡ true) where
   abbrev at : ℕ
@@ -55,7 +56,8 @@ module _ {l : Ledger} {im : Image} (a m c k : ℕ) {h : ℕ} {lost : List ℕ} {
   sound : Steps-sound im (moved at finish)
   sound =
       subst (λ (i : Image). Steps-sound i (moved at finish)) (sym (split-at (x ∷ ys) [] (sym (append-nil (x ∷ ys))) s))
-      (sound-past (front-part (blanks (4096 * a)) lost (x ∷ ys)) (torn-wrap c k) finish at (front-length (x ∷ ys) [] (sym (append-nil (x ∷ ys))) s) tt (finish-sound k b))
+      (sound-past (front-part (blanks (4096 * a)) lost (x ∷ ys)) (torn-wrap c k) finish at (front-length (x ∷ ys) [] (sym (append-nil (x ∷ ys))) s) tt
+          (finish-sound k b))
 
   -- 5A written
   half-inv : Inv l (set im (at + 1) 90)
@@ -76,13 +78,16 @@ module _ {l : Ledger} {im : Image} (a m c k : ℕ) {h : ℕ} {lost : List ℕ} {
       rested-of 0 (4096 * a) (ap good-length (length-set (set im (at + 1) 90) (at + 2) 240 ∙ length-set im (at + 1) 90) ∙ good)
       (laid-turned turned refl refl (sym (append-nil es)) refl) (clear-ff (4096 * a) (omega arith)) st ok
 
-third : (w : Work) (a : ℕ) → Each Finished (w .reading .entries) → w .reading .ending ≡ Ending.TornWrap a → repair-3 w ≡ after w (moved a finish) (w .reading .place .head)
+third : (w : Work) (a : ℕ) → Each Finished (w .reading .entries) → w .reading .ending ≡ Ending.TornWrap a
+    → repair-3 w ≡ after w (moved a finish) (w .reading .place .head)
 unfolding repair-3
-third w a f e = ap₂ (λ (x : List Step) (y : Ending). after w (x ++ torn-wrap-steps y) (w .reading .place .head)) (last-none (w .image) (w .reading .entries) f) e
+third w a f e =
+    ap₂ (λ (x : List Step) (y : Ending). after w (x ++ torn-wrap-steps y) (w .reading .place .head)) (last-none (w .image) (w .reading .entries) f) e
 
 -- the kind half: mount finishes the marker
 pub mends-half :
-    {l : Ledger} {im : Image} (a m c k : ℕ) {h : ℕ} {lost : List ℕ} {x : Rec} {ys : List Rec} → Inv l im → Straight im a m (blanks (4096 * a)) lost h (x ∷ ys) seg-none (torn-wrap c k) →
+    {l : Ledger} {im : Image} (a m c k : ℕ) {h : ℕ} {lost : List ℕ} {x : Rec} {ys : List Rec} → Inv l im
+        → Straight im a m (blanks (4096 * a)) lost h (x ∷ ys) seg-none (torn-wrap c k) →
     Begun c → 1 ≤ a →
     Starts (entries-of h (x ∷ ys)) → Ok (entries-of h (x ∷ ys)) l → Mends l im
 mends-half {l} {im} a m c k {h} {lost} {x} {ys} i s b z st ok =
@@ -93,7 +98,9 @@ mends-half {l} {im} a m c k {h} {lost} {x} {ys} i s b z st ok =
     subst (Each (λ e. Fine (e .it))) (append-nil es) (entries-fine h (x ∷ ys) [] (s .fine) tt) in
     let d : Steps-sound im (moved at finish) = sound a m c k s b z st ok (i .good) in
     let q : Rested l (run im (moved at finish)) (reading-from (run im (moved at finish)) h) = rested a m c k s b z st ok (i .good) in
-    let p : Rests l im (moved at finish) h = record { safe = (i, d .0, (half-inv a m c k s b z st ok (i .good), d .1 .0, rested-inv q)); rested = q } in
+    let p : Rests l im (moved at finish) h = record { safe = (i, d .0, (half-inv a m c k s b z st ok (i .good), d .1 .0, rested-inv q)); rested = q }
+        in
+    
     mends-3 {r = r} (torn-wrap-whole k s b z refl (st .0) (calm-ruled (record { at = h; it = x }) (entries-of (h + rsize x) ys)
     (calm-of (record { at = h; it = x }) (entries-of (h + rsize x) ys) l f (st .1) ok)))
     p (some-behind [] (program (at + 2) 240 ∷ []) (program (at + 1) 90))

@@ -26,13 +26,16 @@ use Rattle.history.specs.Vacant.{relow-alive, rested-inv}
 use Rattle.history.specs.LaidRead.{low-plain}
 
 -- the second record stands behind the head, or at 0 after the turn
-second-at : (h : ℕ) (x y : Entry) (es : List Entry) (r : Rec) (ys low : List Rec) → x ∷ y ∷ es ≡ entries-of h (r ∷ ys) ++ entries-of 0 low → Lowered h y 160
+second-at : (h : ℕ) (x y : Entry) (es : List Entry) (r : Rec) (ys low : List Rec) → x ∷ y ∷ es ≡ entries-of h (r ∷ ys) ++ entries-of 0 low
+    → Lowered h y 160
 second-at h x y es r [] [] e = absurd (let z : _≡_ {A = ℕ} 0 1 = cc in omega arith)
 second-at h x y es r [] (s ∷ low) e = low-zero (let p : y ≡ record { at = 0; it = s } = cc in ap (λ (z : Entry). z .at) p) refl
 second-at h x y es r (s ∷ ys) low e = low-high (let p : y ≡ record { at = h + rsize r; it = s } = cc in omega (arith, ap (λ (z : Entry). z .at) p))
 
-second-low : {im : Image} {h S : ℕ} {t : Bool} {x y : Entry} {es : List Entry} {g : Seg} {below free : List ℕ} → Laid im h S t (x ∷ y ∷ es) g below free → Lowered h y 160
-second-low {h = h} {x = x} {y} {es} (laid-straight {x = r} {ys} f s a b c l q) = second-at h x y es r ys [] (c ∙ sym (append-nil (entries-of h (r ∷ ys))))
+second-low : {im : Image} {h S : ℕ} {t : Bool} {x y : Entry} {es : List Entry} {g : Seg} {below free : List ℕ}
+    → Laid im h S t (x ∷ y ∷ es) g below free → Lowered h y 160
+second-low {h = h} {x = x} {y} {es} (laid-straight {x = r} {ys} f s a b c l q) =
+    second-at h x y es r ys [] (c ∙ sym (append-nil (entries-of h (r ∷ ys))))
 second-low {h = h} {x = x} {y} {es} (laid-turned {low = low} {x = r} {ys} s a b c e) = second-at h x y es r ys low c
 
 -- only Y's address counts
@@ -40,7 +43,8 @@ close-same : (N : ℕ) (x y : Entry) (r : Rec) → close-steps N x (record { at 
 unfolding close-steps vacated-end
 close-same N x y r = refl
 
-module _ {l : Ledger} {im : Image} {r : Reading} (q : Rested l im r) (x y : Entry) (es : List Entry) (i : q .es ≡ x ∷ y ∷ es) (dead : alive x ≡ false) where
+module _ {l : Ledger} {im : Image} {r : Reading} (q : Rested l im r) (x y : Entry) (es : List Entry) (i : q .es ≡ x ∷ y ∷ es) (dead : alive x ≡ false)
+    where
   d : Laid im (q .h) (q .S) (q .t) (x ∷ y ∷ es) seg-none (blanks (q .B)) (blanks (q .F))
   d = subst (λ (fs : List Entry). Laid im (q .h) (q .S) (q .t) fs seg-none (blanks (q .B)) (blanks (q .F))) i (q .laid)
 
@@ -59,8 +63,10 @@ module _ {l : Ledger} {im : Image} {r : Reading} (q : Rested l im r) (x y : Entr
   rests : Rests l (set im (y .at) 160) (close-steps (length im) x y) (y .at)
   unfolding cleaned
   rests =
-      subst (λ (ss : List Step). Rests l (set im (y .at) 160) ss (y .at)) (ap (λ (N : ℕ). close-steps N x cleaned) (length-set im (y .at) 160) ∙ close-same (length im) x y (relow 160 (y .it)))
-      (close-rests (q .B) (q .F) (ap good-length (length-set im (y .at) 160) ∙ q .good) (relow-laid (x ∷ []) es y d 160 low-clean (second-low d)) (q .tail) (st .0) dead refl (st .1 .1)
+      subst (λ (ss : List Step). Rests l (set im (y .at) 160) ss (y .at))
+          (ap (λ (N : ℕ). close-steps N x cleaned) (length-set im (y .at) 160) ∙ close-same (length im) x y (relow 160 (y .it)))
+      (close-rests (q .B) (q .F) (ap good-length (length-set im (y .at) 160) ∙ q .good) (relow-laid (x ∷ []) es y d 160 low-clean (second-low d))
+          (q .tail) (st .0) dead refl (st .1 .1)
       (ok-same (x ∷ []) es y cleaned l (subst (λ (fs : List Entry). Ok fs l) i (q .ok)) (relow-alive y 160) refl refl))
 
   -- steps (b) to (f)

@@ -24,7 +24,8 @@ use Rattle.history.specs.Quiet.{mark-nil}
 abbrev sought-at : List ℕ → ℕ
 sought-at image = sought image (walk (suc (length image)) 0 image)
 
-head-by : (image : List ℕ) (a : ℕ) (h : Answer ℕ) → start-here image ≡ false → wrap-here image ≡ false → sought-at image ≡ a → chosen image a ≡ h → head image ≡ h
+head-by : (image : List ℕ) (a : ℕ) (h : Answer ℕ) → start-here image ≡ false → wrap-here image ≡ false → sought-at image ≡ a → chosen image a ≡ h
+    → head image ≡ h
 unfolding head
 head-by image a h e₁ e₂ e₃ e₄ = rw (head, e₁, e₂, e₃) e₄
 
@@ -32,21 +33,25 @@ chosen-start : (image : List ℕ) (a : ℕ) → start-here (drop a image) ≡ tr
 unfolding chosen
 chosen-start image a e = rw (chosen, e)
 
-chosen-clean : (image : List ℕ) (a : ℕ) → start-here (drop a image) ≡ false → clean-here (drop a image) ≡ true → clean-here image ≡ false → chosen image a ≡ give a
+chosen-clean : (image : List ℕ) (a : ℕ) → start-here (drop a image) ≡ false → clean-here (drop a image) ≡ true → clean-here image ≡ false
+    → chosen image a ≡ give a
 unfolding chosen
 chosen-clean image a e₁ e₂ e₃ = rw (chosen, e₁, e₂, e₃)
 
-chosen-none : (image : List ℕ) (a : ℕ) → start-here (drop a image) ≡ false → clean-here (drop a image) ≡ false → clean-here image ≡ true → chosen image a ≡ give 0
+chosen-none : (image : List ℕ) (a : ℕ) → start-here (drop a image) ≡ false → clean-here (drop a image) ≡ false → clean-here image ≡ true
+    → chosen image a ≡ give 0
 unfolding chosen
 chosen-none image a e₁ e₂ e₃ = rw (chosen, e₁, e₂, e₃)
 
 -- where the walk of the whole image ends
-module _ (low : List Rec) (by : ℕ) (s g : List ℕ) (f : All-fine low) (w : Walked 0 low) (l : Lands (sizes low) by s g) (room : 1 ≤ length (lay low s)) where
+module _ (low : List Rec) (by : ℕ) (s g : List ℕ) (f : All-fine low) (w : Walked 0 low) (l : Lands (sizes low) by s g) (room : 1 ≤ length (lay low s))
+    where
   walked : walk (suc (length (lay low s))) 0 (lay low s) ≡ sizes low + by
   walked =
       let m : ℕ = length (lay low s) - suc (length low) in
       let i : suc (length (lay low s)) ≡ length low + suc (suc m) = omega (arith, length-lay low s, lots low) in
-      ap (λ (k : ℕ). walk k 0 (lay low s)) i ∙ walk-lay low (suc (suc m)) 0 s f w ∙ ap (λ (a : ℕ). walk (suc (suc m)) a s) (zero-add (sizes low)) ∙ l .lands m
+      ap (λ (k : ℕ). walk k 0 (lay low s)) i ∙ walk-lay low (suc (suc m)) 0 s f w ∙ ap (λ (a : ℕ). walk (suc (suc m)) a s) (zero-add (sizes low))
+          ∙ l .lands m
 
   left : drop (walk (suc (length (lay low s))) 0 (lay low s)) (lay low s) ≡ g
   left = ap (λ (a : ℕ). drop a (lay low s)) walked ∙ drop-lay low s (by) ∙ l .there
@@ -87,7 +92,16 @@ pub reaches-quiet : (at j : ℕ) (g t : List ℕ) → length g ≡ 8 * suc j →
 reaches-quiet at j g t e q = go (torn-here (g ++ t)) refl
   where
     go : (b : Bool) → torn-here (g ++ t) ≡ b → Reaches₁ at (g ++ t) t (8 * suc j)
-    go false h = record { by = 0; g = g; j = suc j; land = lands-quiet at (g ++ t) (mark-append g t (omega arith) ∙ q .0) h; whole = e; quiet = q; far = zero-add (8 * suc j) }
+    go false h =
+        record {
+          by = 0;
+          g = g;
+          j = suc j;
+          land = lands-quiet at (g ++ t) (mark-append g t (omega arith) ∙ q .0) h;
+          whole = e;
+          quiet = q;
+          far = zero-add (8 * suc j);
+        }
     go true h =
         record {
           by = 8;
@@ -100,7 +114,8 @@ reaches-quiet at j g t e q = go (torn-here (g ++ t)) refl
         }
 
 -- the same, or nothing before a head that isn't at 0
-pub reaches-gap : {b : ℕ} (at j : ℕ) (g t : List ℕ) → length g ≡ 8 * j → Quiet j g → Head-low b → (at ≡ 0 → ⊥) → Reaches₁ at (g ++ (b ∷ 90 ∷ t)) (b ∷ 90 ∷ t) (8 * j)
+pub reaches-gap : {b : ℕ} (at j : ℕ) (g t : List ℕ) → length g ≡ 8 * j → Quiet j g → Head-low b → (at ≡ 0 → ⊥)
+    → Reaches₁ at (g ++ (b ∷ 90 ∷ t)) (b ∷ 90 ∷ t) (8 * j)
 reaches-gap at zero [] t e q h n = reaches-head at t h n
 reaches-gap at zero (x ∷ g) t e q h n = absurd (omega arith)
 reaches-gap {b} at (suc j) g t e q h n = reaches-quiet at j g (b ∷ 90 ∷ t) e q
@@ -117,7 +132,8 @@ quiet-name-begun s begun-none = refl
 quiet-name-begun s begun-end = refl
 
 -- behind a torn record
-pub reaches-torn : {c t : ℕ} (at x y z w j : ℕ) (g s : List ℕ) → Begun c → Name-begun t → length g ≡ 8 * j → Quiet j g → Reaches₁ at (torn c (x ∷ y ∷ z ∷ w ∷ []) t (g ++ s)) s (16 + 8 * j)
+pub reaches-torn : {c t : ℕ} (at x y z w j : ℕ) (g s : List ℕ) → Begun c → Name-begun t → length g ≡ 8 * j → Quiet j g
+    → Reaches₁ at (torn c (x ∷ y ∷ z ∷ w ∷ []) t (g ++ s)) s (16 + 8 * j)
 reaches-torn {c} {t} at x y z w j g s b n e q =
     record {
       by = 8;
@@ -130,7 +146,8 @@ reaches-torn {c} {t} at x y z w j g s b n e q =
     }
 
 -- behind a record whose name was not ended
-pub reaches-begun : {m : ℕ} (at d : ℕ) (n s t : List ℕ) → Fit d n → Reaches₁ (at + size-of (length n) d) s t m → Reaches at (begun d n s) t (size-of (length n) d + m)
+pub reaches-begun : {m : ℕ} (at d : ℕ) (n s t : List ℕ) → Fit d n → Reaches₁ (at + size-of (length n) d) s t m
+    → Reaches at (begun d n s) t (size-of (length n) d + m)
 reaches-begun at d n s t f r =
     record {
       by = size-of (length n) d + r .by;
@@ -146,7 +163,8 @@ reaches-begun at d n s t f r =
     }
 
 -- behind a record that was not committed
-pub reaches-held : {m : ℕ} (at : ℕ) (n c s t : List ℕ) → Fit (length c) n → Reaches₁ (at + size-of (length n) (length c)) s t m → Reaches at (onto (held n c) s) t (size-of (length n) (length c) + m)
+pub reaches-held : {m : ℕ} (at : ℕ) (n c s t : List ℕ) → Fit (length c) n → Reaches₁ (at + size-of (length n) (length c)) s t m
+    → Reaches at (onto (held n c) s) t (size-of (length n) (length c) + m)
 reaches-held at n c s t f z =
     record {
       by = size-of (length n) (length c) + z .by;
@@ -154,7 +172,8 @@ reaches-held at n c s t f z =
       j = z .j;
       land = record {
         lands = λ k. walk-held (suc k) at n c s f ∙ z .land .lands k ∙ add-assoc at (size-of (length n) (length c)) (z .by);
-        there = sym (drop-drop (z .by) (size-of (length n) (length c)) (onto (held n c) s)) ∙ ap (drop (z .by)) (drop-onto (held n c) s) ∙ z .land .there;
+        there =
+            sym (drop-drop (z .by) (size-of (length n) (length c)) (onto (held n c) s)) ∙ ap (drop (z .by)) (drop-onto (held n c) s) ∙ z .land .there;
       };
       whole = z .whole;
       quiet = z .quiet;
@@ -206,10 +225,13 @@ front-wrap (front-begun {s}) w = low-wrap (getD s 0 0)
 found : {b : ℕ} (low : List Rec) (s t : List ℕ) (m : ℕ) → All-fine low → Walked 0 low → Head-low b → Reaches (sizes low) s (b ∷ 90 ∷ t) m →
     sought-at (lay low s) ≡ sizes low + m
 found {b} low s t m f w h r =
-    let e : length s - r .by ≡ length (r .g) + length (b ∷ 90 ∷ t) = sym (length-drop (r .by) s) ∙ ap length (r .land .there) ∙ length-append (r .g) (b ∷ 90 ∷ t) in
+    let e : length s - r .by ≡ length (r .g) + length (b ∷ 90 ∷ t) = sym (length-drop (r .by) s) ∙ ap length (r .land .there)
+        ∙ length-append (r .g) (b ∷ 90 ∷ t) in
+    
     let p : 8 * r .j + 2 + length t + r .by ≤ length s = omega (arith, r .whole) in
     searched low (r .by) s (r .g ++ (b ∷ 90 ∷ t)) f w (r .land) (omega (arith, length-lay low s)) (sizes low + m)
-    (search-found (r .j) (length (lay low s)) (sizes low + r .by) (r .g) t (r .whole) (r .quiet) h (omega (arith, length-lay low s)) ∙ omega (arith, r .far))
+    (search-found (r .j) (length (lay low s)) (sizes low + r .by) (r .g) t (r .whole) (r .quiet) h (omega (arith, length-lay low s))
+        ∙ omega (arith, r .far))
 
 there-is : {b : ℕ} (low : List Rec) (s t : List ℕ) (m : ℕ) → Reaches (sizes low) s (b ∷ 90 ∷ t) m → drop (sizes low + m) (lay low s) ≡ b ∷ 90 ∷ t
 there-is {b} low s t m r =
@@ -229,17 +251,20 @@ unfolding is-clean is-high
 clean-is t = refl
 
 -- START is found, whatever else there is
-pub head-start : (low : List Rec) (s t : List ℕ) (m : ℕ) → All-fine low → Walked 0 low → Front low s → Reaches (sizes low) s (0 ∷ 90 ∷ t) m → head (lay low s) ≡ give (sizes low + m)
+pub head-start : (low : List Rec) (s t : List ℕ) (m : ℕ) → All-fine low → Walked 0 low → Front low s → Reaches (sizes low) s (0 ∷ 90 ∷ t) m
+    → head (lay low s) ≡ give (sizes low + m)
 head-start low s t m f w p r =
     head-by (lay low s) (sizes low + m) (give (sizes low + m)) (front-start p w) (front-wrap p w) (found low s t m f w is-START r)
     (chosen-start (lay low s) (sizes low + m) (ap start-here (there-is low s t m r) ∙ start-is t))
 
 -- CLEAN is found, if the image doesn't begin with CLEAN
-pub head-clean : (low : List Rec) (s t : List ℕ) (m : ℕ) → All-fine low → Walked 0 low → Front low s → clean-here (lay low s) ≡ false → Reaches (sizes low) s (160 ∷ 90 ∷ t) m →
+pub head-clean : (low : List Rec) (s t : List ℕ) (m : ℕ) → All-fine low → Walked 0 low → Front low s → clean-here (lay low s) ≡ false
+    → Reaches (sizes low) s (160 ∷ 90 ∷ t) m →
     head (lay low s) ≡ give (sizes low + m)
 head-clean low s t m f w p c r =
     head-by (lay low s) (sizes low + m) (give (sizes low + m)) (front-start p w) (front-wrap p w) (found low s t m f w is-CLEAN r)
-    (chosen-clean (lay low s) (sizes low + m) (ap start-here (there-is low s t m r) ∙ clean-no-start t) (ap clean-here (there-is low s t m r) ∙ clean-is t) c)
+    (chosen-clean (lay low s) (sizes low + m) (ap start-here (there-is low s t m r) ∙ clean-no-start t)
+        (ap clean-here (there-is low s t m r) ∙ clean-is t) c)
 
 -- START at 0
 pub head-zero : (t : List ℕ) → head (0 ∷ 90 ∷ t) ≡ give 0
@@ -262,7 +287,8 @@ nothing low s m f w l r =
     let e : length s - r .by ≡ length (r .g) + 0 = sym (length-drop (r .by) s) ∙ ap length (r .land .there) ∙ length-append (r .g) [] in
     searched low (r .by) s (r .g ++ []) f w (r .land) l (sizes low + m)
     (ap (search (length (lay low s)) (sizes low + r .by)) (append-nil (r .g))
-    ∙ search-none (r .j) (length (lay low s)) (sizes low + r .by) (r .g) (r .whole) (r .quiet) (omega (arith, length-lay low s, r .whole)) ∙ omega (arith, r .far))
+    ∙ search-none (r .j) (length (lay low s)) (sizes low + r .by) (r .g) (r .whole) (r .quiet) (omega (arith, length-lay low s, r .whole))
+        ∙ omega (arith, r .far))
 
 none-there : (low : List Rec) (s : List ℕ) (m : ℕ) → Reaches (sizes low) s [] m → drop (sizes low + m) (lay low s) ≡ []
 none-there low s m r =
@@ -270,8 +296,10 @@ none-there low s m r =
     ∙ drop-at (r .g) [] (8 * r .j) (r .whole)
 
 -- no head is found, and CLEAN stands at 0: 0 is the head
-pub head-none : (low : List Rec) (s : List ℕ) (m : ℕ) → All-fine low → Walked 0 low → Front low s → clean-here (lay low s) ≡ true → 1 ≤ length (lay low s) → Reaches (sizes low) s [] m →
+pub head-none : (low : List Rec) (s : List ℕ) (m : ℕ) → All-fine low → Walked 0 low → Front low s → clean-here (lay low s) ≡ true
+    → 1 ≤ length (lay low s) → Reaches (sizes low) s [] m →
     head (lay low s) ≡ give 0
 head-none low s m f w p c l r =
     head-by (lay low s) (sizes low + m) (give 0) (front-start p w) (front-wrap p w) (nothing low s m f w l r)
-    (chosen-none (lay low s) (sizes low + m) (ap start-here (none-there low s m r) ∙ no-start [] mark-nil) (ap clean-here (none-there low s m r) ∙ no-clean [] mark-nil) c)
+    (chosen-none (lay low s) (sizes low + m) (ap start-here (none-there low s m r) ∙ no-start [] mark-nil)
+        (ap clean-here (none-there low s m r) ∙ no-clean [] mark-nil) c)

@@ -41,7 +41,8 @@ module _ {l : Ledger} (w : Work) (q : Rested l (w .image) (w .reading)) where
   idle-2 = ap (repair-2 w) entries-is ∙ two-plain w (q .es) (q .starts)
 
   idle-3 : repair-3 w ≡ w
-  idle-3 = three-none w (subst (Each Finished) (sym entries-is) (fine-finished (q .es) (laid-fine (q .laid)))) (ap (λ (r : Reading). r .ending) (q .is))
+  idle-3 =
+      three-none w (subst (Each Finished) (sym entries-is) (fine-finished (q .es) (laid-fine (q .laid)))) (ap (λ (r : Reading). r .ending) (q .is))
 
   idle-4 : repair-4 w ≡ w
   idle-4 = four-none w (subst Unique (sym entries-is) (q .ok .unique))
@@ -74,8 +75,15 @@ module _ {l : Ledger} {im : Image} {r : Reading} (reads : reading im ≡ give r)
   mends-none i q =
       let w : Work = begin im r in
       let m : mended im r ≡ w =
-      ap (λ (v : Work). repair-4 (repair-3 (repair-2-on v))) (idle-1 w q) ∙ ap (λ (v : Work). repair-4 (repair-3 v)) (idle-2 w q) ∙ ap repair-4 (idle-3 w q) ∙ idle-4 w q in
-      record { r = r; reads = reads; needs = needs-none q; safe = subst (λ (v : Work). Safe (Inv l) im (v .steps)) (sym m) i; rested = subst (λ (v : Work). Rested l (run im (v .steps)) (v .reading)) (sym m) q }
+      ap (λ (v : Work). repair-4 (repair-3 (repair-2-on v))) (idle-1 w q) ∙ ap (λ (v : Work). repair-4 (repair-3 v)) (idle-2 w q)
+          ∙ ap repair-4 (idle-3 w q) ∙ idle-4 w q in
+      record {
+        r = r;
+        reads = reads;
+        needs = needs-none q;
+        safe = subst (λ (v : Work). Safe (Inv l) im (v .steps)) (sym m) i;
+        rested = subst (λ (v : Work). Rested l (run im (v .steps)) (v .reading)) (sym m) q;
+      }
 
   module _ {ss : List Step} {h : ℕ} (q : Rests l im ss h) (some : ss ≡ [] → ⊥) where
     -- the image that these steps leave, as it is read
@@ -112,22 +120,29 @@ module _ {l : Ledger} {im : Image} {r : Reading} (reads : reading im ≡ give r)
     -- repair 1 alone has steps
     pub mends-1 : repair-1 (begin im r) ≡ after (begin im r) ss h → Mends l im
     unfolding mended
-    mends-1 e = mends-by (ap (λ (v : Work). repair-4 (repair-3 (repair-2-on v))) (done (repair-1 (begin im r)) e) ∙ ap (λ (v : Work). repair-4 (repair-3 v)) then-2 ∙ ap repair-4 then-3 ∙ then-4)
+    mends-1 e =
+        mends-by (ap (λ (v : Work). repair-4 (repair-3 (repair-2-on v))) (done (repair-1 (begin im r)) e)
+            ∙ ap (λ (v : Work). repair-4 (repair-3 v)) then-2 ∙ ap repair-4 then-3 ∙ then-4)
 
     -- repair 2 alone
     pub mends-2 : repair-1 (begin im r) ≡ begin im r → repair-2-on (begin im r) ≡ after (begin im r) ss h → Mends l im
     unfolding mended
     mends-2 a e =
-        mends-by (ap (λ (v : Work). repair-4 (repair-3 (repair-2-on v))) a ∙ ap (λ (v : Work). repair-4 (repair-3 v)) (done (repair-2-on (begin im r)) e) ∙ ap repair-4 then-3 ∙ then-4)
+        mends-by (ap (λ (v : Work). repair-4 (repair-3 (repair-2-on v))) a
+            ∙ ap (λ (v : Work). repair-4 (repair-3 v)) (done (repair-2-on (begin im r)) e) ∙ ap repair-4 then-3 ∙ then-4)
 
     -- repair 3 alone
-    pub mends-3 : repair-1 (begin im r) ≡ begin im r → repair-2-on (begin im r) ≡ begin im r → repair-3 (begin im r) ≡ after (begin im r) ss h → Mends l im
+    pub mends-3 : repair-1 (begin im r) ≡ begin im r → repair-2-on (begin im r) ≡ begin im r → repair-3 (begin im r) ≡ after (begin im r) ss h
+        → Mends l im
     unfolding mended
     mends-3 a b e =
-        mends-by (ap (λ (v : Work). repair-4 (repair-3 (repair-2-on v))) a ∙ ap (λ (v : Work). repair-4 (repair-3 v)) b ∙ ap repair-4 (done (repair-3 (begin im r)) e) ∙ then-4)
+        mends-by (ap (λ (v : Work). repair-4 (repair-3 (repair-2-on v))) a ∙ ap (λ (v : Work). repair-4 (repair-3 v)) b
+            ∙ ap repair-4 (done (repair-3 (begin im r)) e) ∙ then-4)
 
     -- repair 4 alone
-    pub mends-4 : repair-1 (begin im r) ≡ begin im r → repair-2-on (begin im r) ≡ begin im r → repair-3 (begin im r) ≡ begin im r → repair-4 (begin im r) ≡ after (begin im r) ss h → Mends l im
+    pub mends-4 : repair-1 (begin im r) ≡ begin im r → repair-2-on (begin im r) ≡ begin im r → repair-3 (begin im r) ≡ begin im r
+        → repair-4 (begin im r) ≡ after (begin im r) ss h → Mends l im
     unfolding mended
     mends-4 a b c e =
-        mends-by (ap (λ (v : Work). repair-4 (repair-3 (repair-2-on v))) a ∙ ap (λ (v : Work). repair-4 (repair-3 v)) b ∙ ap repair-4 c ∙ done (repair-4 (begin im r)) e)
+        mends-by (ap (λ (v : Work). repair-4 (repair-3 (repair-2-on v))) a ∙ ap (λ (v : Work). repair-4 (repair-3 v)) b ∙ ap repair-4 c
+            ∙ done (repair-4 (begin im r)) e)

@@ -61,20 +61,24 @@ place im h T t = record { head = h; tail = T; turned = t; length = length im }
 -- the six kinds
 pub data Kind (im : Image) (l : Ledger) : Type 0 where
   quiet :
-      {h S T : ℕ} (B F : ℕ) {t u : Bool} {es : List Entry} {seg : Seg} → Laid im h S t es seg (blanks B) (blanks F) → Tail h S t seg (blanks B) (blanks F) T u →
+      {h S T : ℕ} (B F : ℕ) {t u : Bool} {es : List Entry} {seg : Seg} → Laid im h S t es seg (blanks B) (blanks F)
+          → Tail h S t seg (blanks B) (blanks F) T u →
       Starts es → Ok es l → Kind im l
   half :
-      (a m c k : ℕ) {h : ℕ} {lost : List ℕ} {x : Rec} {ys : List Rec} → Straight im a m (blanks (4096 * a)) lost h (x ∷ ys) seg-none (torn-wrap c k) → Begun c → 1 ≤ a →
+      (a m c k : ℕ) {h : ℕ} {lost : List ℕ} {x : Rec} {ys : List Rec} → Straight im a m (blanks (4096 * a)) lost h (x ∷ ys) seg-none (torn-wrap c k)
+          → Begun c → 1 ≤ a →
       Starts (entries-of h (x ∷ ys)) → Ok (entries-of h (x ∷ ys)) l → Kind im l
   shadow :
       {h S T : ℕ} (B F : ℕ) {t u : Bool} (xs ys : List Entry) (o : Entry) → Laid im h S t (xs ++ (o ∷ ys)) seg-none (blanks B) (blanks F) →
       Tail h S t seg-none (blanks B) (blanks F) T u → Starts (xs ++ (o ∷ ys)) → Shadowed xs ys o → Ok (xs ++ ys) l → Kind im l
   clean :
       {h S T : ℕ} (B F : ℕ) {t u : Bool} {x y : Entry} {es : List Entry} → Laid im h S t (x ∷ y ∷ es) seg-none (blanks B) (blanks F) →
-      Tail h S t seg-none (blanks B) (blanks F) T u → x .it .low ≡ 0 → alive x ≡ false → y .it .low ≡ 160 → Each Unmarked es → Ok (x ∷ y ∷ es) l → Kind im l
+      Tail h S t seg-none (blanks B) (blanks F) T u → x .it .low ≡ 0 → alive x ≡ false → y .it .low ≡ 160 → Each Unmarked es → Ok (x ∷ y ∷ es) l
+          → Kind im l
   both :
       {h S T : ℕ} (B F : ℕ) {t u : Bool} {x y : Entry} {es : List Entry} → Laid im h S t (x ∷ y ∷ es) seg-none (blanks B) (blanks F) →
-      Tail h S t seg-none (blanks B) (blanks F) T u → x .it .low ≡ 0 → alive x ≡ false → Cleaned (x .it) → y .it .low ≡ 0 → floor (y .at) ≡ floor h → Each Unmarked es →
+      Tail h S t seg-none (blanks B) (blanks F) T u → x .it .low ≡ 0 → alive x ≡ false → Cleaned (x .it) → y .it .low ≡ 0 → floor (y .at) ≡ floor h
+          → Each Unmarked es →
       Ok (x ∷ y ∷ es) l → Kind im l
   vacated :
       {h S T : ℕ} {t u : Bool} {x : Entry} {es : List Entry} {below free : List ℕ} → Laid im h S t (x ∷ es) seg-none below free →

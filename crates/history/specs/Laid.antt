@@ -21,10 +21,12 @@ use Rattle.history.specs.Quiet.{blank-split}
 -- free, up to N before the turn (t false) and up to floor(h) after it. below are the bytes of [0, floor(h)) before the turn.
 pub data Laid (im : Image) (h S : ℕ) (t : Bool) (es : List Entry) (seg : Seg) (below free : List ℕ) : Type 0 where
   laid-straight :
-      {a l : ℕ} {lost : List ℕ} {x : Rec} {ys : List Rec} (f : ℕ) → Straight im a l below lost h (x ∷ ys) seg free → t ≡ false → S ≡ h + sizes (x ∷ ys) →
+      {a l : ℕ} {lost : List ℕ} {x : Rec} {ys : List Rec} (f : ℕ) → Straight im a l below lost h (x ∷ ys) seg free → t ≡ false
+          → S ≡ h + sizes (x ∷ ys) →
       es ≡ entries-of h (x ∷ ys) → length free ≡ 8 * f → Quiet f free → Laid im h S t es seg below free
   laid-turned :
-      {a l f : ℕ} {lost : List ℕ} {low : List Rec} {x : Rec} {ys : List Rec} {end : End} → Turned im a l lost h low seg f free (x ∷ ys) end → t ≡ true → S ≡ sizes low →
+      {a l f : ℕ} {lost : List ℕ} {low : List Rec} {x : Rec} {ys : List Rec} {end : End} → Turned im a l lost h low seg f free (x ∷ ys) end → t ≡ true
+          → S ≡ sizes low →
       es ≡ entries-of h (x ∷ ys) ++ entries-of 0 low → below ≡ [] → Laid im h S t es seg below free
 
 -- ---- the hole at S
@@ -36,10 +38,12 @@ pub record Hole (im : Image) (h S : ℕ) (t : Bool) (es : List Entry) (seg : Seg
   pub is : im ≡ pre ++ seg-onto seg (free ++ post)
   pub at : length pre ≡ S
   pub plug :
-      (g : Seg) (f : ℕ) (new : List ℕ) (x : Next) → length new ≡ 8 * f → Quiet f new → Opens new x → seg-size g + length new ≡ seg-size seg + length free →
+      (g : Seg) (f : ℕ) (new : List ℕ) (x : Next) → length new ≡ 8 * f → Quiet f new → Opens new x
+          → seg-size g + length new ≡ seg-size seg + length free →
       Laid (pre ++ seg-onto g (new ++ post)) h S t es g below new
   pub grow :
-      (r : Rec) (f : ℕ) (new : List ℕ) (x : Next) → Fine r → r .low ≡ 165 → length new ≡ 8 * f → Quiet f new → Opens new x → rsize r + length new ≡ seg-size seg + length free →
+      (r : Rec) (f : ℕ) (new : List ℕ) (x : Next) → Fine r → r .low ≡ 165 → length new ≡ 8 * f → Quiet f new → Opens new x
+          → rsize r + length new ≡ seg-size seg + length free →
       Laid (pre ++ onto r (new ++ post)) h (S + rsize r) t (es ++ (record { at = S; it = r } ∷ [])) seg-none below new
 
 -- ---- one record
@@ -58,7 +62,10 @@ pub record Inside (im : Image) (h S : ℕ) (t : Bool) (xs : List Entry) (e : Ent
   pub at : length pre ≡ e .at
   pub fine : Fine (e .it)
   pub swap :
-      (r : Rec) → rsize r ≡ rsize (e .it) → Fine r → Lowered h e (r .low) → Laid (pre ++ onto r post) h S t (xs ++ (record { at = e .at; it = r } ∷ ys)) seg below free
+      (r : Rec) → rsize r ≡ rsize (e .it) → Fine r → Lowered h e (r .low) → Laid (pre ++ onto r post) h S t (xs ++ (record {
+        at = e .at;
+        it = r;
+      } ∷ ys)) seg below free
 
 -- ---- the tail
 

@@ -37,7 +37,8 @@ Zero a d (program b zero) = (a ≤ b) × (b < a + d)
 Zero a d (program b (suc v)) = ⊥
 Zero a d (erase b) = ⊥
 
-mark-zeros : (a b d : ℕ) (s : List ℕ) (rest : List Step) → b ≤ a → (1 ≤ length s → a + length s ≤ b + d) → Each (Zero b d) rest → Each (Zero b d) (mark-steps a s ++ rest)
+mark-zeros : (a b d : ℕ) (s : List ℕ) (rest : List Step) → b ≤ a → (1 ≤ length s → a + length s ≤ b + d) → Each (Zero b d) rest
+    → Each (Zero b d) (mark-steps a s ++ rest)
 mark-zeros a b d s rest l h r = go (mark-here s) refl
   where
     go : (m : Bool) → mark-here s ≡ m → Each (Zero b d) (mark-steps a s ++ rest)
@@ -65,13 +66,15 @@ record Data (P Q : List ℕ) (d : ℕ) (im : Image) : Type 0 where
 set-data : (P Q c : List ℕ) (a b : ℕ) → length P ≡ a → a ≤ b → b < a + length c → set (P ++ (c ++ Q)) b 0 ≡ P ++ (set c (b - a) 0 ++ Q)
 set-data P Q c a b e l h =
     let n : b ≡ length P + (b - a) = omega arith in
-    ap (λ (m : ℕ). set (P ++ (c ++ Q)) m 0) n ∙ set-past P (c ++ Q) (b - a) 0 ∙ ap (λ (m : List ℕ). P ++ m) (set-append-left c Q (b - a) 0 (omega arith))
+    ap (λ (m : ℕ). set (P ++ (c ++ Q)) m 0) n ∙ set-past P (c ++ Q) (b - a) 0
+        ∙ ap (λ (m : List ℕ). P ++ m) (set-append-left c Q (b - a) 0 (omega arith))
 
 zeros-safe : (P Q : List ℕ) (a d : ℕ) → length P ≡ a → (ss : List Step) → Each (Zero a d) ss → (im : Image) → Data P Q d im → Safe (Data P Q d) im ss
 zeros-safe P Q a d e [] z im c = c
 zeros-safe P Q a d e (program b zero ∷ ss) z im c = (
   c,
-  (subst (λ (i : Image). b < length i) (sym (c .is)) (omega (arith, length-append P (c .now ++ Q), length-append (c .now) Q, z .0 .1, c .sized)), refl),
+  (subst (λ (i : Image). b < length i) (sym (c .is)) (omega (arith, length-append P (c .now ++ Q), length-append (c .now) Q, z .0 .1, c .sized)),
+      refl),
   zeros-safe P Q a d e ss (z .1) (set im b 0)
       (record {
         now = set (c .now) (b - a) 0;
@@ -84,11 +87,14 @@ zeros-safe P Q a d e (erase b ∷ ss) z im c = absurd (z .0)
 
 same-mid : (P Q u v : List ℕ) → P ++ (u ++ Q) ≡ P ++ (v ++ Q) → length u ≡ length v → u ≡ v
 same-mid P Q u v e l =
-    sym (take-at u Q (length u) refl) ∙ ap (take (length u)) (sym (drop-at P (u ++ Q) (length P) refl) ∙ ap (drop (length P)) e ∙ drop-at P (v ++ Q) (length P) refl) ∙ take-at v Q (length u) (sym l)
+    sym (take-at u Q (length u) refl)
+        ∙ ap (take (length u)) (sym (drop-at P (u ++ Q) (length P) refl) ∙ ap (drop (length P)) e ∙ drop-at P (v ++ Q) (length P) refl)
+        ∙ take-at v Q (length u) (sym l)
 
 mid-length : (P Q u v : List ℕ) → length u ≡ length v → length (P ++ (u ++ Q)) ≡ length (P ++ (v ++ Q))
 mid-length P Q u v e =
-    length-append P (u ++ Q) ∙ ap (λ (n : ℕ). length P + n) (length-append u Q ∙ ap (λ (n : ℕ). n + length Q) e ∙ sym (length-append v Q)) ∙ sym (length-append P (v ++ Q))
+    length-append P (u ++ Q) ∙ ap (λ (n : ℕ). length P + n) (length-append u Q ∙ ap (λ (n : ℕ). n + length Q) e ∙ sym (length-append v Q))
+        ∙ sym (length-append P (v ++ Q))
 
 -- ---- no mark: from the data to the record
 
@@ -105,7 +111,9 @@ mark-pad (x ∷ y ∷ s) p e = e
 drop-pad : (n : ℕ) (s : List ℕ) (p : ℕ) → (k : ℕ) × (drop n (s ++ blanks p) ≡ drop n s ++ blanks k)
 drop-pad zero s p = (p, refl)
 drop-pad (suc n) [] zero = (0, refl)
-drop-pad (suc n) [] (suc p) = let r : (k : ℕ) × (drop n ([] ++ blanks p) ≡ drop n [] ++ blanks k) = drop-pad n [] p in (r .0, r .1 ∙ ap (λ (l : List ℕ). l ++ blanks (r .0)) (drop-nil n))
+drop-pad (suc n) [] (suc p) =
+    let r : (k : ℕ) × (drop n ([] ++ blanks p) ≡ drop n [] ++ blanks k) = drop-pad n [] p in
+    (r .0, r .1 ∙ ap (λ (l : List ℕ). l ++ blanks (r .0)) (drop-nil n))
 drop-pad (suc n) (x ∷ s) p = drop-pad n s p
 
 quiet-pad : (k : ℕ) (s : List ℕ) (p : ℕ) → Quiet k s → Quiet k (s ++ blanks p)
@@ -153,7 +161,8 @@ anew-alive x c = refl
 
 -- ---- the data of a record on an image
 
-module _ {im : Image} {h S : ℕ} {t : Bool} {x : Entry} {ys : List Entry} {seg : Seg} {below free : List ℕ} (I : Inside im h S t [] x ys seg below free) where
+module _ {im : Image} {h S : ℕ} {t : Bool} {x : Entry} {ys : List Entry} {seg : Seg} {below free : List ℕ}
+    (I : Inside im h S t [] x ys seg below free) where
   abbrev d : ℕ
   d = length (content-of x)
 
@@ -173,7 +182,8 @@ module _ {im : Image} {h S : ℕ} {t : Bool} {x : Entry} {ys : List Entry} {seg 
   unfolding data-front
   back c e =
       append-assoc (I .pre) (data-front (x .it) d) (c ++ Q)
-      ∙ ap (λ (m : List ℕ). I .pre ++ m) (ap (λ (n : ℕ). data-front (x .it) n ++ (c ++ (blanks (pad n) ++ I .post))) (sym e) ∙ sym (front-split (recontent c (x .it)) (I .post)))
+      ∙ ap (λ (m : List ℕ). I .pre ++ m)
+          (ap (λ (n : ℕ). data-front (x .it) n ++ (c ++ (blanks (pad n) ++ I .post))) (sym e) ∙ sym (front-split (recontent c (x .it)) (I .post)))
 
   start : im ≡ P ++ (content-of x ++ Q)
   start = I .is ∙ sym (back (content-of x) refl)
@@ -199,7 +209,8 @@ module _ {im : Image} {h S : ℕ} {t : Bool} {x : Entry} {ys : List Entry} {seg 
   all-clean : (c : Data P Q d (run im steps)) → Cleaned (recontent (c .now) (x .it))
   all-clean c =
       let done : Clean-now d P (content-of x) Q (run im steps) =
-      subst (λ (i : Image). Clean-now d P (content-of x) Q (run i steps)) (sym start) (clean-done d (data-at x) P (content-of x) Q P-length (omega arith)) in
+      subst (λ (i : Image). Clean-now d P (content-of x) Q (run i steps)) (sym start)
+          (clean-done d (data-at x) P (content-of x) Q P-length (omega arith)) in
       let same : done .now ≡ c .now = same-mid P Q (done .now) (c .now) (sym (done .is) ∙ c .is) (done .same-length ∙ sym (c .sized)) in
       cleaned-by (recontent (c .now) (x .it)) (I .fine .fit .plain) (subst₂ (λ (n : ℕ) (s : List ℕ). Quiet n s) (sym (c .sized)) same (done .quiet))
 
@@ -218,20 +229,25 @@ pub record Swept (l : Ledger) (im : Image) (ss : List Step) (h S B F : ℕ) (t :
 -- step (c) on a laid image
 pub sweep-data :
     {l : Ledger} {im : Image} {h S : ℕ} (B F : ℕ) {t : Bool} {x y : Entry} {es : List Entry} → good-length (length im) ≡ true →
-    Laid im h S t (x ∷ y ∷ es) seg-none (blanks B) (blanks F) → Tail h S t seg-none (blanks B) (blanks F) S t → x .it .low ≡ 0 → alive x ≡ false → y .it .low ≡ 160 → Each Unmarked es →
+    Laid im h S t (x ∷ y ∷ es) seg-none (blanks B) (blanks F) → Tail h S t seg-none (blanks B) (blanks F) S t → x .it .low ≡ 0 → alive x ≡ false
+        → y .it .low ≡ 160 → Each Unmarked es →
     Ok (x ∷ y ∷ es) l → Swept l im (clean-steps (length (content-of x)) (data-at x) (content-of x)) h S B F t x y es
 sweep-data {l} {im} {h} {S} B F {t} {x} {y} {es} g ld tl lx dead ly un ok = go (inside-of ld [] (y ∷ es) x refl)
   where
     oks : (c : List ℕ) → Ok (anew x c ∷ y ∷ es) l
     oks c = ok-dead [] (y ∷ es) x (anew x c) l ok dead (anew-alive x c ∙ dead)
 
-    go : Inside im h S t [] x (y ∷ es) seg-none (blanks B) (blanks F) → Swept l im (clean-steps (length (content-of x)) (data-at x) (content-of x)) h S B F t x y es
+    go : Inside im h S t [] x (y ∷ es) seg-none (blanks B) (blanks F)
+        → Swept l im (clean-steps (length (content-of x)) (data-at x) (content-of x)) h S B F t x y es
     go I =
         let all : Safe (Data (P I) (Q I) (d I)) im (steps I) = all-zeros I in
         let c : Data (P I) (Q I) (d I) (run im (steps I)) = safe-end (Data (P I) (Q I) (d I)) im (steps I) all in
         record {
           safe = safe-map (Data (P I) (Q I) (d I)) (Inv l)
-              (λ i c. record { good = rw (resized I i c) g; kind = clean B F (relaid I i c) tl lx (anew-alive x (c .now) ∙ dead) ly un (oks (c .now)) }) im (steps I) all;
+              (λ i c. record {
+                good = rw (resized I i c) g;
+                kind = clean B F (relaid I i c) tl lx (anew-alive x (c .now) ∙ dead) ly un (oks (c .now));
+              }) im (steps I) all;
           same = resized I (run im (steps I)) c;
           now = c .now;
           laid = relaid I (run im (steps I)) c;

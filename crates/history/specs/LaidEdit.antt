@@ -48,10 +48,12 @@ module _ {im : Image} {h S : ℕ} {t : Bool} {es : List Entry} {seg : Seg} {belo
   laid-fine = go d
     where
       go : Laid im h S t es seg below free → Each (λ e. Fine (e .it)) es
-      go (laid-straight {x = x} {ys = ys} f s p q r m n) = subst (Each (λ (e : Entry). Fine (e .it))) (append-nil (entries-of h (x ∷ ys)) ∙ sym r) (entries-fine h (x ∷ ys) [] (s .fine) tt)
+      go (laid-straight {x = x} {ys = ys} f s p q r m n) =
+          subst (Each (λ (e : Entry). Fine (e .it))) (append-nil (entries-of h (x ∷ ys)) ∙ sym r) (entries-fine h (x ∷ ys) [] (s .fine) tt)
       go (laid-turned {low = low} {x = x} {ys = ys} s p q r b) =
           subst (Each (λ (e : Entry). Fine (e .it))) (sym r)
-          (entries-fine h (x ∷ ys) (entries-of 0 low) (s .fine-high) (subst (Each (λ (e : Entry). Fine (e .it))) (append-nil (entries-of 0 low)) (entries-fine 0 low [] (s .fine-low) tt)))
+          (entries-fine h (x ∷ ys) (entries-of 0 low) (s .fine-high)
+              (subst (Each (λ (e : Entry). Fine (e .it))) (append-nil (entries-of 0 low)) (entries-fine 0 low [] (s .fine-low) tt)))
 
   -- free ends where the place's stretch does
   pub laid-limit : limit (place im h (S + seg-size seg) t) ≡ S + seg-size seg + length free
@@ -61,7 +63,8 @@ module _ {im : Image} {h S : ℕ} {t : Bool} {es : List Entry} {seg : Seg} {belo
       go (laid-straight f s p q r m n) =
           limit-is im h (S + seg-size seg) (S + seg-size seg + length free) t (λ u. absurd (not-both t p u)) (λ u. straight-length s ∙ omega arith)
       go (laid-turned s p q r b) =
-          limit-is im h (S + seg-size seg) (S + seg-size seg + length free) t (λ u. omega (arith, s .at, s .lost-small, s .below, s .free-length)) (λ u. absurd (not-both t u p))
+          limit-is im h (S + seg-size seg) (S + seg-size seg + length free) t (λ u. omega (arith, s .at, s .lost-small, s .below, s .free-length))
+              (λ u. absurd (not-both t u p))
 
   -- before the turn: the bytes below the head's sector
   pub laid-below : t ≡ false → length below ≡ floor h
@@ -92,7 +95,8 @@ module _ {im : Image} {h S : ℕ} {t : Bool} {es : List Entry} {seg : Seg} {belo
   hole-of = go d
     where
       go : Laid im h S t es seg below free → Hole im h S t es seg below free
-      go (laid-straight f s p q r m n) = subst₃ (λ (n : ℕ) (u : Bool) (fs : List Entry). Hole im h n u fs seg below free) (sym q) (sym p) (sym r) (straight-hole s)
+      go (laid-straight f s p q r m n) =
+          subst₃ (λ (n : ℕ) (u : Bool) (fs : List Entry). Hole im h n u fs seg below free) (sym q) (sym p) (sym r) (straight-hole s)
       go (laid-turned s p q r b) =
           subst (λ (g : List ℕ). Hole im h S t es seg g free) (sym b)
           (subst₃ (λ (n : ℕ) (u : Bool) (fs : List Entry). Hole im h n u fs seg [] free) (sym q) (sym p) (sym r) (turned-hole s))
@@ -103,19 +107,23 @@ module _ {im : Image} {h S : ℕ} {t : Bool} {es : List Entry} {seg : Seg} {belo
     where
       go : Laid im h S t es seg below free → Inside im h S t xs e zs seg below free
       go (laid-straight {x = x} {ys = ys} f s p q r m n) =
-          subst₂ (λ (n : ℕ) (u : Bool). Inside im h n u xs e zs seg below free) (sym q) (sym p) (straight-inside s f m n (among h (x ∷ ys) xs zs e (sym r ∙ k)))
+          subst₂ (λ (n : ℕ) (u : Bool). Inside im h n u xs e zs seg below free) (sym q) (sym p)
+              (straight-inside s f m n (among h (x ∷ ys) xs zs e (sym r ∙ k)))
       go (laid-turned {low = low} {x = x} {ys = ys} s p q r b) =
           subst (λ (g : List ℕ). Inside im h S t xs e zs seg g free) (sym b)
           (subst₂ (λ (n : ℕ) (u : Bool). Inside im h n u xs e zs seg [] free) (sym q) (sym p)
           (two (find (entries-of h (x ∷ ys)) (entries-of 0 low) xs zs e (sym r ∙ k))))
         where
           two : Found (entries-of h (x ∷ ys)) (entries-of 0 low) xs e zs → Inside im h (sizes low) true xs e zs seg [] free
-          two (in-first us p q) = subst (λ (l : List Entry). Inside im h (sizes low) true xs e l seg [] free) (sym q) (high-inside s (among h (x ∷ ys) xs us e p))
-          two (in-second us p q) = subst (λ (l : List Entry). Inside im h (sizes low) true l e zs seg [] free) (sym p) (low-inside s (among 0 low us zs e q))
+          two (in-first us p q) =
+              subst (λ (l : List Entry). Inside im h (sizes low) true xs e l seg [] free) (sym q) (high-inside s (among h (x ∷ ys) xs us e p))
+          two (in-second us p q) =
+              subst (λ (l : List Entry). Inside im h (sizes low) true l e zs seg [] free) (sym p) (low-inside s (among 0 low us zs e q))
 
 -- ---- one byte of a record
 
-module _ {im : Image} {h S : ℕ} {t : Bool} {seg : Seg} {below free : List ℕ} (xs ys : List Entry) (e : Entry) (d : Laid im h S t (xs ++ (e ∷ ys)) seg below free) where
+module _ {im : Image} {h S : ℕ} {t : Bool} {seg : Seg} {below free : List ℕ} (xs ys : List Entry) (e : Entry)
+    (d : Laid im h S t (xs ++ (e ∷ ys)) seg below free) where
   here : Inside im h S t xs e ys seg below free
   here = inside-of d xs ys e refl
 
@@ -131,15 +139,22 @@ module _ {im : Image} {h S : ℕ} {t : Bool} {seg : Seg} {below free : List ℕ}
       ∙ getD-append-add (here .pre) (onto (e .it) (here .post)) k 0
 
   -- a status byte is set
-  pub restatus-laid : (b : ℕ) → Stat b → Laid (set im (e .at + 2) b) h S t (xs ++ (record { at = e .at; it = restatus b (e .it) } ∷ ys)) seg below free
+  pub restatus-laid : (b : ℕ) → Stat b → Laid (set im (e .at + 2) b) h S t (xs ++ (record {
+    at = e .at;
+    it = restatus b (e .it);
+  } ∷ ys)) seg below free
   restatus-laid b s =
       subst (λ (l : List ℕ). Laid l h S t (xs ++ (record { at = e .at; it = restatus b (e .it) } ∷ ys)) seg below free) (sym (set-here 2 b))
       (here .swap (restatus b (e .it)) refl (record { low-ok = here .fine .low-ok; status-ok = s; fit = here .fine .fit }) (low-same refl))
 
   -- a low byte is set
-  pub relow-laid : (b : ℕ) → Low b → Lowered h e b → Laid (set im (e .at) b) h S t (xs ++ (record { at = e .at; it = relow b (e .it) } ∷ ys)) seg below free
+  pub relow-laid : (b : ℕ) → Low b → Lowered h e b → Laid (set im (e .at) b) h S t (xs ++ (record {
+    at = e .at;
+    it = relow b (e .it);
+  } ∷ ys)) seg below free
   relow-laid b s l =
-      subst (λ (l : List ℕ). Laid l h S t (xs ++ (record { at = e .at; it = relow b (e .it) } ∷ ys)) seg below free) (sym (set-here 0 b) ∙ ap (λ (n : ℕ). set im n b) (add-zero (e .at)))
+      subst (λ (l : List ℕ). Laid l h S t (xs ++ (record { at = e .at; it = relow b (e .it) } ∷ ys)) seg below free)
+          (sym (set-here 0 b) ∙ ap (λ (n : ℕ). set im n b) (add-zero (e .at)))
       (here .swap (relow b (e .it)) refl (record { low-ok = s; status-ok = here .fine .status-ok; fit = here .fine .fit }) l)
 
   -- the status byte as it is on the image
@@ -152,7 +167,8 @@ module _ {im : Image} {h S : ℕ} {t : Bool} {seg : Seg} {below free : List ℕ}
 
   -- a record ends inside the image
   pub entry-inside : e .at + rsize (e .it) ≤ length im
-  entry-inside = omega (arith, ap length (here .is), length-append (here .pre) (onto (e .it) (here .post)), here .at, length-lay (e .it ∷ []) (here .post))
+  entry-inside =
+      omega (arith, ap length (here .is), length-append (here .pre) (onto (e .it) (here .post)), here .at, length-lay (e .it ∷ []) (here .post))
 
 -- ---- the turn
 
@@ -167,7 +183,8 @@ turn-laid {im} {h} {S} {B} {F} {es} (laid-straight {a = a} {lost = lost} {x = x}
 turn-laid (laid-turned s p q r e) f b = absurd (not-both false refl p)
 
 -- at N exactly
-pub turn-exact : {im : Image} {h S B : ℕ} {es : List Entry} → Laid im h S false es seg-none (blanks B) [] → 1 ≤ B → Laid im h 0 true es seg-none [] (blanks B)
+pub turn-exact : {im : Image} {h S B : ℕ} {es : List Entry} → Laid im h S false es seg-none (blanks B) [] → 1 ≤ B
+    → Laid im h 0 true es seg-none [] (blanks B)
 turn-exact {im} {h} {S} {B} {es} (laid-straight {a = a} {lost = lost} {x = x} {ys = ys} g s p q r m n) b =
     let k : B ≡ 4096 * a = sym (length-replicate {A = ℕ} B 255) ∙ s .gap-length in
     subst (λ (i : ℕ). Laid im h 0 true es seg-none [] (blanks i)) (sym k)
@@ -175,6 +192,7 @@ turn-exact {im} {h} {S} {B} {es} (laid-straight {a = a} {lost = lost} {x = x} {y
 turn-exact (laid-turned s p q r e) b = absurd (not-both false refl p)
 
 -- the free run is words and has no mark
-pub free-quiet : {im : Image} {h S : ℕ} {t : Bool} {es : List Entry} {seg : Seg} {below free : List ℕ} → Laid im h S t es seg below free → (f : ℕ) × (length free ≡ 8 * f) × Quiet f free
+pub free-quiet : {im : Image} {h S : ℕ} {t : Bool} {es : List Entry} {seg : Seg} {below free : List ℕ} → Laid im h S t es seg below free → (f : ℕ)
+    × (length free ≡ 8 * f) × Quiet f free
 free-quiet (laid-straight f s t₁ S₁ e₁ lf qf) = (f, lf, qf)
 free-quiet (laid-turned {f = f} s t₁ S₁ e₁ b) = (f, s .free-length, s .free-quiet)

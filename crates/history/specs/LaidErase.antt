@@ -34,14 +34,16 @@ pub data Leaves (im : Image) (x y : Entry) (es : List Entry) : Type 0 where
   near : vacated (length im) x y ≡ [] → floor (y .at) ≡ floor (x .at) → x .at ≤ y .at → Leaves im x y es
   far :
       (A k S : ℕ) (t : Bool) → map erase (vacated (length im) x y) ≡ erases A (suc k) → A % 4096 ≡ 0 → A + 4096 * suc k ≤ length im →
-      ((i : ℕ) → i ≤ k → Vacant (y .at) S t (y ∷ es) (run im (take (suc i) (erases A (suc k))))) → Bare (y .at) (y ∷ es) (run im (erases A (suc k))) → Leaves im x y es
+      ((i : ℕ) → i ≤ k → Vacant (y .at) S t (y ∷ es) (run im (take (suc i) (erases A (suc k))))) → Bare (y .at) (y ∷ es) (run im (erases A (suc k)))
+          → Leaves im x y es
 
 -- ---- the sectors
 
 -- an erase inside the image
 pub erase-length : (im : Image) (a : ℕ) → a + 4096 ≤ length im → length (apply im (erase a)) ≡ length im
 erase-length im a h =
-    length-append (take a im) (sector ++ drop 4096 (drop a im)) ∙ ap (λ (n : ℕ). length (take a im) + n) (length-append sector (drop 4096 (drop a im)))
+    length-append (take a im) (sector ++ drop 4096 (drop a im))
+        ∙ ap (λ (n : ℕ). length (take a im) + n) (length-append sector (drop 4096 (drop a im)))
     ∙ omega (arith, length-take-le a im (omega arith), length-sector, length-drop 4096 (drop a im), length-drop a im)
 
 -- erases keep the length
@@ -74,11 +76,15 @@ by-sectors {A} w f g = go (ltb w 512) refl
 
 vacated-none : (N : ℕ) (x y : Entry) → (y .at ≡ 0 → ⊥) → floor (y .at) ≡ floor (x .at) → vacated N x y ≡ []
 unfolding vacated-end
-vacated-none N x y n e = rw (vacated-end, ne-eqb (y .at) 0 n) (no-map (sectors (floor (x .at)) (floor (y .at))) (sectors-are 0 (floor (x .at)) (floor (y .at)) (omega arith)))
+vacated-none N x y n e =
+    rw (vacated-end, ne-eqb (y .at) 0 n)
+        (no-map (sectors (floor (x .at)) (floor (y .at))) (sectors-are 0 (floor (x .at)) (floor (y .at)) (omega arith)))
 
-vacated-all : (N : ℕ) (x y : Entry) (a k : ℕ) → y .at ≡ 0 → floor (x .at) ≡ 4096 * a → N ≡ 4096 * (a + suc k) → map erase (vacated N x y) ≡ erases (4096 * a) (suc k)
+vacated-all : (N : ℕ) (x y : Entry) (a k : ℕ) → y .at ≡ 0 → floor (x .at) ≡ 4096 * a → N ≡ 4096 * (a + suc k)
+    → map erase (vacated N x y) ≡ erases (4096 * a) (suc k)
 unfolding vacated-end
-vacated-all N x y a k z e n = rw (vacated-end, eq-eqb (y .at) 0 z) (ap (λ (b : ℕ). map erase (sectors b N)) e ∙ sectors-are (suc k) (4096 * a) N (omega arith))
+vacated-all N x y a k z e n =
+    rw (vacated-end, eq-eqb (y .at) 0 z) (ap (λ (b : ℕ). map erase (sectors b N)) e ∙ sectors-are (suc k) (4096 * a) N (omega arith))
 
 -- ---- FF in front
 
@@ -87,7 +93,8 @@ pub join-ff : (B n : ℕ) (s : List ℕ) → blanks B ++ (blanks n ++ s) ≡ bla
 join-ff B n s = sym (append-assoc (blanks B) (blanks n) s) ∙ ap (λ (l : List ℕ). l ++ s) (replicate-append-replicate B n 255)
 
 -- a chain that ends at N has turned once there are sectors below the head
-turn-open : {im : List ℕ} {a l : ℕ} {gap lost : List ℕ} {h : ℕ} {high : List Rec} → Straight im a l gap lost h high seg-none [] → Opens gap Next.Clear → 1 ≤ a →
+turn-open : {im : List ℕ} {a l : ℕ} {gap lost : List ℕ} {h : ℕ} {high : List Rec} → Straight im a l gap lost h high seg-none [] → Opens gap Next.Clear
+    → 1 ≤ a →
     Turned im a l lost h [] seg-none (512 * a) gap high exact
 turn-open s o b =
     record {
@@ -109,7 +116,8 @@ turn-open s o b =
 
 -- ---- not turned
 
-module _ {im : Image} {a l : ℕ} {lost : List ℕ} {h : ℕ} {x y : Rec} {ys : List Rec} (B F : ℕ) (s : Straight im a l (blanks B) lost h (x ∷ y ∷ ys) seg-none (blanks F)) (c : Cleaned x)
+module _ {im : Image} {a l : ℕ} {lost : List ℕ} {h : ℕ} {x y : Rec} {ys : List Rec} (B F : ℕ)
+    (s : Straight im a l (blanks B) lost h (x ∷ y ∷ ys) seg-none (blanks F)) (c : Cleaned x)
     (g : good-length (length im) ≡ true) where
   abbrev X : Entry
   X = record { at = h; it = x }
@@ -120,7 +128,8 @@ module _ {im : Image} {a l : ℕ} {lost : List ℕ} {h : ℕ} {x y : Rec} {ys : 
   abbrev E : List Entry
   E = entries-of (h + rsize x + rsize y) ys
 
-  module _ (k r : ℕ) (all : 512 * suc k + r ≡ l + rsize x / 8) (short : r < 512) (f : ℕ) (lf : length (blanks F) ≡ 8 * f) (qf : Quiet f (blanks F)) where
+  module _ (k r : ℕ) (all : 512 * suc k + r ≡ l + rsize x / 8) (short : r < 512) (f : ℕ) (lf : length (blanks F) ≡ 8 * f) (qf : Quiet f (blanks F))
+      where
     abbrev A : ℕ
     A = 4096 * a
 
@@ -133,9 +142,11 @@ module _ {im : Image} {a l : ℕ} {lost : List ℕ} {h : ℕ} {x y : Rec} {ys : 
     sectors-in : A + 4096 * suc k ≤ length im
     sectors-in = omega (arith, s .at, rsize-words x, straight-length s)
 
-    all-ff : Straight (run im (erases A (suc k))) (a + suc k) r (blanks (B + 4096 * suc k)) (drop (4096 * suc k) q) (h + rsize x) (y ∷ ys) seg-none (blanks F)
+    all-ff : Straight (run im (erases A (suc k))) (a + suc k) r (blanks (B + 4096 * suc k)) (drop (4096 * suc k) q) (h + rsize x) (y ∷ ys) seg-none
+        (blanks F)
     all-ff =
-        subst (λ (g : List ℕ). Straight (run im (erases A (suc k))) (a + suc k) r g (drop (4096 * suc k) q) (h + rsize x) (y ∷ ys) seg-none (blanks F))
+        subst (λ (g : List ℕ). Straight (run im (erases A (suc k))) (a + suc k) r g (drop (4096 * suc k) q) (h + rsize x) (y ∷ ys) seg-none
+            (blanks F))
         (replicate-append-replicate B (4096 * suc k) 255) (done s c k r all short)
 
     -- something is free behind the records
@@ -149,26 +160,41 @@ module _ {im : Image} {a l : ℕ} {lost : List ℕ} {h : ℕ} {x y : Rec} {ys : 
     -- the records end at N: the chain turns
     straight-full : blanks F ≡ [] → Leaves im X Y E
     straight-full z =
-        let u : Turned (run im (erases A (suc k))) (a + suc k) r (drop (4096 * suc k) q) (h + rsize x) [] seg-none (512 * (a + suc k)) (blanks (B + 4096 * suc k)) (y ∷ ys) exact =
-        turn-open (subst (λ (m : List ℕ). Straight (run im (erases A (suc k))) (a + suc k) r (blanks (B + 4096 * suc k)) (drop (4096 * suc k) q) (h + rsize x) (y ∷ ys) seg-none m) z all-ff)
+        let u : Turned (run im (erases A (suc k))) (a + suc k) r (drop (4096 * suc k) q) (h + rsize x) [] seg-none (512 * (a + suc k))
+            (blanks (B + 4096 * suc k)) (y ∷ ys) exact =
+        turn-open (subst (λ (m : List ℕ). Straight (run im (erases A (suc k))) (a + suc k) r (blanks (B + 4096 * suc k)) (drop (4096 * suc k) q)
+            (h + rsize x) (y ∷ ys) seg-none m) z all-ff)
         (opens-blanks (B + 4096 * suc k) (omega arith)) (omega arith) in
         let v : (i : ℕ) → i ≤ k →
-        Turned (run im (take (suc i) (erases A (suc k)))) (a + suc k) r (drop (4096 * suc k) q) (h + rsize x) [] seg-none (512 * (a + suc k)) (blanks B ++ half-erased (suc i) (suc k) q)
+        Turned (run im (take (suc i) (erases A (suc k)))) (a + suc k) r (drop (4096 * suc k) q) (h + rsize x) [] seg-none (512 * (a + suc k))
+            (blanks B ++ half-erased (suc i) (suc k) q)
         (y ∷ ys) exact =
-        λ i p. turn-open (subst (λ (m : List ℕ). Straight (run im (take (suc i) (erases A (suc k)))) (a + suc k) r (blanks B ++ half-erased (suc i) (suc k) q) (drop (4096 * suc k) q)
+        λ i p. turn-open (subst (λ (m : List ℕ). Straight (run im (take (suc i) (erases A (suc k)))) (a + suc k) r
+            (blanks B ++ half-erased (suc i) (suc k) q) (drop (4096 * suc k) q)
         (h + rsize x) (y ∷ ys) seg-none m) z (to-m3 s c k r all short i p))
-        (open-ff (B + 4096 * suc i) (rest i) (blanks B ++ half-erased (suc i) (suc k) q) (join-ff B (4096 * suc i) (rest i)) (omega arith)) (omega arith) in
+        (open-ff (B + 4096 * suc i) (rest i) (blanks B ++ half-erased (suc i) (suc k) q) (join-ff B (4096 * suc i) (rest i)) (omega arith))
+            (omega arith) in
         far A k 0 true (vacated-are (length im) h x y a l k r (s .at) (s .lost-small) all short) (omega arith) sectors-in
-        (λ i p. vacant-at (laid-turned (v i p) refl refl (sym (append-nil (entries-of (h + rsize x) (y ∷ ys)))) refl) (B + 4096 * suc i) (rest i) (join-ff B (4096 * suc i) (rest i)) (omega arith))
-        (record { S = 0; B = 0; F = B + 4096 * suc k; t = true; laid = laid-turned u refl refl (sym (append-nil (entries-of (h + rsize x) (y ∷ ys)))) refl; tail = clear-ff (B + 4096 * suc k) (omega arith) })
+        (λ i p. vacant-at (laid-turned (v i p) refl refl (sym (append-nil (entries-of (h + rsize x) (y ∷ ys)))) refl) (B + 4096 * suc i) (rest i)
+            (join-ff B (4096 * suc i) (rest i)) (omega arith))
+        (record {
+          S = 0;
+          B = 0;
+          F = B + 4096 * suc k;
+          t = true;
+          laid = laid-turned u refl refl (sym (append-nil (entries-of (h + rsize x) (y ∷ ys)))) refl;
+          tail = clear-ff (B + 4096 * suc k) (omega arith);
+        })
 
     straight-far : (S : ℕ) → S ≡ h + sizes (x ∷ y ∷ ys) → Tail h S false seg-none (blanks B) (blanks F) S false → Leaves im X Y E
-    straight-far S e (tail-clear s₈ p i j) = straight-clear S e (omega (arith, ap length p, length-append (blanks 8) s₈, length-replicate {A = ℕ} F 255))
+    straight-far S e (tail-clear s₈ p i j) =
+        straight-clear S e (omega (arith, ap length p, length-append (blanks 8) s₈, length-replicate {A = ℕ} F 255))
     straight-far S e (tail-floor p i j m) = let z : _≡_ {A = ℕ} 0 1 = cc in absurd (omega arith)
     straight-far S e (tail-N p i j m n) = straight-full p
     straight-far S e (tail-turn s₈ p i j m n o) = absurd (j refl)
 
-  straight-leaves : (f : ℕ) → length (blanks F) ≡ 8 * f → Quiet f (blanks F) → (S : ℕ) → S ≡ h + sizes (x ∷ y ∷ ys) → Tail h S false seg-none (blanks B) (blanks F) S false → Leaves im X Y E
+  straight-leaves : (f : ℕ) → length (blanks F) ≡ 8 * f → Quiet f (blanks F) → (S : ℕ) → S ≡ h + sizes (x ∷ y ∷ ys)
+      → Tail h S false seg-none (blanks B) (blanks F) S false → Leaves im X Y E
   straight-leaves f lf qf S e t =
       by-sectors (l + rsize x / 8)
       (λ n.
@@ -197,14 +223,26 @@ module _ {im : Image} {a l : ℕ} {lost : List ℕ} {h : ℕ} {low : List Rec} {
       let A : ℕ = 4096 * a in
       let q : List ℕ = old-head lost x in
       let rest : ℕ → List ℕ = λ i. take (4096 * (suc k - suc i)) (drop (4096 * suc i) q) in
-      let last : Turned (run im (erases A (suc k))) (a + suc k) r (drop (4096 * suc k) q) (h + rsize x) low seg-none (f + 512 * suc k) (blanks (F + 4096 * suc k)) (y ∷ ys) end =
-      subst (λ (m : List ℕ). Turned (run im (erases A (suc k))) (a + suc k) r (drop (4096 * suc k) q) (h + rsize x) low seg-none (f + 512 * suc k) m (y ∷ ys) end)
+      let last : Turned (run im (erases A (suc k))) (a + suc k) r (drop (4096 * suc k) q) (h + rsize x) low seg-none (f + 512 * suc k)
+          (blanks (F + 4096 * suc k)) (y ∷ ys) end =
+      subst (λ (m : List ℕ). Turned (run im (erases A (suc k))) (a + suc k) r (drop (4096 * suc k) q) (h + rsize x) low seg-none (f + 512 * suc k) m
+          (y ∷ ys) end)
       (ap (λ (m : List ℕ). blanks F ++ m) (all-erased (suc k) q) ∙ replicate-append-replicate F (4096 * suc k) 255)
-      (subst (λ (ss : List Step). Turned (run im ss) (a + suc k) r (drop (4096 * suc k) q) (h + rsize x) low seg-none (f + 512 * suc k) (blanks F ++ half-erased (suc k) (suc k) q) (y ∷ ys) end)
+      (subst (λ (ss : List Step). Turned (run im ss) (a + suc k) r (drop (4096 * suc k) q) (h + rsize x) low seg-none (f + 512 * suc k)
+          (blanks F ++ half-erased (suc k) (suc k) q) (y ∷ ys) end)
       (take-erases (suc k) (suc k) A (omega arith)) (turned-m3 s c k r all short k (omega arith))) in
-      far A k (sizes low) true (vacated-are (length im) h x y a l k r (s .at) (s .lost-small) all short) (omega arith) (omega (arith, s .at, rsize-words x, turned-length s))
-      (λ i e. vacant-at (laid-turned (turned-m3 s c k r all short i e) refl refl refl refl) (F + 4096 * suc i) (rest i) (join-ff F (4096 * suc i) (rest i)) (omega (arith, s .below, F-is)))
-      (record { S = sizes low; B = 0; F = F + 4096 * suc k; t = true; laid = laid-turned last refl refl refl refl; tail = clear-ff (F + 4096 * suc k) (omega arith) })
+      far A k (sizes low) true (vacated-are (length im) h x y a l k r (s .at) (s .lost-small) all short) (omega arith)
+          (omega (arith, s .at, rsize-words x, turned-length s))
+      (λ i e. vacant-at (laid-turned (turned-m3 s c k r all short i e) refl refl refl refl) (F + 4096 * suc i) (rest i)
+          (join-ff F (4096 * suc i) (rest i)) (omega (arith, s .below, F-is)))
+      (record {
+        S = sizes low;
+        B = 0;
+        F = F + 4096 * suc k;
+        t = true;
+        laid = laid-turned last refl refl refl refl;
+        tail = clear-ff (F + 4096 * suc k) (omega arith);
+      })
 
   turned-leaves : Leaves im X₁ Y₁ E₁
   turned-leaves =
@@ -222,12 +260,14 @@ unfolding is-start is-clean is-record is-high
 end-quiet exact zero p = tt
 end-quiet exact (suc e) p = absurd (omega arith)
 end-quiet (marker k) zero p = absurd (omega arith)
-end-quiet (marker k) (suc e) p = let n : 8 * e ≡ k = omega (arith, length-replicate {A = ℕ} k 255) in (refl, subst (λ (m : ℕ). Quiet e (blanks m)) n (quiet-blanks e))
+end-quiet (marker k) (suc e) p =
+    let n : 8 * e ≡ k = omega (arith, length-replicate {A = ℕ} k 255) in (refl, subst (λ (m : ℕ). Quiet e (blanks m)) n (quiet-blanks e))
 
 body-is : (n c t : List ℕ) → body n c t ≡ body n c [] ++ t
 body-is n c t = simp append-assoc
 
-module _ {im : Image} {a l : ℕ} {lost : List ℕ} {h : ℕ} {y : Rec} {low : List Rec} {f : ℕ} {x : Rec} {end : End} (F : ℕ) (s : Turned im a l lost h (y ∷ low) seg-none f (blanks F) (x ∷ []) end)
+module _ {im : Image} {a l : ℕ} {lost : List ℕ} {h : ℕ} {y : Rec} {low : List Rec} {f : ℕ} {x : Rec} {end : End} (F : ℕ)
+    (s : Turned im a l lost h (y ∷ low) seg-none f (blanks F) (x ∷ []) end)
     (c : Cleaned x)
     (g : good-length (length im) ≡ true) where
   abbrev X₂ : Entry
@@ -249,11 +289,13 @@ module _ {im : Image} {a l : ℕ} {lost : List ℕ} {h : ℕ} {y : Rec} {low : L
       let w : rsize x / 8 - 1 + e ≡ 511 - l + 512 * k = omega (arith, turned-length s, s .at, s .lost-small, rsize-words x) in
       rw (body-is (x .name) (x .content) (end-bytes end))
       (subst (λ (j : ℕ). Quiet j (body (x .name) (x .content) [] ++ end-bytes end)) w
-      (quiet-append (rsize x / 8 - 1) e (body (x .name) (x .content) []) (end-bytes end) (omega (arith, length-body (x .name) (x .content) [], rsize-words x)) c (end-quiet end e m)))
+      (quiet-append (rsize x / 8 - 1) e (body (x .name) (x .content) []) (end-bytes end)
+          (omega (arith, length-body (x .name) (x .content) [], rsize-words x)) c (end-quiet end e m)))
 
   behind-length : (k : ℕ) → length im ≡ 4096 * (a + suc k) → length (last-head lost x end) ≡ 4096 * suc k
   unfolding last-head
-  behind-length k n = length-append lost (onto x (end-bytes end)) ∙ omega (arith, s .lost-length, length-lay (x ∷ []) (end-bytes end), turned-length s, s .at)
+  behind-length k n =
+      length-append lost (onto x (end-bytes end)) ∙ omega (arith, s .lost-length, length-lay (x ∷ []) (end-bytes end), turned-length s, s .at)
 
   zero-far : (k : ℕ) → length im ≡ 4096 * (a + suc k) → Leaves im X₂ Y₂ E₂
   zero-far k n =
@@ -265,7 +307,8 @@ module _ {im : Image} {a l : ℕ} {lost : List ℕ} {h : ℕ} {y : Rec} {low : L
       let long : (i : ℕ) → i ≤ k → length (blanks F ++ half-erased (suc i) (suc k) q) ≡ 8 * (f + 512 * suc k) =
       λ i p. length-append (blanks F) (half-erased (suc i) (suc k) q)
       ∙ omega (arith, half-erased-length (suc i) (suc k) q (omega arith) (omega (arith, behind-length k n)), length-replicate {A = ℕ} F 255, F₂) in
-      let laid : (i : ℕ) → i ≤ k → Laid (run im (take (suc i) (erases A (suc k)))) 0 S false (Y₂ ∷ E₂) seg-none [] (blanks F ++ half-erased (suc i) (suc k) q) =
+      let laid : (i : ℕ) → i ≤ k
+          → Laid (run im (take (suc i) (erases A (suc k)))) 0 S false (Y₂ ∷ E₂) seg-none [] (blanks F ++ half-erased (suc i) (suc k) q) =
       λ i p. laid-straight (f + 512 * suc k) (zero-m3 s k n b i p) refl refl refl (long i p) (zero-quiet s k n b i p) in
       far A k S false (vacated-all (length im) X₂ Y₂ a k refl (omega (arith, s .at, s .lost-small)) n) (omega arith) (omega arith)
       (λ i p. vacant-at (laid i p) (F + 4096 * suc i) (rest i) (join-ff F (4096 * suc i) (rest i)) (omega (arith, s .below, F₂)))
@@ -277,7 +320,8 @@ module _ {im : Image} {a l : ℕ} {lost : List ℕ} {h : ℕ} {y : Rec} {low : L
         laid =
             subst (λ (m : List ℕ). Laid (run im (erases A (suc k))) 0 S false (Y₂ ∷ E₂) seg-none [] m)
             (ap (λ (m : List ℕ). blanks F ++ m) (all-erased (suc k) q) ∙ replicate-append-replicate F (4096 * suc k) 255)
-            (subst (λ (ss : List Step). Laid (run im ss) 0 S false (Y₂ ∷ E₂) seg-none [] (blanks F ++ half-erased (suc k) (suc k) q)) (take-erases (suc k) (suc k) A (omega arith))
+            (subst (λ (ss : List Step). Laid (run im ss) 0 S false (Y₂ ∷ E₂) seg-none [] (blanks F ++ half-erased (suc k) (suc k) q))
+                (take-erases (suc k) (suc k) A (omega arith))
             (laid k (omega arith)));
         tail = clear-ff (F + 4096 * suc k) (omega arith);
       })
@@ -293,16 +337,21 @@ Leaving im (x ∷ []) = Unit {0}
 Leaving im (x ∷ (y ∷ es)) = Cleaned (x .it) → Leaves im x y es
 
 -- every laid image with a cleaned head X and Y behind it
-pub leaves : {im : Image} {h S : ℕ} (B F : ℕ) {t : Bool} {x y : Entry} {es : List Entry} → good-length (length im) ≡ true → Laid im h S t (x ∷ y ∷ es) seg-none (blanks B) (blanks F) →
+pub leaves : {im : Image} {h S : ℕ} (B F : ℕ) {t : Bool} {x y : Entry} {es : List Entry} → good-length (length im) ≡ true
+    → Laid im h S t (x ∷ y ∷ es) seg-none (blanks B) (blanks F) →
     Tail h S t seg-none (blanks B) (blanks F) S t → Cleaned (x .it) → Leaves im x y es
 leaves {im} {h} {S} B F {t} {x} {y} {es} g (laid-straight {a} {l} {lost} {x = x₀} {ys} f s t₁ S₁ e₁ lf qf) tl = go ys s S₁ e₁
   where
-    go : (ys : List Rec) → Straight im a l (blanks B) lost h (x₀ ∷ ys) seg-none (blanks F) → S ≡ h + sizes (x₀ ∷ ys) → x ∷ y ∷ es ≡ entries-of h (x₀ ∷ ys) → Leaving im (x ∷ y ∷ es)
+    go : (ys : List Rec) → Straight im a l (blanks B) lost h (x₀ ∷ ys) seg-none (blanks F) → S ≡ h + sizes (x₀ ∷ ys)
+        → x ∷ y ∷ es ≡ entries-of h (x₀ ∷ ys) → Leaving im (x ∷ y ∷ es)
     go [] s e p = let z : _≡_ {A = ℕ} 0 1 = cc in absurd (omega arith)
-    go (y₀ ∷ ys) s e p = subst (Leaving im) (sym p) (λ c. straight-leaves B F s c g f lf qf S e (subst (λ (b : Bool). Tail h S b seg-none (blanks B) (blanks F) S b) t₁ tl))
+    go (y₀ ∷ ys) s e p =
+        subst (Leaving im) (sym p)
+            (λ c. straight-leaves B F s c g f lf qf S e (subst (λ (b : Bool). Tail h S b seg-none (blanks B) (blanks F) S b) t₁ tl))
 leaves {im} {h} {S} B F {t} {x} {y} {es} g (laid-turned {a} {l} {f} {lost} {low} {x = x₀} {ys} {end} s t₁ S₁ e₁ b) tl = go ys low s e₁
   where
-    go : (ys low : List Rec) → Turned im a l lost h low seg-none f (blanks F) (x₀ ∷ ys) end → x ∷ y ∷ es ≡ entries-of h (x₀ ∷ ys) ++ entries-of 0 low → Leaving im (x ∷ y ∷ es)
+    go : (ys low : List Rec) → Turned im a l lost h low seg-none f (blanks F) (x₀ ∷ ys) end → x ∷ y ∷ es ≡ entries-of h (x₀ ∷ ys) ++ entries-of 0 low
+        → Leaving im (x ∷ y ∷ es)
     go [] [] s p = let z : _≡_ {A = ℕ} 0 1 = cc in absurd (omega arith)
     go [] (y₀ ∷ low) s p = subst (Leaving im) (sym p) (λ c. zero-leaves F s c g)
     go (y₀ ∷ ys) low s p = subst (Leaving im) (sym p) (λ c. turned-leaves F s c)

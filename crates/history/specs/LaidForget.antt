@@ -30,7 +30,8 @@ forgotten-quiet x c =
     subst (λ (m : ℕ). Quiet m (forgotten x)) n (mark-second (x .low) (drop 2 (forgotten x)), c)
 
 -- (f): the head's second byte to 00, Y in the head's sector
-module _ {im : List ℕ} {a l : ℕ} {gap lost : List ℕ} {h : ℕ} {x y : Rec} {ys : List Rec} {seg : Seg} {free : List ℕ} (s : Straight im a l gap lost h (x ∷ y ∷ ys) seg free) (c : Cleaned x)
+module _ {im : List ℕ} {a l : ℕ} {gap lost : List ℕ} {h : ℕ} {x y : Rec} {ys : List Rec} {seg : Seg} {free : List ℕ}
+    (s : Straight im a l gap lost h (x ∷ y ∷ ys) seg free) (c : Cleaned x)
     (near : l + rsize x / 8 < 512) where
   forget : Straight (set im (h + 1) 0) a (l + rsize x / 8) gap (lost ++ forgotten x) (h + rsize x) (y ∷ ys) seg free
   forget =
@@ -38,7 +39,9 @@ module _ {im : List ℕ} {a l : ℕ} {gap lost : List ℕ} {h : ℕ} {x y : Rec}
       let G : List ℕ = gap ++ lost in
       let lg : length G ≡ h = length-append gap lost ∙ omega (arith, s .gap-length, s .lost-length, s .at) in
       let e₁ : im ≡ G ++ onto x R = s .is ∙ sym (append-assoc gap lost (onto x R)) in
-      let e₂ : set (G ++ onto x R) (h + 1) 0 ≡ G ++ set (onto x R) 1 0 = ap (λ (n : ℕ). set (G ++ onto x R) (n + 1) 0) (sym lg) ∙ set-past G (onto x R) 1 0 in
+      let e₂ : set (G ++ onto x R) (h + 1) 0 ≡ G ++ set (onto x R) 1 0 = ap (λ (n : ℕ). set (G ++ onto x R) (n + 1) 0) (sym lg)
+          ∙ set-past G (onto x R) 1 0 in
+      
       let e₃ : set (onto x R) 1 0 ≡ forgotten x ++ R = ap (λ (l : List ℕ). set l 1 0) (lay-is (x ∷ []) R) in
       let lf : length (forgotten x) ≡ 8 * (rsize x / 8) = omega (arith, length-body (x .name) (x .content) [], rsize-words x) in
       record {
@@ -54,7 +57,8 @@ module _ {im : List ℕ} {a l : ℕ} {gap lost : List ℕ} {h : ℕ} {x y : Rec}
         fine = s .fine .1;
       }
     where
-      fronted : (gap lost : List ℕ) (a l : ℕ) → length gap ≡ 4096 * a → length lost ≡ 8 * l → (getD (gap ++ lost) 1 0 ≡ 90 → ⊥) → getD (gap ++ (lost ++ forgotten x)) 1 0 ≡ 90 → ⊥
+      fronted : (gap lost : List ℕ) (a l : ℕ) → length gap ≡ 4096 * a → length lost ≡ 8 * l → (getD (gap ++ lost) 1 0 ≡ 90 → ⊥)
+          → getD (gap ++ (lost ++ forgotten x)) 1 0 ≡ 90 → ⊥
       fronted [] [] a l p q f = f
       fronted [] (u ∷ []) a l p q f = absurd (omega arith)
       fronted [] (u ∷ v ∷ w) a l p q f = f
@@ -70,7 +74,9 @@ module _ {im : List ℕ} {a l : ℕ} {lost : List ℕ} {h : ℕ} {low : List Rec
       let G : List ℕ = high-front s [] in
       let lg : length G ≡ h = high-front-length s [] ∙ add-zero h in
       let e₁ : im ≡ G ++ onto x R = s .is ∙ sym (high-front-is s [] (onto x R)) in
-      let e₂ : set (G ++ onto x R) (h + 1) 0 ≡ G ++ set (onto x R) 1 0 = ap (λ (n : ℕ). set (G ++ onto x R) (n + 1) 0) (sym lg) ∙ set-past G (onto x R) 1 0 in
+      let e₂ : set (G ++ onto x R) (h + 1) 0 ≡ G ++ set (onto x R) 1 0 = ap (λ (n : ℕ). set (G ++ onto x R) (n + 1) 0) (sym lg)
+          ∙ set-past G (onto x R) 1 0 in
+      
       let e₃ : set (onto x R) 1 0 ≡ forgotten x ++ R = ap (λ (l : List ℕ). set l 1 0) (lay-is (x ∷ []) R) in
       let lf : length (forgotten x) ≡ 8 * (rsize x / 8) = omega (arith, length-body (x .name) (x .content) [], rsize-words x) in
       record {
@@ -95,22 +101,29 @@ module _ {im : List ℕ} {a l : ℕ} {lost : List ℕ} {h : ℕ} {low : List Rec
 abbrev Forgets : Image → ℕ → ℕ → Bool → Seg → List ℕ → List ℕ → List Entry → Type 0
 Forgets im h S t seg below free [] = Unit {0}
 Forgets im h S t seg below free (x ∷ []) = Unit {0}
-Forgets im h S t seg below free (x ∷ (y ∷ es)) = Cleaned (x .it) → floor (y .at) ≡ floor h → Laid (set im (x .at + 1) 0) (y .at) S t (y ∷ es) seg below free
+Forgets im h S t seg below free (x ∷ (y ∷ es)) =
+    Cleaned (x .it) → floor (y .at) ≡ floor h → Laid (set im (x .at + 1) 0) (y .at) S t (y ∷ es) seg below free
 
 -- step (f) on a laid image
-pub forget-laid : {im : Image} {h S : ℕ} {t : Bool} {x y : Entry} {es : List Entry} {seg : Seg} {below free : List ℕ} → Laid im h S t (x ∷ y ∷ es) seg below free → Cleaned (x .it) →
+pub forget-laid : {im : Image} {h S : ℕ} {t : Bool} {x y : Entry} {es : List Entry} {seg : Seg} {below free : List ℕ}
+    → Laid im h S t (x ∷ y ∷ es) seg below free → Cleaned (x .it) →
     floor (y .at) ≡ floor h → Laid (set im (x .at + 1) 0) (y .at) S t (y ∷ es) seg below free
 forget-laid {im} {h} {S} {t} {x} {y} {es} {seg} {below} {free} (laid-straight {a} {l} {lost} {x = x₀} {ys} f s t₁ S₁ es₁ lf qf) = go ys s S₁ es₁
   where
-    go : (ys : List Rec) → Straight im a l below lost h (x₀ ∷ ys) seg free → S ≡ h + sizes (x₀ ∷ ys) → x ∷ y ∷ es ≡ entries-of h (x₀ ∷ ys) → Forgets im h S t seg below free (x ∷ y ∷ es)
+    go : (ys : List Rec) → Straight im a l below lost h (x₀ ∷ ys) seg free → S ≡ h + sizes (x₀ ∷ ys) → x ∷ y ∷ es ≡ entries-of h (x₀ ∷ ys)
+        → Forgets im h S t seg below free (x ∷ y ∷ es)
     go [] s S₁ e = let z : _≡_ {A = ℕ} 0 1 = cc in absurd (omega arith)
     go (y₀ ∷ ys) s S₁ e =
-        subst (Forgets im h S t seg below free) (sym e) (λ c n. laid-straight f (forget s c (omega (arith, n, s .at, s .lost-small, rsize-words x₀))) t₁ (omega arith) refl lf qf)
-forget-laid {im} {h} {S} {t} {x} {y} {es} {seg} {below} {free} (laid-turned {a} {l} {f} {lost} {low} {x = x₀} {ys} {end} s t₁ S₁ es₁ b) = go ys low s S₁ es₁
+        subst (Forgets im h S t seg below free) (sym e)
+            (λ c n. laid-straight f (forget s c (omega (arith, n, s .at, s .lost-small, rsize-words x₀))) t₁ (omega arith) refl lf qf)
+forget-laid {im} {h} {S} {t} {x} {y} {es} {seg} {below} {free} (laid-turned {a} {l} {f} {lost} {low} {x = x₀} {ys} {end} s t₁ S₁ es₁ b) =
+    go ys low s S₁ es₁
   where
-    go : (ys low : List Rec) → Turned im a l lost h low seg f free (x₀ ∷ ys) end → S ≡ sizes low → x ∷ y ∷ es ≡ entries-of h (x₀ ∷ ys) ++ entries-of 0 low →
+    go : (ys low : List Rec) → Turned im a l lost h low seg f free (x₀ ∷ ys) end → S ≡ sizes low
+        → x ∷ y ∷ es ≡ entries-of h (x₀ ∷ ys) ++ entries-of 0 low →
         Forgets im h S t seg below free (x ∷ y ∷ es)
     go [] [] s S₁ e = let z : _≡_ {A = ℕ} 0 1 = cc in absurd (omega arith)
     go [] (r ∷ low) s S₁ e = subst (Forgets im h S t seg below free) (sym e) (λ c n. absurd (omega (arith, n, s .at, s .lost-small, s .some-below)))
     go (y₀ ∷ ys) low s S₁ e =
-        subst (Forgets im h S t seg below free) (sym e) (λ c n. laid-turned (forget-turned s c (omega (arith, n, s .at, s .lost-small, rsize-words x₀))) t₁ S₁ refl b)
+        subst (Forgets im h S t seg below free) (sym e)
+            (λ c n. laid-turned (forget-turned s c (omega (arith, n, s .at, s .lost-small, rsize-words x₀))) t₁ S₁ refl b)

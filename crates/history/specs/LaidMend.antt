@@ -47,7 +47,9 @@ low-done {im} {h} {S} {es} {below} {free} (laid-straight {a} {l} {lost} {x} {ys}
     let w : B ≡ 8 * (512 * a) = omega arith in
     laid-straight {x = x} {ys = ys} f
     (record {
-      is = ap (λ (i : Image). run i (mend-steps im B 0 B)) (s .is) ∙ mend-done a B 0 B [] [] below Z refl refl (s .gap-length) (omega arith) (omega arith) im (s .is)
+      is =
+          ap (λ (i : Image). run i (mend-steps im B 0 B)) (s .is)
+              ∙ mend-done a B 0 B [] [] below Z refl refl (s .gap-length) (omega arith) (omega arith) im (s .is)
           ∙ ap (λ (m : ℕ). blanks m ++ Z) (sym b);
       at = s .at;
       gap-length = length-replicate {A = ℕ} B 255 ∙ b;
@@ -64,12 +66,15 @@ low-done (laid-turned s t₁ S₁ e₁ b) B n = let z : _≡_ {A = ℕ} 0 1 = cc
 -- a run that begins with c bytes of FF
 opened-up : (p post free : List ℕ) (c : ℕ) → take c free ≡ blanks c → p ++ (free ++ post) ≡ (p ++ blanks c) ++ (drop c free ++ post)
 opened-up p post free c e =
-    ap (λ (l : List ℕ). p ++ (l ++ post)) (sym (take-append-drop c free) ∙ ap (λ (l : List ℕ). l ++ drop c free) e) ∙ ap (λ (l : List ℕ). p ++ l) (append-assoc (blanks c) (drop c free) post)
+    ap (λ (l : List ℕ). p ++ (l ++ post)) (sym (take-append-drop c free) ∙ ap (λ (l : List ℕ). l ++ drop c free) e)
+        ∙ ap (λ (l : List ℕ). p ++ l) (append-assoc (blanks c) (drop c free) post)
     ∙ sym (append-assoc p (blanks c) (drop c free ++ post))
 
 -- the sectors of the run at T
-high-done : {im : Image} {h S : ℕ} {t : Bool} {es : List Entry} {below free : List ℕ} (d : Laid im h S t es seg-none below free) (im₀ : Image) (pre₀ : List ℕ) →
-    im₀ ≡ pre₀ ++ (free ++ hole-of d .post) → length pre₀ ≡ S → (c k lim : ℕ) → S + c ≡ ceiling S → c ≤ length free → take c free ≡ blanks c → ceiling S + 4096 * k ≡ lim → S + length free ≡ lim →
+high-done : {im : Image} {h S : ℕ} {t : Bool} {es : List Entry} {below free : List ℕ} (d : Laid im h S t es seg-none below free) (im₀ : Image)
+    (pre₀ : List ℕ) →
+    im₀ ≡ pre₀ ++ (free ++ hole-of d .post) → length pre₀ ≡ S → (c k lim : ℕ) → S + c ≡ ceiling S → c ≤ length free → take c free ≡ blanks c
+        → ceiling S + 4096 * k ≡ lim → S + length free ≡ lim →
     8 ≤ length free → Laid (run im (mend-steps im₀ lim (ceiling S) lim)) h S t es seg-none below (blanks (length free))
 high-done {im} {h} {S} {t} {es} {below} {free} d im₀ pre₀ i₀ l₀ c k lim sc cf cb kl fl e₈ =
     let K : Hole im h S t es seg-none below free = hole-of d in
@@ -82,10 +87,12 @@ high-done {im} {h} {S} {t} {es} {below} {free} d im₀ pre₀ i₀ l₀ c k lim 
     ∙ mend-done k lim (ceiling S) lim (pre₀ ++ blanks c) (K .pre ++ blanks c) (drop c free) (K .post) (length-append pre₀ (blanks c) ∙ omega arith)
     (length-append (K .pre) (blanks c) ∙ omega (arith, K .at))
     (length-drop c free ∙ omega arith) kl (omega arith) im₀ (i₀ ∙ opened-up pre₀ (K .post) free c cb)
-    ∙ append-assoc (K .pre) (blanks c) (blanks (4096 * k) ++ K .post) ∙ ap (λ (l : List ℕ). K .pre ++ l) (join-ff c (4096 * k) (K .post) ∙ ap (λ (m : ℕ). blanks m ++ K .post) n) in
+    ∙ append-assoc (K .pre) (blanks c) (blanks (4096 * k) ++ K .post)
+        ∙ ap (λ (l : List ℕ). K .pre ++ l) (join-ff c (4096 * k) (K .post) ∙ ap (λ (m : ℕ). blanks m ++ K .post) n) in
     let lF : length (blanks F) ≡ F = length-replicate {A = ℕ} F 255 in
     subst (λ (i : Image). Laid i h S t es seg-none below (blanks F)) (sym e)
-    (K .plug seg-none (f .0) (blanks F) Next.Clear (lF ∙ f .1) (quiet-ff (f .0) (blanks F) (ap blanks (f .1))) (opens-blanks F e₈) (ap (λ (m : ℕ). 0 + m) lF))
+    (K .plug seg-none (f .0) (blanks F) Next.Clear (lF ∙ f .1) (quiet-ff (f .0) (blanks F) (ap blanks (f .1))) (opens-blanks F e₈)
+        (ap (λ (m : ℕ). 0 + m) lF))
 
 turned-below : {im : Image} {h S : ℕ} {es : List Entry} {below free : List ℕ} → Laid im h S true es seg-none below free → below ≡ []
 turned-below (laid-straight f s t₁ S₁ e₁ lf qf) = let n : _≡_ {A = ℕ} 0 1 = cc in absurd (omega arith)
@@ -105,14 +112,19 @@ module _ {im : Image} {h S : ℕ} {es : List Entry} (g : length im % 4096 ≡ 0)
       let c : ℕ = ceiling S - S in
       let k : ℕ = (floor h - ceiling S) / 4096 in
       let K : Hole im h S true es seg-none (v .below) (v .free) = hole-of (v .laid) in
-      let e : take c (v .free) ≡ blanks c = sym (take-take c (v .m) (v .free) (omega (arith, v .own))) ∙ ap (take c) (v .ff) ∙ take-blanks c (v .m) (omega (arith, v .own)) in
+      let e : take c (v .free) ≡ blanks c = sym (take-take c (v .m) (v .free) (omega (arith, v .own))) ∙ ap (take c) (v .ff)
+          ∙ take-blanks c (v .m) (omega (arith, v .own)) in
+      
       record {
         S = S;
         B = 0;
         F = length (v .free);
         t = true;
-        laid = subst (λ (b : List ℕ). Laid (run im (mend-steps im (floor h) (ceiling S) (floor h))) h S true es seg-none b (blanks (length (v .free)))) (turned-below (v .laid))
-            (high-done (v .laid) im (K .pre) (K .is) (K .at) c k (floor h) (omega arith) (omega (arith, v .own, v .whole)) e (omega (arith, v .own, v .whole)) (sym L)
+        laid =
+            subst (λ (b : List ℕ). Laid (run im (mend-steps im (floor h) (ceiling S) (floor h))) h S true es seg-none b (blanks (length (v .free))))
+                (turned-below (v .laid))
+            (high-done (v .laid) im (K .pre) (K .is) (K .at) c k (floor h) (omega arith) (omega (arith, v .own, v .whole)) e
+                (omega (arith, v .own, v .whole)) (sym L)
             (omega (arith, vacant-long v, v .whole)));
         tail = clear-ff (length (v .free)) (omega (arith, vacant-long v, v .whole));
       }
@@ -122,20 +134,27 @@ module _ {im : Image} {h S : ℕ} {es : List Entry} (g : length im % 4096 ≡ 0)
       let c : ℕ = ceiling S - S in
       let k : ℕ = (N - ceiling S) / 4096 in
       let K : Hole im h S false es seg-none (v .below) (v .free) = hole-of (v .laid) in
-      let e : take c (v .free) ≡ blanks c = sym (take-take c (v .m) (v .free) (omega (arith, v .own))) ∙ ap (take c) (v .ff) ∙ take-blanks c (v .m) (omega (arith, v .own)) in
+      let e : take c (v .free) ≡ blanks c = sym (take-take c (v .m) (v .free) (omega (arith, v .own))) ∙ ap (take c) (v .ff)
+          ∙ take-blanks c (v .m) (omega (arith, v .own)) in
+      
       let low : List Step = mend-steps im (floor h) 0 (floor h) in
       let high : List Step = mend-steps im N (ceiling S) N in
       let d : Laid (run im low) h S false es seg-none (blanks (floor h)) (v .free) = low-done (v .laid) (floor h) refl in
-      let is : im ≡ K .pre ++ (v .free ++ hole-of d .post) = K .is ∙ ap (λ (l : List ℕ). K .pre ++ (v .free ++ l)) (post-none (v .laid) ∙ sym (post-none d)) in
+      let is : im ≡ K .pre ++ (v .free ++ hole-of d .post) = K .is
+          ∙ ap (λ (l : List ℕ). K .pre ++ (v .free ++ l)) (post-none (v .laid) ∙ sym (post-none d)) in
+      
       let ss : map erase (keep (dirty im) (sectors 0 (floor h) ++ sectors (ceiling S) N)) ≡ low ++ high =
-      ap (map erase) (keep-append (dirty im) (sectors 0 (floor h)) (sectors (ceiling S) N)) ∙ map-append erase (keep (dirty im) (sectors 0 (floor h))) (keep (dirty im) (sectors (ceiling S) N)) in
+      ap (map erase) (keep-append (dirty im) (sectors 0 (floor h)) (sectors (ceiling S) N))
+          ∙ map-append erase (keep (dirty im) (sectors 0 (floor h))) (keep (dirty im) (sectors (ceiling S) N)) in
       subst (λ (i : Image). Bare h es i) (sym (ap (run im) ss ∙ run-append im low high))
       (record {
         S = S;
         B = floor h;
         F = length (v .free);
         t = false;
-        laid = high-done d im (K .pre) is (K .at) c k N (omega arith) (omega (arith, v .own, v .whole)) e (omega (arith, v .own, v .whole)) (sym L) (omega (arith, vacant-long v, v .whole));
+        laid =
+            high-done d im (K .pre) is (K .at) c k N (omega arith) (omega (arith, v .own, v .whole)) e (omega (arith, v .own, v .whole)) (sym L)
+                (omega (arith, vacant-long v, v .whole));
         tail = clear-ff (length (v .free)) (omega (arith, vacant-long v, v .whole));
       })
 
@@ -143,11 +162,20 @@ module _ {im : Image} {h S : ℕ} {es : List Entry} (g : length im % 4096 ≡ 0)
 sectors-nil : (a b : ℕ) → a ≡ b → sectors a b ≡ []
 sectors-nil a b e = no-map (sectors a b) (sectors-are 0 a b (omega arith))
 
-both-nil : {h S : ℕ} {t : Bool} {es : List Entry} {im : Image} {below free : List ℕ} → below ≡ [] → free ≡ [] → Laid im h S t es seg-none below free → Tail h S t seg-none below free S t → Bare h es im
+both-nil : {h S : ℕ} {t : Bool} {es : List Entry} {im : Image} {below free : List ℕ} → below ≡ [] → free ≡ [] → Laid im h S t es seg-none below free
+    → Tail h S t seg-none below free S t → Bare h es im
 both-nil {h} {S} {t} {es} {im} b f d e =
-    record { S = S; B = 0; F = 0; t = t; laid = subst₂ (λ (x y : List ℕ). Laid im h S t es seg-none x y) b f d; tail = subst₂ (λ (x y : List ℕ). Tail h S t seg-none x y S t) b f e }
+    record {
+      S = S;
+      B = 0;
+      F = 0;
+      t = t;
+      laid = subst₂ (λ (x y : List ℕ). Laid im h S t es seg-none x y) b f d;
+      tail = subst₂ (λ (x y : List ℕ). Tail h S t seg-none x y S t) b f e;
+    }
 
-full-steps : {im : Image} {h S : ℕ} {es : List Entry} {below free : List ℕ} (t : Bool) → Laid im h S t es seg-none below free → free ≡ [] → length im % 4096 ≡ 0 → (t ≡ false → floor h ≡ 0) →
+full-steps : {im : Image} {h S : ℕ} {es : List Entry} {below free : List ℕ} (t : Bool) → Laid im h S t es seg-none below free → free ≡ []
+    → length im % 4096 ≡ 0 → (t ≡ false → floor h ≡ 0) →
     erase-steps im (place im h S t) ≡ []
 unfolding erase-steps free-sectors
 full-steps {im} {h} {S} {free = free} true d f g z =
@@ -155,9 +183,11 @@ full-steps {im} {h} {S} {free = free} true d f g z =
     ap (λ (zs : List ℕ). map erase (keep (dirty im) zs)) (sectors-nil (ceiling S) (floor h) (omega (arith, ap length f)))
 full-steps {im} {h} {S} {free = free} false d f g z =
     let L : length im ≡ S + length free = limit-is d in
-    ap₂ (λ (xs ys : List ℕ). map erase (keep (dirty im) (xs ++ ys))) (sectors-nil 0 (floor h) (sym (z refl))) (sectors-nil (ceiling S) (length im) (omega (arith, ap length f)))
+    ap₂ (λ (xs ys : List ℕ). map erase (keep (dirty im) (xs ++ ys))) (sectors-nil 0 (floor h) (sym (z refl)))
+        (sectors-nil (ceiling S) (length im) (omega (arith, ap length f)))
 
-full-below : {im : Image} {h S : ℕ} {es : List Entry} {below free : List ℕ} (t : Bool) → Laid im h S t es seg-none below free → (t ≡ false → floor h ≡ 0) → below ≡ []
+full-below : {im : Image} {h S : ℕ} {es : List Entry} {below free : List ℕ} (t : Bool) → Laid im h S t es seg-none below free
+    → (t ≡ false → floor h ≡ 0) → below ≡ []
 full-below true d z = turned-below d
 full-below {below = below} false d z = none-at below (laid-below d refl ∙ z refl)
 
@@ -178,7 +208,8 @@ pub record Repaired (im : Image) (h S : ℕ) (t : Bool) (es : List Entry) : Type
   pub bare : Bare h es (run im (erase-steps im (place im h S t)))
 
 -- repair 1 on a laid image
-pub repair-laid : {im : Image} {h S : ℕ} {t : Bool} {es : List Entry} {below free : List ℕ} → good-length (length im) ≡ true → Laid im h S t es seg-none below free →
+pub repair-laid : {im : Image} {h S : ℕ} {t : Bool} {es : List Entry} {below free : List ℕ} → good-length (length im) ≡ true
+    → Laid im h S t es seg-none below free →
     Tail h S t seg-none below free S t →
     tail-blank im (place im h S t) ≡ true → Repaired im h S t es
 repair-laid {im} {h} {S} {t} {es} {below} {free} g d e b = go e
@@ -187,7 +218,15 @@ repair-laid {im} {h} {S} {t} {es} {below} {free} g d e b = go e
     full f z =
         let none : [] ≡ erase-steps im (place im h S t) = sym (full-steps t d f (good-mod (length im) g) z) in
         record {
-          safe = subst (λ (ss : List Step). Safe (Vacates (length im) h S t es) im ss) none (record { len = refl; below = below; free = free; laid = d; tail = e; blank = b });
+          safe =
+              subst (λ (ss : List Step). Safe (Vacates (length im) h S t es) im ss) none (record {
+                len = refl;
+                below = below;
+                free = free;
+                laid = d;
+                tail = e;
+                blank = b;
+              });
           bare = subst (λ (ss : List Step). Bare h es (run im ss)) none (both-nil (full-below t d z) f d e);
         }
 
@@ -197,7 +236,14 @@ repair-laid {im} {h} {S} {t} {es} {below} {free} g d e b = go e
         let lim : ℕ = limit (place im h S t) in
         record {
           safe = safe-map (Mid (length im) h S lim t es) (Vacates (length im) h S t es)
-              (λ i w. record { len = w .len; below = w .vac .below; free = w .vac .free; laid = w .vac .laid; tail = vacant-tail (w .vac); blank = vacant-blank (w .vac) }) im
+              (λ i w. record {
+                len = w .len;
+                below = w .vac .below;
+                free = w .vac .free;
+                laid = w .vac .laid;
+                tail = vacant-tail (w .vac);
+                blank = vacant-blank (w .vac);
+              }) im
               (erase-steps im (place im h S t))
               (erase-safe g (record { len = refl; vac = v; ends = sym (limit-is (v .laid)) }));
           bare = vacant-bare (good-mod (length im) g) t v;

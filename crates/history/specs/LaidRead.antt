@@ -33,7 +33,8 @@ use Rattle.history.specs.Kinds.{place}
 
 -- ---- small things
 
-read-same : {N h T T₁ : ℕ} {u u₁ : Bool} {es es₁ : List Entry} → T ≡ T₁ → u ≡ u₁ → es ≡ es₁ → read N h T u es Ending.Tail ≡ read N h T₁ u₁ es₁ Ending.Tail
+read-same : {N h T T₁ : ℕ} {u u₁ : Bool} {es es₁ : List Entry} → T ≡ T₁ → u ≡ u₁ → es ≡ es₁
+    → read N h T u es Ending.Tail ≡ read N h T₁ u₁ es₁ Ending.Tail
 read-same p q r = cc
 
 -- something is open at S, unless nothing is
@@ -58,7 +59,8 @@ walked-plain (r ∷ rs) at f m = (subst (Walks at) (sym (low-plain (f .0 .low-ok
 first-low : {h b : ℕ} {x : Entry} {es fs : List Entry} {r : Rec} → x ∷ es ≡ record { at = h; it = r } ∷ fs → x .it .low ≡ b → r .low ≡ b
 first-low e l = sym (ap (λ (y : Entry). y .it .low) (cons-first e)) ∙ l
 
-tail-turned : {h S : ℕ} {t : Bool} {seg : Seg} {under free : List ℕ} {T : ℕ} {u : Bool} → t ≡ true → Tail h S t seg under free T u → (T ≡ S + seg-size seg) × (u ≡ true)
+tail-turned : {h S : ℕ} {t : Bool} {seg : Seg} {under free : List ℕ} {T : ℕ} {u : Bool} → t ≡ true → Tail h S t seg under free T u
+    → (T ≡ S + seg-size seg) × (u ≡ true)
 tail-turned e (tail-clear w ef eT eu) = (eT, eu ∙ e)
 tail-turned e (tail-floor ef e₁ eT eu) = (eT, eu)
 tail-turned {t = t} e (tail-N ef e₁ z eT eu) = absurd (not-both t e₁ e)
@@ -68,17 +70,20 @@ tail-turned {t = t} e (tail-turn w ef e₁ n eb eT eu) = absurd (not-both t e₁
 
 module _ {im : Image} {h S : ℕ} {t : Bool} {es : List Entry} {seg : Seg} {under free : List ℕ} where
   straight-reads :
-      {a l : ℕ} {lost : List ℕ} {x : Rec} {ys : List Rec} {T : ℕ} {u : Bool} → Straight im a l under lost h (x ∷ ys) seg free → t ≡ false → S ≡ h + sizes (x ∷ ys) →
+      {a l : ℕ} {lost : List ℕ} {x : Rec} {ys : List Rec} {T : ℕ} {u : Bool} → Straight im a l under lost h (x ∷ ys) seg free → t ≡ false
+          → S ≡ h + sizes (x ∷ ys) →
       es ≡ entries-of h (x ∷ ys) → Tail h S t seg under free T u → reading-from im h ≡ read (length im) h T u (es ++ seg-entries S seg) Ending.Tail
   straight-reads {a} {l} {lost} {x} {ys} {T} {u} s et eS ee (tail-clear w ef eT eu) =
       straight-reading s (h + sizes (x ∷ ys) + seg-size seg) (seg-open seg) (seg-entries (h + sizes (x ∷ ys)) seg)
       (seg-ends Next.Clear (h + sizes (x ∷ ys)) seg free
       (λ o k. ap (chain (suc k) o (h + sizes (x ∷ ys) + seg-size seg)) ef ∙ stops-clear (h + sizes (x ∷ ys) + seg-size seg) w o k))
-      ∙ read-same (sym (eT ∙ ap (λ (n : ℕ). n + seg-size seg) eS)) (sym (eu ∙ et)) (sym (ap₂ (λ (m : List Entry) (n : ℕ). m ++ seg-entries n seg) ee eS))
+      ∙ read-same (sym (eT ∙ ap (λ (n : ℕ). n + seg-size seg) eS)) (sym (eu ∙ et))
+          (sym (ap₂ (λ (m : List Entry) (n : ℕ). m ++ seg-entries n seg) ee eS))
   straight-reads s et eS ee (tail-floor ef e₁ eT eu) = absurd (not-both t et e₁)
   straight-reads {a} {l} {lost} {x} {ys} {T} {u} s et eS ee (tail-N ef e₁ z eT eu) =
       rw (s .is)
-      (shape-full [] (x ∷ ys) under lost (seg-onto seg free) h (below s) (here s) tt (s .fine) (omega arith) (seg-entries (h + sizes (x ∷ ys)) seg) (seg-open seg)
+      (shape-full [] (x ∷ ys) under lost (seg-onto seg free) h (below s) (here s) tt (s .fine) (omega arith) (seg-entries (h + sizes (x ∷ ys)) seg)
+          (seg-open seg)
       (h + sizes (x ∷ ys) + seg-size seg) z
       (seg-ends Next.Over (h + sizes (x ∷ ys)) seg free
       (λ o k. ap (chain (suc k) o (h + sizes (x ∷ ys) + seg-size seg)) ef ∙ stops-over (h + sizes (x ∷ ys) + seg-size seg) o k)))
@@ -87,30 +92,35 @@ module _ {im : Image} {h S : ℕ} {t : Bool} {es : List Entry} {seg : Seg} {unde
       rw (s .is)
       (shape-last [] (x ∷ ys) under lost (seg-onto seg free) h (below s) (here s) tt (s .fine) (omega arith) (seg-entries (h + sizes (x ∷ ys)) seg)
       (h + sizes (x ∷ ys) + seg-size seg) (λ z. omega (arith, ap length eb, s .gap-length, bottom s)) refl
-      (subst (λ (b : Bool). Ends (h + sizes (x ∷ ys)) (seg-onto seg free) (chain-of (seg-entries (h + sizes (x ∷ ys)) seg) b (h + sizes (x ∷ ys) + seg-size seg) Next.Over)) (open-or seg n)
+      (subst (λ (b : Bool). Ends (h + sizes (x ∷ ys)) (seg-onto seg free)
+          (chain-of (seg-entries (h + sizes (x ∷ ys)) seg) b (h + sizes (x ∷ ys) + seg-size seg) Next.Over)) (open-or seg n)
       (seg-ends Next.Over (h + sizes (x ∷ ys)) seg free
       (λ o k. ap (chain (suc k) o (h + sizes (x ∷ ys) + seg-size seg)) ef ∙ stops-over (h + sizes (x ∷ ys) + seg-size seg) o k)))
       low-clear (λ o k. ap (chain (suc k) o 0) eb ∙ stops-clear 0 w o k))
       ∙ read-same (sym eT) (sym eu) (sym (ap₂ (λ (m : List Entry) (n : ℕ). m ++ seg-entries n seg) ee eS))
 
   -- what is read from the head on
-  pub laid-reads : Laid im h S t es seg under free → {T : ℕ} {u : Bool} → Tail h S t seg under free T u → reading-from im h ≡ read (length im) h T u (es ++ seg-entries S seg) Ending.Tail
+  pub laid-reads : Laid im h S t es seg under free → {T : ℕ} {u : Bool} → Tail h S t seg under free T u
+      → reading-from im h ≡ read (length im) h T u (es ++ seg-entries S seg) Ending.Tail
   laid-reads (laid-straight f s et eS ee lf qf) e = straight-reads s et eS ee e
   laid-reads (laid-turned {low = low} {x = x} {ys = ys} s et eS ee eb) e =
       let k = tail-turned et e in
       turned-reading s
       ∙ read-same (sym (k .0 ∙ ap (λ (n : ℕ). n + seg-size seg) eS)) (sym (k .1))
-      (sym (ap₂ (λ (m : List Entry) (n : ℕ). m ++ seg-entries n seg) ee eS ∙ append-assoc (entries-of h (x ∷ ys)) (entries-of 0 low) (seg-entries (sizes low) seg)))
+      (sym (ap₂ (λ (m : List Entry) (n : ℕ). m ++ seg-entries n seg) ee eS
+          ∙ append-assoc (entries-of h (x ∷ ys)) (entries-of 0 low) (seg-entries (sizes low) seg)))
 
 -- ---- the head is found
 
 -- START
-start-found : {im : Image} {h S : ℕ} {t : Bool} {x : Entry} {es : List Entry} {seg : Seg} {under free : List ℕ} → Laid im h S t (x ∷ es) seg under free → x .it .low ≡ 0 → head im ≡ give h
+start-found : {im : Image} {h S : ℕ} {t : Bool} {x : Entry} {es : List Entry} {seg : Seg} {under free : List ℕ}
+    → Laid im h S t (x ∷ es) seg under free → x .it .low ≡ 0 → head im ≡ give h
 start-found (laid-straight f s et eS ee lf qf) l = started s (first-low ee l)
 start-found (laid-turned s et eS ee eb) l = turned-start s (first-low ee l)
 
 -- CLEAN
-clean-first : (low : List Rec) (free rest : List ℕ) (x : Next) → Opens free x → 1 ≤ sizes low + length free → All-fine low → Each Unmarked (entries-of 0 low) →
+clean-first : (low : List Rec) (free rest : List ℕ) (x : Next) → Opens free x → 1 ≤ sizes low + length free → All-fine low
+    → Each Unmarked (entries-of 0 low) →
     clean-here (lay low (free ++ rest)) ≡ false
 unfolding is-clean
 clean-first (r ∷ rs) free rest x o n f m = rw (low-plain (f .0 .low-ok) (m .0))
@@ -121,7 +131,8 @@ clean-first [] free rest x o n f m = go o n
     go opens-none n = absurd (omega arith)
 
 clean-found :
-    {im : Image} {h S : ℕ} {t : Bool} {x : Entry} {es : List Entry} {under free : List ℕ} → Laid im h S t (x ∷ es) seg-none under free → x .it .low ≡ 160 → Each Unmarked es → head im ≡ give h
+    {im : Image} {h S : ℕ} {t : Bool} {x : Entry} {es : List Entry} {under free : List ℕ} → Laid im h S t (x ∷ es) seg-none under free
+        → x .it .low ≡ 160 → Each Unmarked es → head im ≡ give h
 clean-found {im = im} {h = h} (laid-straight {x = y} {ys = ys} f s et eS ee lf qf) l m = go (eqb h 0) refl
   where
     low : y .low ≡ 160
@@ -131,7 +142,8 @@ clean-found {im = im} {h = h} (laid-straight {x = y} {ys = ys} f s et eS ee lf q
     go true k =
         let z : h ≡ 0 = eqb-true h 0 k in
         straight-none s f z low
-        (subst (Walks 0) (sym low) walks-clean, walked-plain ys (0 + rsize y) (s .fine .1) (subst (λ (n : ℕ). Each Unmarked (entries-of (n + rsize y) ys)) z (subst (Each Unmarked) (cons-rest ee) m)))
+        (subst (Walks 0) (sym low) walks-clean, walked-plain ys (0 + rsize y) (s .fine .1)
+            (subst (λ (n : ℕ). Each Unmarked (entries-of (n + rsize y) ys)) z (subst (Each Unmarked) (cons-rest ee) m)))
         refl lf qf
     go false k = straight-clean s (eqb-false h 0 k) low
 clean-found {h = h} (laid-turned {f = f} {low = low} {x = y} {ys = ys} {end = end} s et eS ee eb) l m =
@@ -146,7 +158,8 @@ blank-below : (B : ℕ) (s : List ℕ) → s ≡ blanks B → blank s ≡ true
 blank-below B s e = ap blank e ∙ blank-blanks B
 
 -- the rule on the free run, before the turn and after it
-ahead-blank : (im : Image) (h T : ℕ) → blank-part 0 (floor h) im ≡ true → blank-part T (length im) im ≡ true → free-blank im (place im h T false) ≡ true
+ahead-blank : (im : Image) (h T : ℕ) → blank-part 0 (floor h) im ≡ true → blank-part T (length im) im ≡ true
+    → free-blank im (place im h T false) ≡ true
 unfolding free-blank
 ahead-blank im h T a b = rw (free-blank, a, b)
 
@@ -154,11 +167,13 @@ round-blank : (im : Image) (h T : ℕ) → blank-part T (floor h) im ≡ true �
 unfolding free-blank
 round-blank im h T a = rw (free-blank, a)
 
-placed : (im : Image) (h : ℕ) {T T₁ : ℕ} {u u₁ : Bool} → T ≡ T₁ → u ≡ u₁ → free-blank im (place im h T₁ u₁) ≡ true → free-blank im (place im h T u) ≡ true
+placed : (im : Image) (h : ℕ) {T T₁ : ℕ} {u u₁ : Bool} → T ≡ T₁ → u ≡ u₁ → free-blank im (place im h T₁ u₁) ≡ true
+    → free-blank im (place im h T u) ≡ true
 placed im h p q e = ap₂ (λ (T : ℕ) (u : Bool). free-blank im (place im h T u)) p q ∙ e
 
 -- the free run is FF
-free-is : {im : Image} {h S T : ℕ} (B F : ℕ) {t u : Bool} {es : List Entry} {seg : Seg} → Laid im h S t es seg (blanks B) (blanks F) → Tail h S t seg (blanks B) (blanks F) T u →
+free-is : {im : Image} {h S T : ℕ} (B F : ℕ) {t u : Bool} {es : List Entry} {seg : Seg} → Laid im h S t es seg (blanks B) (blanks F)
+    → Tail h S t seg (blanks B) (blanks F) T u →
     free-blank im (place im h T u) ≡ true
 free-is {im} {h} {S} {T} B F {t} {u} {es} {seg} (laid-straight {x = x} {ys = ys} f s et eS ee lf qf) e = go e
   where

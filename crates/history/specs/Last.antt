@@ -82,7 +82,8 @@ ends-torn-wrap {c} at j b k = chain-torn-wrap (suc k) at (torn-wrap c j) (next-t
 -- ---- unfinished records: behind them only an end may stand
 
 -- an unfinished record, and what follows it
-ends-held : {c : Chain} (at n d : ℕ) (s t : List ℕ) (r : Rec) → next s ≡ Next.Record n d → is-unfinished (status-of s) ≡ true → rec-of s n d ≡ r → drop (size-of n d) s ≡ t →
+ends-held : {c : Chain} (at n d : ℕ) (s t : List ℕ) (r : Rec) → next s ≡ Next.Record n d → is-unfinished (status-of s) ≡ true → rec-of s n d ≡ r
+    → drop (size-of n d) s ≡ t →
     ((k : ℕ) → chain (suc k) true (at + size-of n d) t ≡ c) → Ends at s (add (record { at = at; it = r }) c)
 ends-held at n d s t r e u f g h k = chain-record (suc k) at n d s e ∙ rw (u, f, g) (ap (add (record { at = at; it = r })) (h k))
 
@@ -116,7 +117,8 @@ ends-torn {c} {t} at x y z w s b n e =
     ends-held at 0 0 (torn c (x ∷ y ∷ z ∷ w ∷ []) t s) s torn-rec (next-torn x y z w s b n) unfinished-ff refl refl e
 
 -- reserved
-next-reserved : (x y z w : ℕ) (s : List ℕ) → next (165 ∷ 90 ∷ 254 ∷ 255 ∷ x ∷ y ∷ z ∷ w ∷ s) ≡ record-at true (165 ∷ 90 ∷ 254 ∷ 255 ∷ x ∷ y ∷ z ∷ w ∷ s)
+next-reserved : (x y z w : ℕ) (s : List ℕ)
+    → next (165 ∷ 90 ∷ 254 ∷ 255 ∷ x ∷ y ∷ z ∷ w ∷ s) ≡ record-at true (165 ∷ 90 ∷ 254 ∷ 255 ∷ x ∷ y ∷ z ∷ w ∷ s)
 unfolding next long kind next-at is-record is-wrap is-start is-clean is-high is-erased is-reserved is-spare
 next-reserved x y z w s = refl
 
@@ -129,10 +131,12 @@ abbrev pub held : List ℕ → List ℕ → Rec
 held n c = record { low = 165; status = 254; name = n; content = c }
 
 -- the chain over a record that was not committed
-pub ends-whole : {d : Chain} (at : ℕ) (n c s : List ℕ) → Fit (length c) n → ((k : ℕ) → chain (suc k) true (at + size-of (length n) (length c)) s ≡ d) →
+pub ends-whole : {d : Chain} (at : ℕ) (n c s : List ℕ) → Fit (length c) n → ((k : ℕ) → chain (suc k) true (at + size-of (length n) (length c)) s ≡ d)
+    →
     Ends at (onto (held n c) s) (add (record { at = at; it = held n c }) d)
 ends-whole at n c s f e =
-    ends-held at (length n) (length c) (onto (held n c) s) s (held n c) (next-reserved _ _ _ _ _ ∙ record-at-onto true (held n c) s f) unfinished-fe (rec-of-onto (held n c) s)
+    ends-held at (length n) (length c) (onto (held n c) s) s (held n c) (next-reserved _ _ _ _ _ ∙ record-at-onto true (held n c) s f) unfinished-fe
+        (rec-of-onto (held n c) s)
     (drop-onto (held n c) s) e
 
 -- reserved, with a cut name, and as many FF as make its size
@@ -161,7 +165,8 @@ drop-begun d n s =
     ∙ drop-fill (up8 d) 255 s
   where
     cut-name : (d : ℕ) (n s : List ℕ) → drop (up8 (length n + 1)) (drop 8 (begun d n s)) ≡ blanks (up8 d) ++ s
-    cut-name d n s = drop-past n _ (up8 (length n + 1)) (suc (pad (length n + 1))) (omega arith) ∙ drop-fill (pad (length n + 1)) 255 (blanks (up8 d) ++ s)
+    cut-name d n s =
+        drop-past n _ (up8 (length n + 1)) (suc (pad (length n + 1))) (omega arith) ∙ drop-fill (pad (length n + 1)) 255 (blanks (up8 d) ++ s)
 
 take-fill : (k m b : ℕ) (s : List ℕ) → k ≤ m → take k (replicate m b ++ s) ≡ replicate k b
 take-fill zero m b s h = refl
@@ -181,4 +186,5 @@ rec-of-begun d n s =
 pub ends-begun : {c : Chain} (at d : ℕ) (n s : List ℕ) → Fit d n → ((k : ℕ) → chain (suc k) true (at + size-of (length n) d) s ≡ c) →
     Ends at (begun d n s) (add (record { at = at; it = cut-rec d n }) c)
 ends-begun at d n s f e =
-    ends-held at (length n) d (begun d n s) s (cut-rec d n) (next-reserved _ _ _ _ _ ∙ record-at-begun d n s f) unfinished-fe (rec-of-begun d n s) (drop-begun d n s) e
+    ends-held at (length n) d (begun d n s) s (cut-rec d n) (next-reserved _ _ _ _ _ ∙ record-at-begun d n s f) unfinished-fe (rec-of-begun d n s)
+        (drop-begun d n s) e

@@ -114,11 +114,13 @@ ends-plain : (held : Bool) (x : ℕ) → 33 ≤ x → x ≤ 126 → ends-name he
 unfolding ends-name
 ends-plain held x h l = rw (ends-name, ne-eqb x 0 (λ e. omega arith), ne-eqb x 255 (λ e. omega arith)) (and-false held)
 
-name-length-at : (k : ℕ) (held : Bool) (w : List ℕ) (t : ℕ) (s : List ℕ) → length w < k → Plain w → ends-name held t ≡ true → name-length k held (w ++ (t ∷ s)) ≡ length w
+name-length-at : (k : ℕ) (held : Bool) (w : List ℕ) (t : ℕ) (s : List ℕ) → length w < k → Plain w → ends-name held t ≡ true
+    → name-length k held (w ++ (t ∷ s)) ≡ length w
 unfolding name-length
 name-length-at zero held w t s h p e = absurd (not-suc-le-zero h)
 name-length-at (suc k) held [] t s h p e = rw (e, name-length)
-name-length-at (suc k) held (x ∷ w) t s h p e = rw (ends-plain held x (p .0 .0) (p .0 .1), name-length) (ap suc (name-length-at k held w t s (omega arith) (p .1) e))
+name-length-at (suc k) held (x ∷ w) t s h p e =
+    rw (ends-plain held x (p .0 .0) (p .0 .1), name-length) (ap suc (name-length-at k held w t s (omega arith) (p .1) e))
 
 -- a record's length is its size
 pub length-body : (n c s : List ℕ) → 8 + length (body n c s) ≡ size-of (length n) (length c) + length s
@@ -170,10 +172,13 @@ unfolding ends-name
 ends-zero held = refl
 
 -- a record's header gives the lengths of its name and its data
-pub record-at-onto : (held : Bool) (r : Rec) (s : List ℕ) → Fit (length (r .content)) (r .name) → record-at held (onto r s) ≡ Next.Record (length (r .name)) (length (r .content))
+pub record-at-onto : (held : Bool) (r : Rec) (s : List ℕ) → Fit (length (r .content)) (r .name)
+    → record-at held (onto r s) ≡ Next.Record (length (r .name)) (length (r .content))
 record-at-onto held r s f =
-    record-at-laid held (r .low) 90 (r .status) 255 0 (length (r .content)) (r .name) (blanks (pad (length (r .name) + 1)) ++ padded (r .content) s) f (ends-zero held)
-    (omega (arith, length-body (r .name) (r .content) s, length-append (r .name) (0 ∷ (blanks (pad (length (r .name) + 1)) ++ padded (r .content) s))))
+    record-at-laid held (r .low) 90 (r .status) 255 0 (length (r .content)) (r .name) (blanks (pad (length (r .name) + 1)) ++ padded (r .content) s) f
+        (ends-zero held)
+    (omega (arith, length-body (r .name) (r .content) s, length-append (r .name)
+        (0 ∷ (blanks (pad (length (r .name) + 1)) ++ padded (r .content) s))))
 
 kind-next : {b st : ℕ} → Low b → Stat st → (s : List ℕ) → next-at (kind b 90 st 255) s ≡ record-at false s
 unfolding kind next-at is-record is-wrap is-start is-clean is-high is-erased is-reserved is-committed is-migrating is-dead is-spare
@@ -187,7 +192,8 @@ kind-next low-clean st-fc s = refl
 kind-next low-clean st-f8 s = refl
 kind-next low-clean st-00 s = refl
 
-next-laid : (b st x y z w : ℕ) (s : List ℕ) → Low b → Stat st → next (b ∷ 90 ∷ st ∷ 255 ∷ x ∷ y ∷ z ∷ w ∷ s) ≡ record-at false (b ∷ 90 ∷ st ∷ 255 ∷ x ∷ y ∷ z ∷ w ∷ s)
+next-laid : (b st x y z w : ℕ) (s : List ℕ) → Low b → Stat st
+    → next (b ∷ 90 ∷ st ∷ 255 ∷ x ∷ y ∷ z ∷ w ∷ s) ≡ record-at false (b ∷ 90 ∷ st ∷ 255 ∷ x ∷ y ∷ z ∷ w ∷ s)
 unfolding next long
 next-laid b st x y z w s l t = kind-next l t (b ∷ 90 ∷ st ∷ 255 ∷ x ∷ y ∷ z ∷ w ∷ s)
 
@@ -207,14 +213,19 @@ rec-of-onto r s = rw (drop-name (r .name) (r .content) s, take-append-seam (r .n
 
 -- the chain over one record
 pub chain-record : (k at n d : ℕ) (s : List ℕ) → next s ≡ Next.Record n d →
-    chain (suc k) false at s ≡ add (record { at = at; it = rec-of s n d }) (chain k (is-unfinished (status-of s)) (at + size-of n d) (drop (size-of n d) s))
+    chain (suc k) false at s ≡ add (record { at = at; it = rec-of s n d })
+        (chain k (is-unfinished (status-of s)) (at + size-of n d) (drop (size-of n d) s))
 unfolding chain
 chain-record k at n d s e = rw (e, chain)
 
 -- ---- the chain over laid records: it goes on, with what follows them, as if it had begun there
-chain-onto : (r : Rec) (k at : ℕ) (s : List ℕ) → Fine r → chain (suc k) false at (onto r s) ≡ add (record { at = at; it = r }) (chain k false (at + rsize r) s)
+chain-onto : (r : Rec) (k at : ℕ) (s : List ℕ) → Fine r → chain (suc k) false at (onto r s) ≡ add (record {
+  at = at;
+  it = r;
+}) (chain k false (at + rsize r) s)
 chain-onto r k at s f =
-    rw (chain-record k at (length (r .name)) (length (r .content)) (onto r s) (next-onto r s f), rec-of-onto r s, drop-onto r s, finished (f .status-ok))
+    rw (chain-record k at (length (r .name)) (length (r .content)) (onto r s) (next-onto r s f), rec-of-onto r s, drop-onto r s, finished
+        (f .status-ok))
 
 -- the chain over all of them
 pub chain-lay : (rs : List Rec) (k at : ℕ) (s : List ℕ) → All-fine rs →
@@ -232,7 +243,9 @@ onto-is r s = simp append-assoc
 -- the records first, then what follows
 pub lay-is : (rs : List Rec) (s : List ℕ) → lay rs s ≡ lay rs [] ++ s
 lay-is [] s = refl
-lay-is (r ∷ rs) s = ap (onto r) (lay-is rs s) ∙ onto-is r (lay rs [] ++ s) ∙ sym (append-assoc (onto r []) (lay rs []) s) ∙ ap (λ (l : List ℕ). l ++ s) (sym (onto-is r (lay rs [])))
+lay-is (r ∷ rs) s =
+    ap (onto r) (lay-is rs s) ∙ onto-is r (lay rs [] ++ s) ∙ sym (append-assoc (onto r []) (lay rs []) s)
+        ∙ ap (λ (l : List ℕ). l ++ s) (sym (onto-is r (lay rs [])))
 
 -- more behind what follows
 pub lay-past : (rs : List Rec) (s t : List ℕ) → lay rs s ++ t ≡ lay rs (s ++ t)

@@ -45,9 +45,11 @@ module _ {A : Type 0} where
   -- what is kept of a list in another order
   pub perm-keep : (p : A → Bool) {xs ys : List A} → List·Permᴰ xs ys → List·Permᴰ (keep p xs) (keep p ys)
   perm-keep p List·Permᴰ·nil = List·Permᴰ·nil
-  perm-keep p (List·Permᴰ·cons {a = x} {b = y} {l₁ = xs} {l₂ = ys} e d) = subst (λ (z : A). List·Permᴰ (keep p (x ∷ xs)) (keep p (z ∷ ys))) e (keep-cons p x xs ys (perm-keep p d))
+  perm-keep p (List·Permᴰ·cons {a = x} {b = y} {l₁ = xs} {l₂ = ys} e d) =
+      subst (λ (z : A). List·Permᴰ (keep p (x ∷ xs)) (keep p (z ∷ ys))) e (keep-cons p x xs ys (perm-keep p d))
   perm-keep p (List·Permᴰ·swap {a = x} {b = y} {a′ = u} {b′ = v} {l = l} e f) =
-      subst (λ (z : A). List·Permᴰ (keep p (x ∷ y ∷ l)) (keep p (z ∷ v ∷ l))) f (subst (λ (z : A). List·Permᴰ (keep p (x ∷ y ∷ l)) (keep p (y ∷ z ∷ l))) e (keep-swap p x y l))
+      subst (λ (z : A). List·Permᴰ (keep p (x ∷ y ∷ l)) (keep p (z ∷ v ∷ l))) f
+          (subst (λ (z : A). List·Permᴰ (keep p (x ∷ y ∷ l)) (keep p (y ∷ z ∷ l))) e (keep-swap p x y l))
   perm-keep p (List·Permᴰ·trans d e) = List·Permᴰ·trans (perm-keep p d) (perm-keep p e)
 
 -- nothing to take away
@@ -76,4 +78,6 @@ contents-one e h = rw (keep-yes alive e [] h)
 -- an entry that is not alive doesn't matter
 pub matches-dead : (xs ys : List Entry) (e : Entry) (l : Ledger) → alive e ≡ false → Matches (xs ++ ys) l → Matches (xs ++ (e ∷ ys)) l
 matches-dead xs ys e l a m =
-    subst (λ (fs : List File). List·Permᴰ fs l) (contents-append xs ys ∙ ap (λ (fs : List Entry). contents xs ++ map as-file fs) (sym (keep-no alive e ys a)) ∙ sym (contents-append xs (e ∷ ys))) m
+    subst (λ (fs : List File). List·Permᴰ fs l)
+        (contents-append xs ys ∙ ap (λ (fs : List Entry). contents xs ++ map as-file fs) (sym (keep-no alive e ys a))
+        ∙ sym (contents-append xs (e ∷ ys))) m

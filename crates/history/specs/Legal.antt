@@ -32,14 +32,16 @@ unfolding judged
 judged-by im r e = rw (judged, e)
 
 -- a head, a chain and the rules give the reading
-pub reading-by : (im : List ℕ) (h : ℕ) (r : Reading) → head im ≡ give h → reading-from im h ≡ r → whole (r .ending) ≡ true → Ruled (r .entries) → free-ok im r ≡ true → reading im ≡ give r
+pub reading-by : (im : List ℕ) (h : ℕ) (r : Reading) → head im ≡ give h → reading-from im h ≡ r → whole (r .ending) ≡ true → Ruled (r .entries)
+    → free-ok im r ≡ true → reading im ≡ give r
 unfolding reading
 reading-by im h r e₁ e₂ w u f = rw (reading, e₁, e₂) (judged-by im r (legal-by im r w u f))
 
 -- ---- the free run
 
 -- turned, the head not CLEAN: the free run is FF
-pub free-turned : (im : List ℕ) (N h t : ℕ) (es : List Entry) (e : Ending) → head-clean es ≡ false → blank (part t (floor h) im) ≡ true → free-ok im (read N h t true es e) ≡ true
+pub free-turned : (im : List ℕ) (N h t : ℕ) (es : List Entry) (e : Ending) → head-clean es ≡ false → blank (part t (floor h) im) ≡ true
+    → free-ok im (read N h t true es e) ≡ true
 unfolding free-ok free-blank
 free-turned im N h t es e k a = rw (free-ok, k, free-blank, a)
 
@@ -57,7 +59,8 @@ module _ (low high : List Rec) (gap lost rest : List ℕ) (h : ℕ) (below : siz
       ap₂ drop e (take-low low high gap lost rest h below here) ∙ drop-lay low gap 0
 
   -- behind the records from the head on
-  pub part-rest : (N : ℕ) → N ≡ length (image low high gap lost rest h below here) → part (h + sizes high) N (image low high gap lost rest h below here) ≡ rest
+  pub part-rest : (N : ℕ) → N ≡ length (image low high gap lost rest h below here)
+      → part (h + sizes high) N (image low high gap lost rest h below here) ≡ rest
   part-rest N e =
       let im : List ℕ = image low high gap lost rest h below here in
       ap (drop (h + sizes high)) (take-all N im (omega arith)) ∙ sym (drop-drop (sizes high) h im)

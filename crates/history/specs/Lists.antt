@@ -91,11 +91,13 @@ module _ {A : Type 0} where
   each-both P Q (x ∷ xs) p q = ((p .0, q .0), each-both P Q xs (p .1) (q .1))
 
   -- what holds of each and itself, and of any two both ways, holds of all pairs
-  pub all-pairs : (R S : A → A → Type 0) → ((x : A) → R x x) → ((x y : A) → S x y → R x y) → ((x y : A) → S x y → R y x) → (xs : List A) → Pairwise S xs → Each (λ x. Each (R x) xs) xs
+  pub all-pairs : (R S : A → A → Type 0) → ((x : A) → R x x) → ((x y : A) → S x y → R x y) → ((x y : A) → S x y → R y x) → (xs : List A)
+      → Pairwise S xs → Each (λ x. Each (R x) xs) xs
   all-pairs R S r a b [] h = tt
   all-pairs R S r a b (x ∷ xs) h = (
     (r x, each-map xs (λ y s. a x y s) (h .0)),
-    each-map xs (λ y p. (p .0, p .1)) (each-both (λ y. R y x) (λ y. Each (R y) xs) xs (each-map {Q = λ y. R y x} xs (λ y s. b x y s) (h .0)) (all-pairs R S r a b xs (h .1))),
+    each-map xs (λ y p. (p .0, p .1))
+        (each-both (λ y. R y x) (λ y. Each (R y) xs) xs (each-map {Q = λ y. R y x} xs (λ y s. b x y s) (h .0)) (all-pairs R S r a b xs (h .1))),
   )
 
   -- one more at the end
@@ -204,7 +206,8 @@ module _ {A : Type 0} where
   pairwise-behind S (x ∷ xs) ys e h = pairwise-behind S xs ys e (h .1)
 
   -- one more
-  pub pairwise-insert : (S : A → A → Type 0) (xs ys : List A) (e : A) → Pairwise S (xs ++ ys) → Each (λ x. S x e) xs → Each (S e) ys → Pairwise S (xs ++ (e ∷ ys))
+  pub pairwise-insert : (S : A → A → Type 0) (xs ys : List A) (e : A) → Pairwise S (xs ++ ys) → Each (λ x. S x e) xs → Each (S e) ys
+      → Pairwise S (xs ++ (e ∷ ys))
   pairwise-insert S [] ys e h b a = (a, h)
   pairwise-insert S (x ∷ xs) ys e h b a = (each-insert (S x) xs ys e (h .0) (b .0), pairwise-insert S xs ys e (h .1) (b .1) a)
 

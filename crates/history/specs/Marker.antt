@@ -24,8 +24,10 @@ use Rattle.history.specs.StraightEdit.{other, run-behind}
 use Rattle.history.specs.Turned.{Turned, exact, marker, opens-blanks, End, end-bytes}
 
 -- a chain whose records are followed by what ends them has turned: the sectors below the head are its free run
-pub turned-gap : {im : List ℕ} {a l : ℕ} {gap lost : List ℕ} {h : ℕ} {high : List Rec} {free : List ℕ} (s : Straight im a l gap lost h high seg-none free) (im′ : List ℕ) (end : End) →
-    im′ ≡ gap ++ (lost ++ lay high (end-bytes end)) → gap ≡ blanks (4096 * a) → 1 ≤ a → Turned im′ a l lost h [] seg-none (512 * a) (blanks (4096 * a)) high end
+pub turned-gap : {im : List ℕ} {a l : ℕ} {gap lost : List ℕ} {h : ℕ} {high : List Rec} {free : List ℕ}
+    (s : Straight im a l gap lost h high seg-none free) (im′ : List ℕ) (end : End) →
+    im′ ≡ gap ++ (lost ++ lay high (end-bytes end)) → gap ≡ blanks (4096 * a) → 1 ≤ a
+        → Turned im′ a l lost h [] seg-none (512 * a) (blanks (4096 * a)) high end
 turned-gap {a = a} {lost = lost} {high = high} s im′ end i e b =
     record {
       is = i ∙ ap (λ (x : List ℕ). x ++ (lost ++ lay high (end-bytes end))) e;
@@ -44,8 +46,10 @@ turned-gap {a = a} {lost = lost} {high = high} s im′ end i e b =
       fine-high = s .fine;
     }
 
-module _ {im : List ℕ} {a l : ℕ} {gap lost : List ℕ} {h : ℕ} {high : List Rec} {g : ℕ} (s : Straight im a l gap lost h high seg-none (blanks g)) (eight : 8 ≤ g) where
-  at-tail : (j : ℕ) → j ≤ 3 → run im (moved (h + sizes high) (take j marker-steps)) ≡ gap ++ (lost ++ lay high (run (blanks 8 ++ blanks (g - 8)) (take j marker-steps)))
+module _ {im : List ℕ} {a l : ℕ} {gap lost : List ℕ} {h : ℕ} {high : List Rec} {g : ℕ} (s : Straight im a l gap lost h high seg-none (blanks g))
+    (eight : 8 ≤ g) where
+  at-tail : (j : ℕ) → j ≤ 3
+      → run im (moved (h + sizes high) (take j marker-steps)) ≡ gap ++ (lost ++ lay high (run (blanks 8 ++ blanks (g - 8)) (take j marker-steps)))
   at-tail j l =
       run-behind high [] (sym (append-nil high)) s (take j marker-steps) (programs j)
       ∙ ap (λ (x : List ℕ). gap ++ (lost ++ lay high (run x (take j marker-steps)))) (blank-split 8 (g - 8) g (omega arith))
@@ -65,18 +69,22 @@ module _ {im : List ℕ} {a l : ℕ} {gap lost : List ℕ} {h : ℕ} {high : Lis
   torn-2 = other (run im (moved (h + sizes high) (take 2 marker-steps))) s (at-tail 2 (omega arith)) (s .fine)
 
   -- done: the chain has turned, T is 0
-  pub turned-by : gap ≡ blanks (4096 * a) → 1 ≤ a → Turned (run im (moved (h + sizes high) marker-steps)) a l lost h [] seg-none (512 * a) (blanks (4096 * a)) high (marker (g - 8))
+  pub turned-by : gap ≡ blanks (4096 * a) → 1 ≤ a
+      → Turned (run im (moved (h + sizes high) marker-steps)) a l lost h [] seg-none (512 * a) (blanks (4096 * a)) high (marker (g - 8))
   turned-by e b = turned-gap s (run im (moved (h + sizes high) marker-steps)) (marker (g - 8)) (at-tail 3 (omega arith)) e b
 
 -- a chain that ends at N with floor(h) > 0 has turned: the same bytes
-pub turned-exact : {im : List ℕ} {a l : ℕ} {gap lost : List ℕ} {h : ℕ} {high : List Rec} (s : Straight im a l gap lost h high seg-none []) → gap ≡ blanks (4096 * a) → 1 ≤ a →
+pub turned-exact : {im : List ℕ} {a l : ℕ} {gap lost : List ℕ} {h : ℕ} {high : List Rec} (s : Straight im a l gap lost h high seg-none [])
+    → gap ≡ blanks (4096 * a) → 1 ≤ a →
     Turned im a l lost h [] seg-none (512 * a) (blanks (4096 * a)) high exact
 turned-exact {im = im} s e b = turned-gap s im exact (s .is) e b
 
 -- the reading of a torn wrap
-pub torn-reading : (k : ℕ) {im : List ℕ} {a l : ℕ} {gap lost : List ℕ} {h c : ℕ} {x : Rec} {ys : List Rec} (s : Straight im a l gap lost h (x ∷ ys) seg-none (torn-wrap c k)) → Begun c → 1 ≤ a →
+pub torn-reading : (k : ℕ) {im : List ℕ} {a l : ℕ} {gap lost : List ℕ} {h c : ℕ} {x : Rec} {ys : List Rec}
+    (s : Straight im a l gap lost h (x ∷ ys) seg-none (torn-wrap c k)) → Begun c → 1 ≤ a →
     reading-from im h ≡ read (length im) h 0 true (entries-of h (x ∷ ys)) (Ending.TornWrap (h + sizes (x ∷ ys)))
 torn-reading k {im} {a} {l} {gap} {lost} {h} {c} {x} {ys} s b z =
     rw (s .is)
-    (shape-torn-wrap [] (x ∷ ys) gap lost (torn-wrap c k) h (zero-add (length gap) ∙ s .gap-length ∙ sym (bottom s)) (omega (arith, bottom s, s .at, s .lost-length)) tt (s .fine) (omega arith)
+    (shape-torn-wrap [] (x ∷ ys) gap lost (torn-wrap c k) h (zero-add (length gap) ∙ s .gap-length ∙ sym (bottom s))
+        (omega (arith, bottom s, s .at, s .lost-length)) tt (s .fine) (omega arith)
     (h + sizes (x ∷ ys)) (λ w. omega (arith, bottom s)) (ends-torn-wrap (h + sizes (x ∷ ys)) k b))

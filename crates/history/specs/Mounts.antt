@@ -28,7 +28,8 @@ mends l im i = go (i .kind)
   where
     go : Kind im l → Mends l im
     go (quiet B F {es = es} {seg = seg-none} d e s o) = mends-quiet (rested-of B F (i .good) d (tail-here e .tail) s o)
-    go (quiet B F {es = es} {seg = seg-torn c x y z w t b m} d e s o) = mends-void B F es (seg-torn c x y z w t b m) (i .good) d e s o (open-some _ refl)
+    go (quiet B F {es = es} {seg = seg-torn c x y z w t b m} d e s o) =
+        mends-void B F es (seg-torn c x y z w t b m) (i .good) d e s o (open-some _ refl)
     go (quiet B F {es = es} {seg = seg-cut c n f} d e s o) = mends-void B F es (seg-cut c n f) (i .good) d e s o (open-some _ refl)
     go (quiet B F {es = es} {seg = seg-held n c f} d e s o) = mends-void B F es (seg-held n c f) (i .good) d e s o (open-some _ refl)
     go (half a m c k s b z st o) = mends-half a m c k i s b z st o

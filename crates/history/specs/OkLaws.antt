@@ -48,7 +48,8 @@ contents-mid xs ys e a = contents-append xs (e ∷ ys) ∙ ap (λ (fs : List Ent
 contents-front : (xs ys : List Entry) (e : Entry) → alive e ≡ true → List·Permᴰ (contents (xs ++ (e ∷ ys))) (as-file e ∷ contents (xs ++ ys))
 contents-front xs ys e a =
     subst (λ (fs : List File). List·Permᴰ fs (as-file e ∷ contents (xs ++ ys))) (sym (contents-mid xs ys e a))
-    (subst (λ (fs : List File). List·Permᴰ (contents xs ++ (as-file e ∷ contents ys)) (as-file e ∷ fs)) (sym (contents-append xs ys)) (Permᴰ·middle (as-file e) (contents xs) (contents ys)))
+    (subst (λ (fs : List File). List·Permᴰ (contents xs ++ (as-file e ∷ contents ys)) (as-file e ∷ fs)) (sym (contents-append xs ys))
+        (Permᴰ·middle (as-file e) (contents xs) (contents ys)))
 
 -- no other live record has e's name
 absent-others : (xs ys : List Entry) (e : Entry) → Unique (xs ++ (e ∷ ys)) → alive e ≡ true → Absent (name-of e) (xs ++ ys)
@@ -58,17 +59,22 @@ absent-others xs ys e u a =
     (each-map ys (λ f h k. same-sym (name-of f) (name-of e) ∙ h a k) (pairwise-behind Apart xs ys e u))
 
 -- without e's file the ledger has the others
-without-mid : (xs ys : List Entry) (e : Entry) (l : Ledger) → Unique (xs ++ (e ∷ ys)) → alive e ≡ true → Matches (xs ++ (e ∷ ys)) l → List·Permᴰ (contents (xs ++ ys)) (without (name-of e) l)
+without-mid : (xs ys : List Entry) (e : Entry) (l : Ledger) → Unique (xs ++ (e ∷ ys)) → alive e ≡ true → Matches (xs ++ (e ∷ ys)) l
+    → List·Permᴰ (contents (xs ++ ys)) (without (name-of e) l)
 without-mid xs ys e l u a m =
     let n : List ℕ = name-of e in
-    let p : List·Permᴰ (without n (as-file e ∷ contents (xs ++ ys))) (without n l) = perm-keep (not-named n) (List·Permᴰ·trans (Permᴰ·symm (contents-front xs ys e a)) m) in
+    let p : List·Permᴰ (without n (as-file e ∷ contents (xs ++ ys))) (without n l) = perm-keep (not-named n)
+        (List·Permᴰ·trans (Permᴰ·symm (contents-front xs ys e a)) m) in
+    
     let q : without n (as-file e ∷ contents (xs ++ ys)) ≡ contents (xs ++ ys) =
     keep-no (not-named n) (as-file e) (contents (xs ++ ys)) (ap not (same-refl n)) ∙ keep-contents n (xs ++ ys) (absent-others xs ys e u a) in
     subst (λ (fs : List File). List·Permᴰ fs (without n l)) q p
 
-matches-put : (es : List Entry) (e : Entry) (l : Ledger) → alive e ≡ true → List·Permᴰ (contents es) (without (name-of e) l) → Matches (es ++ (e ∷ [])) (with-file (name-of e) (content-of e) l)
+matches-put : (es : List Entry) (e : Entry) (l : Ledger) → alive e ≡ true → List·Permᴰ (contents es) (without (name-of e) l)
+    → Matches (es ++ (e ∷ [])) (with-file (name-of e) (content-of e) l)
 matches-put es e l a p =
-    subst (λ (fs : List File). List·Permᴰ fs (with-file (name-of e) (content-of e) l)) (sym (contents-append es (e ∷ []) ∙ ap (λ (fs : List File). contents es ++ fs) (contents-one e a)))
+    subst (λ (fs : List File). List·Permᴰ fs (with-file (name-of e) (content-of e) l))
+        (sym (contents-append es (e ∷ []) ∙ ap (λ (fs : List File). contents es ++ fs) (contents-one e a)))
     (List·Permᴰ·trans (Permᴰ·middle (as-file e) (contents es) []) (List·Permᴰ·cons refl (List·Permᴰ·trans (Permᴰ·append-nil (contents es)) p)))
 
 apart-dead : (f : Entry) → alive f ≡ false → (z : Entry) → Apart f z
@@ -93,12 +99,16 @@ module _ (xs ys : List Entry) (e f : Entry) (l : Ledger) (ok : Ok (xs ++ (e ∷ 
     where
       go : (b : Bool) → alive e ≡ b → contents (xs ++ (e ∷ ys)) ≡ contents (xs ++ (f ∷ ys))
       go true k =
-          contents-mid xs ys e k ∙ ap (λ (g : File). contents xs ++ (g ∷ contents ys)) (λ i. record { name = sym n i; content = sym c i }) ∙ sym (contents-mid xs ys f (a ∙ k))
+          contents-mid xs ys e k ∙ ap (λ (g : File). contents xs ++ (g ∷ contents ys)) (λ i. record {
+            name = sym n i;
+            content = sym c i;
+          }) ∙ sym (contents-mid xs ys f (a ∙ k))
       go false k = contents-dead xs ys e k ∙ sym (contents-dead xs ys f (a ∙ k))
 
   unique-dead : alive f ≡ false → Unique (xs ++ (f ∷ ys))
   unique-dead b =
-      pairwise-insert Apart xs ys f (pairwise-without Apart xs ys e (ok .unique)) (each-all (λ z. Apart z f) (dead-apart f b) xs) (each-all (Apart f) (apart-dead f b) ys)
+      pairwise-insert Apart xs ys f (pairwise-without Apart xs ys e (ok .unique)) (each-all (λ z. Apart z f) (dead-apart f b) xs)
+          (each-all (Apart f) (apart-dead f b) ys)
 
   -- a dead record stays dead
   pub ok-dead : alive e ≡ false → alive f ≡ false → Ok (xs ++ (f ∷ ys)) l
@@ -117,7 +127,9 @@ module _ (xs ys : List Entry) (e f : Entry) (l : Ledger) (ok : Ok (xs ++ (e ∷ 
         unique = unique-dead b;
         well-named = each-swap Well-named xs ys e f (ok .well-named) (dead-named f b);
         bytes = each-swap Live-bytes xs ys e f (ok .bytes) (dead-bytes f b);
-        matches = subst (λ (fs : List File). List·Permᴰ fs (without (name-of e) l)) (sym (contents-dead xs ys f b)) (without-mid xs ys e l (ok .unique) a (ok .matches));
+        matches =
+            subst (λ (fs : List File). List·Permᴰ fs (without (name-of e) l)) (sym (contents-dead xs ys f b))
+                (without-mid xs ys e l (ok .unique) a (ok .matches));
       }
 
 -- a record more, dead
@@ -132,7 +144,8 @@ ok-add es u l ok a =
 
 -- a file more
 pub ok-new :
-    (es : List Entry) (e : Entry) (l : Ledger) → Ok es l → alive e ≡ true → Absent (name-of e) es → name-ok (name-of e) ≡ true → Bytes (content-of e) →
+    (es : List Entry) (e : Entry) (l : Ledger) → Ok es l → alive e ≡ true → Absent (name-of e) es → name-ok (name-of e) ≡ true → Bytes (content-of e)
+        →
     Ok (es ++ (e ∷ [])) (with-file (name-of e) (content-of e) l)
 ok-new es e l ok a n m b =
     record {
@@ -141,12 +154,14 @@ ok-new es e l ok a n m b =
       bytes = each-end Live-bytes es e (ok .bytes) (λ k. b);
       matches =
           matches-put es e l a
-          (subst (λ (fs : List File). List·Permᴰ fs (without (name-of e) l)) (keep-contents (name-of e) es n) (perm-keep (not-named (name-of e)) (ok .matches)));
+          (subst (λ (fs : List File). List·Permᴰ fs (without (name-of e) l)) (keep-contents (name-of e) es n)
+              (perm-keep (not-named (name-of e)) (ok .matches)));
     }
 
 -- the file o is replaced by the record e at the end: o is shadowed, and without it the files are the new ledger's
 pub ok-over :
-    (xs ys : List Entry) (o e : Entry) (l : Ledger) → Ok (xs ++ (o ∷ ys)) l → named 0xF8 o ≡ true → named 0xFC e ≡ true → name-of e ≡ name-of o → Bytes (content-of e) →
+    (xs ys : List Entry) (o e : Entry) (l : Ledger) → Ok (xs ++ (o ∷ ys)) l → named 0xF8 o ≡ true → named 0xFC e ≡ true → name-of e ≡ name-of o
+        → Bytes (content-of e) →
     Ok (xs ++ (ys ++ (e ∷ []))) (with-file (name-of e) (content-of e) l) × Shadowed xs (ys ++ (e ∷ [])) o
 unfolding has-named
 ok-over xs ys o e l ok p q n b = (
@@ -154,7 +169,8 @@ ok-over xs ys o e l ok p q n b = (
   record {
     unique = subst Unique split (whole .unique);
     old = p;
-    covered = subst (λ (m : List Entry). has-named 0xFC m o ≡ true) split (any-last (named-as 0xFC o) (xs ++ ys) e (rw (q, n) (same-refl (name-of o))));
+    covered =
+        subst (λ (m : List Entry). has-named 0xFC m o ≡ true) split (any-last (named-as 0xFC o) (xs ++ ys) e (rw (q, n) (same-refl (name-of o))));
   },
 )
   where
@@ -167,12 +183,17 @@ ok-over xs ys o e l ok p q n b = (
     whole : Ok ((xs ++ ys) ++ (e ∷ [])) (with-file (name-of e) (content-of e) l)
     whole =
         record {
-          unique = pairwise-end Apart (xs ++ ys) e (pairwise-without Apart xs ys o (ok .unique)) (each-map (xs ++ ys) (λ z h k j. ap (same (name-of z)) n ∙ h k) others);
-          well-named = each-end Well-named (xs ++ ys) e (each-without Well-named xs ys o (ok .well-named)) (λ k. ap name-ok n ∙ each-at Well-named xs ys o (ok .well-named) (f8-alive o p));
+          unique =
+              pairwise-end Apart (xs ++ ys) e (pairwise-without Apart xs ys o (ok .unique))
+                  (each-map (xs ++ ys) (λ z h k j. ap (same (name-of z)) n ∙ h k) others);
+          well-named =
+              each-end Well-named (xs ++ ys) e (each-without Well-named xs ys o (ok .well-named))
+                  (λ k. ap name-ok n ∙ each-at Well-named xs ys o (ok .well-named) (f8-alive o p));
           bytes = each-end Live-bytes (xs ++ ys) e (each-without Live-bytes xs ys o (ok .bytes)) (λ k. b);
           matches =
               matches-put (xs ++ ys) e l (fc-alive e q)
-              (subst (λ (m : List ℕ). List·Permᴰ (contents (xs ++ ys)) (without m l)) (sym n) (without-mid xs ys o l (ok .unique) (f8-alive o p) (ok .matches)));
+              (subst (λ (m : List ℕ). List·Permᴰ (contents (xs ++ ys)) (without m l)) (sym n)
+                  (without-mid xs ys o l (ok .unique) (f8-alive o p) (ok .matches)));
         }
 
 -- the shadowed record is deleted
@@ -200,7 +221,8 @@ pub ok-perm : (es : List Entry) (k l : Ledger) → List·Permᴰ k l → Ok es k
 ok-perm es k l p ok = record { unique = ok .unique; well-named = ok .well-named; bytes = ok .bytes; matches = List·Permᴰ·trans (ok .matches) p }
 
 -- a file put again with the content that it has
-pub ok-again : (xs ys : List Entry) (e : Entry) (l : Ledger) → Ok (xs ++ (e ∷ ys)) l → alive e ≡ true → List·Permᴰ (with-file (name-of e) (content-of e) l) l
+pub ok-again : (xs ys : List Entry) (e : Entry) (l : Ledger) → Ok (xs ++ (e ∷ ys)) l → alive e ≡ true
+    → List·Permᴰ (with-file (name-of e) (content-of e) l) l
 ok-again xs ys e l ok a =
     List·Permᴰ·trans (List·Permᴰ·cons refl (Permᴰ·symm (without-mid xs ys e l (ok .unique) a (ok .matches))))
     (List·Permᴰ·trans (Permᴰ·symm (contents-front xs ys e a)) (ok .matches))
@@ -212,7 +234,8 @@ pub data Old (n : List ℕ) (es : List Entry) : Option Entry → Type 0 where
   old-none : Absent n es → Old n es none
   old-some : (xs ys : List Entry) (e : Entry) → es ≡ xs ++ (e ∷ ys) → alive e ≡ true → name-of e ≡ n → Old n es (some e)
 
-old-cons : {o : Option Entry} (n : List ℕ) (x : Entry) (es : List Entry) → (alive x ≡ true → same (name-of x) n ≡ false) → Old n es o → Old n (x ∷ es) o
+old-cons : {o : Option Entry} (n : List ℕ) (x : Entry) (es : List Entry) → (alive x ≡ true → same (name-of x) n ≡ false) → Old n es o
+    → Old n (x ∷ es) o
 old-cons n x es h (old-none a) = old-none (h, a)
 old-cons n x es h (old-some xs ys e q a m) = old-some (x ∷ xs) ys e (ap (λ (l : List Entry). x ∷ l) q) a m
 
@@ -220,12 +243,16 @@ old-first : (n : List ℕ) (es : List Entry) → Old n es (first-such (has-name 
 old-first n [] = old-none tt
 old-first n (e ∷ es) = go (alive e) (same (name-of e) n) refl refl (old-first n es)
   where
-    go : (a b : Bool) → alive e ≡ a → same (name-of e) n ≡ b → Old n es (first-such (has-name n) (keep alive es)) → Old n (e ∷ es) (first-such (has-name n) (keep alive (e ∷ es)))
+    go : (a b : Bool) → alive e ≡ a → same (name-of e) n ≡ b → Old n es (first-such (has-name n) (keep alive es))
+        → Old n (e ∷ es) (first-such (has-name n) (keep alive (e ∷ es)))
     go true true x y ih =
-        subst (Old n (e ∷ es)) (sym (ap (first-such (has-name n)) (keep-yes alive e es x) ∙ first-yes (has-name n) e (keep alive es) y)) (old-some [] es e refl x (same-is (name-of e) n y))
+        subst (Old n (e ∷ es)) (sym (ap (first-such (has-name n)) (keep-yes alive e es x) ∙ first-yes (has-name n) e (keep alive es) y))
+            (old-some [] es e refl x (same-is (name-of e) n y))
     go true false x y ih =
-        subst (Old n (e ∷ es)) (sym (ap (first-such (has-name n)) (keep-yes alive e es x) ∙ first-no (has-name n) e (keep alive es) y)) (old-cons n e es (λ k. y) ih)
-    go false b x y ih = subst (Old n (e ∷ es)) (sym (ap (first-such (has-name n)) (keep-no alive e es x))) (old-cons n e es (λ k. absurd (not-both (alive e) x k)) ih)
+        subst (Old n (e ∷ es)) (sym (ap (first-such (has-name n)) (keep-yes alive e es x) ∙ first-no (has-name n) e (keep alive es) y))
+            (old-cons n e es (λ k. y) ih)
+    go false b x y ih =
+        subst (Old n (e ∷ es)) (sym (ap (first-such (has-name n)) (keep-no alive e es x))) (old-cons n e es (λ k. absurd (not-both (alive e) x k)) ih)
 
 -- what the search for a name gives
 pub old-file : (n : List ℕ) (es : List Entry) (l : Ledger) → Ok es l → Old n es (file-named n es)

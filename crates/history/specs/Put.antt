@@ -29,7 +29,8 @@ pub record Opened (f : ℕ) (s l : List ℕ) : Type 0 where
 joined-blanks : (a b c m : ℕ) (s : List ℕ) → m ≡ suc (a + (b + c)) → blanks m ++ s ≡ 255 ∷ (blanks a ++ (blanks b ++ (blanks c ++ s)))
 joined-blanks a b c m s e =
     ap (λ (n : ℕ). blanks n ++ s) e
-    ∙ ap (λ (l : List ℕ). 255 ∷ l) (ap (λ (l : List ℕ). l ++ s) (blank-split a (b + c) (a + (b + c)) refl) ∙ append-assoc (blanks a) (blanks (b + c)) s
+    ∙ ap (λ (l : List ℕ). 255 ∷ l)
+        (ap (λ (l : List ℕ). l ++ s) (blank-split a (b + c) (a + (b + c)) refl) ∙ append-assoc (blanks a) (blanks (b + c)) s
     ∙ ap (λ (l : List ℕ). blanks a ++ l) (ap (λ (l : List ℕ). l ++ s) (blank-split b c (b + c) refl) ∙ append-assoc (blanks b) (blanks c) s))
 
 take-plain : (j : ℕ) (n : List ℕ) → Plain n → Plain (take j n)
@@ -38,7 +39,8 @@ take-plain (suc j) [] p = tt
 take-plain (suc j) (x ∷ n) p = (p .0, take-plain j n (p .1))
 
 -- a name with j bytes written
-cut-state : (d j f m : ℕ) (n s : List ℕ) → length n ≡ j → j < 64 → Plain n → d < 4294967296 → size-of j d ≤ f → m + j + 8 ≡ f → Opened f s (header d (n ++ (blanks m ++ s)))
+cut-state : (d j f m : ℕ) (n s : List ℕ) → length n ≡ j → j < 64 → Plain n → d < 4294967296 → size-of j d ≤ f → m + j + 8 ≡ f
+    → Opened f s (header d (n ++ (blanks m ++ s)))
 cut-state d j f m n s e h p l i k =
     let left : ℕ = f - size-of j d in
     record {
@@ -58,9 +60,15 @@ torn-state c x y z w f s b h =
     }
 
 -- the header
-header-cut : (d f : ℕ) (s : List ℕ) → d < 4294967296 → size-of 0 d ≤ f → (k : ℕ) → k ≤ 7 → Opened f s (run (blanks 8 ++ (blanks (f - 8) ++ s)) (take k (header-steps d)))
+header-cut : (d f : ℕ) (s : List ℕ) → d < 4294967296 → size-of 0 d ≤ f → (k : ℕ) → k ≤ 7
+    → Opened f s (run (blanks 8 ++ (blanks (f - 8) ++ s)) (take k (header-steps d)))
 header-cut d f s l h zero i =
-    record { seg = seg-none; left = f; is = sym (append-assoc (blanks 8) (blanks (f - 8)) s) ∙ ap (λ (z : List ℕ). z ++ s) (sym (blank-split 8 (f - 8) f (omega arith))); sum = zero-add f }
+    record {
+      seg = seg-none;
+      left = f;
+      is = sym (append-assoc (blanks 8) (blanks (f - 8)) s) ∙ ap (λ (z : List ℕ). z ++ s) (sym (blank-split 8 (f - 8) f (omega arith)));
+      sum = zero-add f;
+    }
 header-cut d f s l h (suc zero) i = torn-state 255 255 255 255 255 f s begun-ff (omega arith)
 header-cut d f s l h (suc (suc zero)) i = torn-state 90 255 255 255 255 f s begun-5a (omega arith)
 header-cut d f s l h (suc (suc (suc zero))) i = torn-state 90 _ 255 255 255 f s begun-5a (omega arith)
@@ -97,10 +105,12 @@ named n c s f h =
     let b : blanks (f - 8) ++ s ≡ blanks (length n + 1) ++ (blanks p ++ (blanks d ++ (blanks (pad d) ++ (blanks r ++ s)))) =
     ap (λ (z : List ℕ). z ++ s) (blank-split (length n + 1) (p + (d + (pad d + r))) (f - 8) (omega arith)
     ∙ ap (λ (z : List ℕ). blanks (length n + 1) ++ z) (blank-split p (d + (pad d + r)) (p + (d + (pad d + r))) refl
-    ∙ ap (λ (z : List ℕ). blanks p ++ z) (blank-split d (pad d + r) (d + (pad d + r)) refl ∙ ap (λ (z : List ℕ). blanks d ++ z) (blank-split (pad d) r (pad d + r) refl))))
+    ∙ ap (λ (z : List ℕ). blanks p ++ z)
+        (blank-split d (pad d + r) (d + (pad d + r)) refl ∙ ap (λ (z : List ℕ). blanks d ++ z) (blank-split (pad d) r (pad d + r) refl))))
     ∙ simp append-assoc in
     rw (l, b, ← (bytes-append 8 n (0 ∷ [])))
-    (write-over (header d []) (blanks (length n + 1)) (n ++ (0 ∷ [])) (blanks p ++ (blanks d ++ (blanks (pad d) ++ (blanks r ++ s)))) 8 refl w ∙ simp append-assoc)
+    (write-over (header d []) (blanks (length n + 1)) (n ++ (0 ∷ [])) (blanks p ++ (blanks d ++ (blanks (pad d) ++ (blanks r ++ s)))) 8 refl w
+        ∙ simp append-assoc)
 
 -- j data bytes
 data-done : (n c s : List ℕ) (j m : ℕ) → j ≤ length c → length c ≡ j + m →
@@ -141,11 +151,14 @@ names-cut n c s f g h k i =
     let names : (j : ℕ) → j ≤ length n → Opened f s (run H (take j (bytes-at 8 n))) = name-cut (length c) f n s (g .short) (g .plain) (g .small) h in
     let all : take (length n) (bytes-at 8 n) ≡ bytes-at 8 n = take-all (length n) (bytes-at 8 n) (omega (arith, length-bytes 8 n)) in
     let a : Opened f s (run H (bytes-at 8 n)) = rw all at (names (length n) (omega arith)) in
-    let e : apply (run H (bytes-at 8 n)) (program (8 + length n) 0) ≡ R = sym (run-append H (bytes-at 8 n) (program (8 + length n) 0 ∷ [])) ∙ named n c s f h in
+    let e : apply (run H (bytes-at 8 n)) (program (8 + length n) 0) ≡ R = sym (run-append H (bytes-at 8 n) (program (8 + length n) 0 ∷ []))
+        ∙ named n c s f h in
+    
     cut-append (Opened f s) H (bytes-at 8 n) (program (8 + length n) 0 ∷ [])
     (λ j l. names j (omega (arith, length-bytes 8 n)))
     (cut-one (Opened f s) (run H (bytes-at 8 n)) (program (8 + length n) 0) [] a
-    (λ j l. subst (λ (m : List ℕ). Opened f s m) (sym e ∙ ap (run (apply (run H (bytes-at 8 n)) (program (8 + length n) 0))) (sym (take-nil j))) (data-cut n c s f g h 0 (omega arith))))
+    (λ j l. subst (λ (m : List ℕ). Opened f s m) (sym e ∙ ap (run (apply (run H (bytes-at 8 n)) (program (8 + length n) 0))) (sym (take-nil j)))
+        (data-cut n c s f g h 0 (omega arith))))
     k (omega (arith, length-bytes 8 n))
 
 body-cut : (n c s : List ℕ) (f : ℕ) → Fit (length c) n → size-of (length n) (length c) ≤ f → (k : ℕ) → k ≤ length n + suc (length c) →
@@ -162,9 +175,12 @@ length-body : (n c : List ℕ) → length (body-steps n c) ≡ length n + suc (l
 length-body n c = simp (length-append, length-bytes) (omega arith)
 
 -- all steps before the commit
-pub open-cut : (n c s : List ℕ) (f : ℕ) → Fit (length c) n → size-of (length n) (length c) ≤ f → (k : ℕ) → k ≤ 8 + length n + length c → Opened f s (run (blanks f ++ s) (take k (open-steps n c)))
+pub open-cut : (n c s : List ℕ) (f : ℕ) → Fit (length c) n → size-of (length n) (length c) ≤ f → (k : ℕ) → k ≤ 8 + length n + length c
+    → Opened f s (run (blanks f ++ s) (take k (open-steps n c)))
 open-cut n c s f g h k i =
-    let b : blanks f ++ s ≡ blanks 8 ++ (blanks (f - 8) ++ s) = ap (λ (z : List ℕ). z ++ s) (blank-split 8 (f - 8) f (omega arith)) ∙ append-assoc (blanks 8) (blanks (f - 8)) s in
+    let b : blanks f ++ s ≡ blanks 8 ++ (blanks (f - 8) ++ s) = ap (λ (z : List ℕ). z ++ s) (blank-split 8 (f - 8) f (omega arith))
+        ∙ append-assoc (blanks 8) (blanks (f - 8)) s in
+    
     rw b
     (cut-append (Opened f s) (blanks 8 ++ (blanks (f - 8) ++ s)) (header-steps (length c)) (body-steps n c)
     (λ j l. header-cut (length c) f s (g .small) (omega arith) j l)
@@ -176,10 +192,13 @@ abbrev pub file : List ℕ → List ℕ → Rec
 file n c = record { low = 165; status = 252; name = n; content = c }
 
 -- all but the commit is done
-pub open-done : (n c s : List ℕ) (f : ℕ) → size-of (length n) (length c) ≤ f → run (blanks f ++ s) (open-steps n c) ≡ onto (held n c) (blanks (f - size-of (length n) (length c)) ++ s)
+pub open-done : (n c s : List ℕ) (f : ℕ) → size-of (length n) (length c) ≤ f
+    → run (blanks f ++ s) (open-steps n c) ≡ onto (held n c) (blanks (f - size-of (length n) (length c)) ++ s)
 open-done n c s f h =
     let r : List ℕ = blanks (f - size-of (length n) (length c)) ++ s in
-    let b : blanks f ++ s ≡ blanks 8 ++ (blanks (f - 8) ++ s) = ap (λ (z : List ℕ). z ++ s) (blank-split 8 (f - 8) f (omega arith)) ∙ append-assoc (blanks 8) (blanks (f - 8)) s in
+    let b : blanks f ++ s ≡ blanks 8 ++ (blanks (f - 8) ++ s) = ap (λ (z : List ℕ). z ++ s) (blank-split 8 (f - 8) f (omega arith))
+        ∙ append-assoc (blanks 8) (blanks (f - 8)) s in
+    
     let H : List ℕ = header (length c) (blanks (f - 8) ++ s) in
     let D : List Step = data-steps (length n) c in
     let all : take (length c) D ≡ D = take-all (length c) D (omega (arith, length-bytes (8 + up8 (length n + 1)) c)) in

@@ -34,7 +34,8 @@ use Rattle.history.specs.OkLaws.{ok-same, ok-over, ok-unshadow}
 -- one record replaced by one with the same low byte
 pub starts-swap : (xs ys : List Entry) (e f : Entry) → f .it .low ≡ e .it .low → Starts (xs ++ (e ∷ ys)) → Starts (xs ++ (f ∷ ys))
 starts-swap [] ys e f k s = (k ∙ s .0, s .1)
-starts-swap (x ∷ xs) ys e f k s = (s .0, each-swap Unmarked xs ys e f (s .1) (ap (λ (b : ℕ). is-start b || is-clean b) k ∙ each-at Unmarked xs ys e (s .1)))
+starts-swap (x ∷ xs) ys e f k s =
+    (s .0, each-swap Unmarked xs ys e f (s .1) (ap (λ (b : ℕ). is-start b || is-clean b) k ∙ each-at Unmarked xs ys e (s .1)))
 
 -- a plain record behind
 pub starts-end : (es : List Entry) (e : Entry) → Unmarked e → Starts es → Starts (es ++ (e ∷ []))
@@ -76,7 +77,8 @@ unfolding alive named
 gone-dead e = refl
 
 -- a status byte that only clears bits
-pub status-sound : {im : Image} {h S : ℕ} {t : Bool} {seg : Seg} {below free : List ℕ} (xs ys : List Entry) (e : Entry) → Laid im h S t (xs ++ (e ∷ ys)) seg below free → (b : ℕ) →
+pub status-sound : {im : Image} {h S : ℕ} {t : Bool} {seg : Seg} {below free : List ℕ} (xs ys : List Entry) (e : Entry)
+    → Laid im h S t (xs ++ (e ∷ ys)) seg below free → (b : ℕ) →
     bitAnd b (e .it .status) ≡ b →
     Sound im (program (e .at + 2) b)
 status-sound xs ys e d b k = (omega (arith, entry-inside xs ys e d), subst (λ (z : ℕ). bitAnd b z ≡ b) (sym (status-at xs ys e d)) k)
@@ -97,9 +99,11 @@ unfolding bare-read
 bare-head r = refl
 
 -- it is rested
-pub bare-quiet : {im : Image} {h : ℕ} {es : List Entry} {l : Ledger} → good-length (length im) ≡ true → (r : Bare h es im) → Starts es → Ok es l → Rested l im (bare-read r)
+pub bare-quiet : {im : Image} {h : ℕ} {es : List Entry} {l : Ledger} → good-length (length im) ≡ true → (r : Bare h es im) → Starts es → Ok es l
+    → Rested l im (bare-read r)
 unfolding bare-read
-bare-quiet {im} {h} {es} g r st ok = record { good = g; h = h; S = r .S; B = r .B; F = r .F; t = r .t; es = es; laid = r .laid; tail = r .tail; starts = st; ok = ok; is = refl }
+bare-quiet {im} {h} {es} g r st ok =
+    record { good = g; h = h; S = r .S; B = r .B; F = r .F; t = r .t; es = es; laid = r .laid; tail = r .tail; starts = st; ok = ok; is = refl }
 
 -- ---- FC to F8
 
@@ -114,7 +118,8 @@ pub record Migrated (l : Ledger) (im : Image) (h S : ℕ) (t : Bool) (B F : ℕ)
   pub same-name : name-of o ≡ name-of e
   pub same-length : length (run im ss) ≡ length im
 
-module _ {im : Image} {h S : ℕ} {t : Bool} (B F : ℕ) (xs ys : List Entry) (e : Entry) (d : Laid im h S t (xs ++ (e ∷ ys)) seg-none (blanks B) (blanks F))
+module _ {im : Image} {h S : ℕ} {t : Bool} (B F : ℕ) (xs ys : List Entry) (e : Entry)
+    (d : Laid im h S t (xs ++ (e ∷ ys)) seg-none (blanks B) (blanks F))
     (tl : Tail h S t seg-none (blanks B) (blanks F) S t)
     (l : Ledger) (good : good-length (length im) ≡ true) (st : Starts (xs ++ (e ∷ ys))) (ok : Ok (xs ++ (e ∷ ys)) l) (a : alive e ≡ true) where
   here : Inv l im
@@ -148,7 +153,8 @@ module _ {im : Image} {h S : ℕ} {t : Bool} (B F : ℕ) (xs ys : List Entry) (e
 
 -- ---- the old file's 00, behind the commit of e
 
-module _ {im : Image} {h : ℕ} (xs ys : List Entry) (o e : Entry) (l : Ledger) (good : good-length (length im) ≡ true) (r : Bare h ((xs ++ (o ∷ ys)) ++ (e ∷ [])) im)
+module _ {im : Image} {h : ℕ} (xs ys : List Entry) (o e : Entry) (l : Ledger) (good : good-length (length im) ≡ true)
+    (r : Bare h ((xs ++ (o ∷ ys)) ++ (e ∷ [])) im)
     (st : Starts (xs ++ (o ∷ ys))) (ok : Ok (xs ++ (o ∷ ys)) l)
     (f8 : named 0xF8 o ≡ true) (fc : named 0xFC e ≡ true) (same : name-of e ≡ name-of o) (plain : Unmarked e) (b : Bytes (content-of e)) where
   abbrev new : Ledger
@@ -179,7 +185,12 @@ module _ {im : Image} {h : ℕ} (xs ys : List Entry) (o e : Entry) (l : Ledger) 
   -- before it the image is of kind shadow, after it quiet
   pub delete-safe : Safe (Inv new) im (program (o .at + 2) 0 ∷ [])
   delete-safe = (
-    record { good = good; kind = shadow (r .B) (r .F) xs (ys ++ (e ∷ [])) o laid (r .tail) starts (ok-over xs ys o e l ok f8 fc same b .1) (ok-over xs ys o e l ok f8 fc same b .0) },
+    record {
+      good = good;
+      kind =
+          shadow (r .B) (r .F) xs (ys ++ (e ∷ [])) o laid (r .tail) starts (ok-over xs ys o e l ok f8 fc same b .1)
+              (ok-over xs ys o e l ok f8 fc same b .0);
+    },
     status-sound xs (ys ++ (e ∷ [])) o laid 0 refl,
     bare-inv still-good deleted gone-starts gone-ok,
   )

@@ -39,14 +39,16 @@ small-image : (N : ℕ) → good-length N ≡ true → N ≤ 16777216
 unfolding good-length
 small-image N g = leb-true N 16777216 (and-right (eqb (N % 4096) 0 && leb 8192 N) (leb N 16777216) g)
 
-module _ {im : Image} {h S : ℕ} {t : Bool} {es : List Entry} (B F : ℕ) (d : Laid im h S t es seg-none (blanks B) (blanks F)) (l : Ledger) (good : good-length (length im) ≡ true) (st : Starts es)
+module _ {im : Image} {h S : ℕ} {t : Bool} {es : List Entry} (B F : ℕ) (d : Laid im h S t es seg-none (blanks B) (blanks F)) (l : Ledger)
+    (good : good-length (length im) ≡ true) (st : Starts es)
     (ok : Ok es l)
     (n c : List ℕ) (nice : name-ok n ≡ true) (b : Bytes c) where
   fit-tail : size-of (length n) (length c) ≤ F → Fit (length c) n
   fit-tail room = name-fit n (length c) nice (omega (arith, small-image (length im) good, laid-length d, length-replicate {A = ℕ} F 255))
 
   fit-zero : t ≡ false → size-of (length n) (length c) ≤ B → Fit (length c) n
-  fit-zero e room = name-fit n (length c) nice (omega (arith, small-image (length im) good, laid-head d, laid-below d e, length-replicate {A = ℕ} B 255))
+  fit-zero e room =
+      name-fit n (length c) nice (omega (arith, small-image (length im) good, laid-head d, laid-below d e, length-replicate {A = ℕ} B 255))
 
   at-tail : size-of (length n) (length c) ≤ F → Written l im h es n c [] S 0
   at-tail room =
@@ -73,18 +75,22 @@ module _ {im : Image} {h S : ℕ} {t : Bool} {es : List Entry} (B F : ℕ) (d : 
 
   -- put up to its commit, at the place that the size is given
   pub written : (p : Place) → p ≡ place im h S t → Tail h S t seg-none (blanks B) (blanks F) S t → fits p (size-of (length n) (length c)) ≡ true →
-      Written l im h es n c (turn-steps p (size-of (length n) (length c))) (address p (size-of (length n) (length c))) (three-if (with-marker p (size-of (length n) (length c))))
+      Written l im h es n c (turn-steps p (size-of (length n) (length c))) (address p (size-of (length n) (length c)))
+          (three-if (with-marker p (size-of (length n) (length c))))
   written p e tl f =
       let z : ℕ = size-of (length n) (length c) in
       let some : 1 ≤ z = omega arith in
       go (subst (Given t S B F z) (sym e) (given B F z d tl some (subst (λ (y : Place). fits y z ≡ true) e f)))
     where
       go : Given t S B F (size-of (length n) (length c)) p →
-          Written l im h es n c (turn-steps p (size-of (length n) (length c))) (address p (size-of (length n) (length c))) (three-if (with-marker p (size-of (length n) (length c))))
+          Written l im h es n c (turn-steps p (size-of (length n) (length c))) (address p (size-of (length n) (length c)))
+              (three-if (with-marker p (size-of (length n) (length c))))
       go (given-tail room a w) =
-          subst (λ (y : Bool). Written l im h es n c (elim y as (λ x. List Step) [ true ↦ moved (p .tail) marker-steps | false ↦ [] ]) (address p (size-of (length n) (length c))) (three-if y)) (sym w)
+          subst (λ (y : Bool). Written l im h es n c (elim y as (λ x. List Step) [ true ↦ moved (p .tail) marker-steps | false ↦ [] ])
+              (address p (size-of (length n) (length c))) (three-if y)) (sym w)
           (subst (λ (k : ℕ). Written l im h es n c [] k 0) (sym a) (at-tail room))
       go (given-zero u room eight a w) =
-          subst (λ (y : Bool). Written l im h es n c (elim y as (λ x. List Step) [ true ↦ moved (p .tail) marker-steps | false ↦ [] ]) (address p (size-of (length n) (length c))) (three-if y)) (sym w)
+          subst (λ (y : Bool). Written l im h es n c (elim y as (λ x. List Step) [ true ↦ moved (p .tail) marker-steps | false ↦ [] ])
+              (address p (size-of (length n) (length c))) (three-if y)) (sym w)
           (subst (λ (k : ℕ). Written l im h es n c (moved (p .tail) marker-steps) k 3) (sym a)
           (subst (λ (k : ℕ). Written l im h es n c (moved k marker-steps) 0 3) (sym (ap (λ (y : Place). y .tail) e)) (at-zero u room eight)))

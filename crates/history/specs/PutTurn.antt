@@ -32,7 +32,8 @@ use Rattle.history.specs.Lists.{and-left, and-right}
 
 -- ---- the marker
 
-module _ {im : Image} {h S : ℕ} {es : List Entry} (B F : ℕ) (d : Laid im h S false es seg-none (blanks B) (blanks F)) (l : Ledger) (st : Starts es) (ok : Ok es l) (eight : 8 ≤ F) (below : 8 ≤ B) where
+module _ {im : Image} {h S : ℕ} {es : List Entry} (B F : ℕ) (d : Laid im h S false es seg-none (blanks B) (blanks F)) (l : Ledger) (st : Starts es)
+    (ok : Ok es l) (eight : 8 ≤ F) (below : 8 ≤ B) where
   -- cut after its first byte, and after its second
   torn-kinds : Kind (set im (S + 0) 250) l × Kind (set (set im (S + 0) 250) (S + 1) 90) l
   torn-kinds = go d
@@ -42,10 +43,13 @@ module _ {im : Image} {h S : ℕ} {es : List Entry} (B F : ℕ) (d : Laid im h S
           let b : B ≡ 4096 * a = sym (length-replicate {A = ℕ} B 255) ∙ s .gap-length in
           let one : Straight (set im (S + 0) 250) a m (blanks (4096 * a)) lost h (x ∷ ys) seg-none (torn-wrap 255 (F - 8)) =
           subst (λ (n : ℕ). Straight (set im (n + 0) 250) a m (blanks (4096 * a)) lost h (x ∷ ys) seg-none (torn-wrap 255 (F - 8))) (sym i)
-          (subst (λ (n : ℕ). Straight (set im (h + sizes (x ∷ ys) + 0) 250) a m (blanks n) lost h (x ∷ ys) seg-none (torn-wrap 255 (F - 8))) b (torn-1 s eight)) in
+          (subst (λ (n : ℕ). Straight (set im (h + sizes (x ∷ ys) + 0) 250) a m (blanks n) lost h (x ∷ ys) seg-none (torn-wrap 255 (F - 8))) b
+              (torn-1 s eight)) in
           let two : Straight (set (set im (S + 0) 250) (S + 1) 90) a m (blanks (4096 * a)) lost h (x ∷ ys) seg-none (torn-wrap 90 (F - 8)) =
-          subst (λ (n : ℕ). Straight (set (set im (n + 0) 250) (n + 1) 90) a m (blanks (4096 * a)) lost h (x ∷ ys) seg-none (torn-wrap 90 (F - 8))) (sym i)
-          (subst (λ (n : ℕ). Straight (set (set im (h + sizes (x ∷ ys) + 0) 250) (h + sizes (x ∷ ys) + 1) 90) a m (blanks n) lost h (x ∷ ys) seg-none (torn-wrap 90 (F - 8))) b (torn-2 s eight)) in
+          subst (λ (n : ℕ). Straight (set (set im (n + 0) 250) (n + 1) 90) a m (blanks (4096 * a)) lost h (x ∷ ys) seg-none (torn-wrap 90 (F - 8)))
+              (sym i)
+          (subst (λ (n : ℕ). Straight (set (set im (h + sizes (x ∷ ys) + 0) 250) (h + sizes (x ∷ ys) + 1) 90) a m (blanks n) lost h (x ∷ ys) seg-none
+              (torn-wrap 90 (F - 8))) b (torn-2 s eight)) in
           let some : 1 ≤ a = omega arith in
           let st′ : Starts (entries-of h (x ∷ ys)) = subst Starts j st in
           let ok′ : Ok (entries-of h (x ∷ ys)) l = subst (λ (z : List Entry). Ok z l) j ok in
@@ -60,13 +64,16 @@ module _ {im : Image} {h S : ℕ} {es : List Entry} (B F : ℕ) (d : Laid im h S
   marker-kind zero i = quiet {T = S} B F {u = false} d (tail-clear (blanks (F - 8)) (blank-eight F eight) (sym (add-zero S)) refl) st ok
   marker-kind (suc zero) i = torn-kinds .0
   marker-kind (suc (suc zero)) i = torn-kinds .1
-  marker-kind (suc (suc (suc zero))) i = quiet {T = 0} 0 B {u = true} turned-by-marker (tail-clear (blanks (B - 8)) (blank-eight B below) refl refl) st ok
+  marker-kind (suc (suc (suc zero))) i =
+      quiet {T = 0} 0 B {u = true} turned-by-marker (tail-clear (blanks (B - 8)) (blank-eight B below) refl refl) st ok
   marker-kind (suc (suc (suc (suc k)))) i = absurd (omega arith)
 
   marker-sound : Steps-sound im (moved S marker-steps)
   marker-sound =
-      subst (λ (z : Image). Steps-sound z (moved S marker-steps)) (sym (hole-of d .is ∙ ap (λ (z : List ℕ). hole-of d .pre ++ (z ++ hole-of d .post)) (blank-eight F eight)))
-      (sound-past (hole-of d .pre) ((blanks 8 ++ blanks (F - 8)) ++ hole-of d .post) marker-steps S (hole-of d .at) tt ((omega arith, refl), ((omega arith, refl), ((omega arith, refl), tt))))
+      subst (λ (z : Image). Steps-sound z (moved S marker-steps))
+          (sym (hole-of d .is ∙ ap (λ (z : List ℕ). hole-of d .pre ++ (z ++ hole-of d .post)) (blank-eight F eight)))
+      (sound-past (hole-of d .pre) ((blanks 8 ++ blanks (F - 8)) ++ hole-of d .post) marker-steps S (hole-of d .at) tt
+          ((omega arith, refl), ((omega arith, refl), ((omega arith, refl), tt))))
 
   -- the marker, cut anywhere
   pub marker-safe : good-length (length im) ≡ true → Safe (Inv l) im (moved S marker-steps)
@@ -87,7 +94,8 @@ unfolding fits-at-tail
 fits-le p s e = leb-true (p .tail + s) (limit p) e
 
 -- the place of a size that fits
-pub given : {im : Image} {h S : ℕ} {t : Bool} {es : List Entry} (B F s : ℕ) → Laid im h S t es seg-none (blanks B) (blanks F) → Tail h S t seg-none (blanks B) (blanks F) S t → 1 ≤ s →
+pub given : {im : Image} {h S : ℕ} {t : Bool} {es : List Entry} (B F s : ℕ) → Laid im h S t es seg-none (blanks B) (blanks F)
+    → Tail h S t seg-none (blanks B) (blanks F) S t → 1 ≤ s →
     fits (place im h S t) s ≡ true → Given t S B F s (place im h S t)
 unfolding fits address with-marker
 given {im} {h} {S} {t} B F s d tl some f = go (fits-at-tail p s) refl
@@ -96,7 +104,9 @@ given {im} {h} {S} {t} B F s d tl some f = go (fits-at-tail p s) refl
     p = place im h S t
 
     ends : limit p ≡ S + F
-    ends = subst (λ (n : ℕ). limit (place im h n t) ≡ n + length (blanks F)) (add-zero S) (laid-limit d) ∙ ap (λ (n : ℕ). S + n) (length-replicate {A = ℕ} F 255)
+    ends =
+        subst (λ (n : ℕ). limit (place im h n t) ≡ n + length (blanks F)) (add-zero S) (laid-limit d)
+            ∙ ap (λ (n : ℕ). S + n) (length-replicate {A = ℕ} F 255)
 
     clear : t ≡ false → s ≤ floor h → Tail h S t seg-none (blanks B) (blanks F) S t → 8 ≤ F
     clear e k (tail-clear z q i j) = omega (arith, length-replicate {A = ℕ} F 255, ap length q)
@@ -108,7 +118,8 @@ given {im} {h} {S} {t} B F s d tl some f = go (fits-at-tail p s) refl
     zeroed e u k =
         let c : 8 ≤ F = clear u k tl in
         let N : length im ≡ S + F = sym (ap (λ (b : Bool). limit (place im h S b)) u) ∙ ends in
-        given-zero u (omega (arith, length-replicate {A = ℕ} B 255, laid-below d u)) c (rw (address, e)) (rw (with-marker, e) (lt-ltb S (length im) (omega arith)))
+        given-zero u (omega (arith, length-replicate {A = ℕ} B 255, laid-below d u)) c (rw (address, e))
+            (rw (with-marker, e) (lt-ltb S (length im) (omega arith)))
 
     go : (b : Bool) → fits-at-tail p s ≡ b → Given t S B F s p
     go true e = given-tail (omega (arith, ends, fits-le p s e)) (rw (address, e)) (rw (with-marker, e))

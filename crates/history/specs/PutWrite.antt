@@ -47,7 +47,8 @@ seg-words (seg-torn c x y z w t b m) = (2, refl)
 seg-words (seg-cut d n f) = (1 + (length n + 1 + 7) / 8 + (d + 7) / 8, omega arith)
 seg-words (seg-held n c f) = (1 + (length n + 1 + 7) / 8 + (length c + 7) / 8, omega arith)
 
-blank-words : {im : Image} {h S : ℕ} {t : Bool} {es : List Entry} {seg : Seg} {below : List ℕ} (F : ℕ) → Laid im h S t es seg below (blanks F) → (f : ℕ) × (F ≡ 8 * f)
+blank-words : {im : Image} {h S : ℕ} {t : Bool} {es : List Entry} {seg : Seg} {below : List ℕ} (F : ℕ) → Laid im h S t es seg below (blanks F)
+    → (f : ℕ) × (F ≡ 8 * f)
 blank-words F d = let w = free-quiet d in (w .0, sym (length-replicate {A = ℕ} F 255) ∙ w .1)
 
 -- ---- the tail
@@ -79,11 +80,13 @@ pub blank-eight : (k : ℕ) → 8 ≤ k → blanks k ≡ blanks 8 ++ blanks (k -
 blank-eight k h = blank-split 8 (k - 8) k (omega arith)
 
 -- T where something unfinished stands, or something is free
-tail-of : {h : ℕ} {t : Bool} {B F : ℕ} (S : ℕ) (seg : Seg) → Left h t B F → (seg ≡ seg-none → 1 ≤ F) → (T : ℕ) × (u : Bool) × Tail h S t seg (blanks B) (blanks F) T u
+tail-of : {h : ℕ} {t : Bool} {B F : ℕ} (S : ℕ) (seg : Seg) → Left h t B F → (seg ≡ seg-none → 1 ≤ F) → (T : ℕ) × (u : Bool)
+    × Tail h S t seg (blanks B) (blanks F) T u
 tail-of {t = t} {F = F} S seg (left-some f) n = (S + seg-size seg, t, tail-clear (blanks (F - 8)) (blank-eight F f) refl refl)
 tail-of S seg (left-floor z e) n = (S + seg-size seg, true, tail-floor (ap blanks z) e refl refl)
 tail-of S seg (left-N z e f) n = (S + seg-size seg, false, tail-N (ap blanks z) e f refl refl)
-tail-of {B = B} S seg (left-turn z e b) n = (0, true, tail-turn (blanks (B - 8)) (ap blanks z) e (λ i. omega (arith, n i)) (blank-eight B b) refl refl)
+tail-of {B = B} S seg (left-turn z e b) n =
+    (0, true, tail-turn (blanks (B - 8)) (ap blanks z) e (λ i. omega (arith, n i)) (blank-eight B b) refl refl)
 
 quiet-of : {im : Image} {l : Ledger} {h S : ℕ} {t : Bool} {es : List Entry} {seg : Seg} (B F : ℕ) → Laid im h S t es seg (blanks B) (blanks F) →
     (T : ℕ) × (u : Bool) × Tail h S t seg (blanks B) (blanks F) T u → Starts es → Ok es l → Kind im l
@@ -117,13 +120,16 @@ open-programs n c = programs-left (open-steps n c) commit-steps (subst Programs 
 pub length-open : (n c : List ℕ) → length (open-steps n c) ≡ 8 + length n + length c
 length-open n c = omega (arith, length-record n c, ap length (commit-last n c), length-append (open-steps n c) commit-steps)
 
-module _ {im : Image} {h S : ℕ} {t : Bool} {es : List Entry} (B F : ℕ) (d : Laid im h S t es seg-none (blanks B) (blanks F)) (n c : List ℕ) (g : Fit (length c) n) (b : Bytes c)
+module _ {im : Image} {h S : ℕ} {t : Bool} {es : List Entry} (B F : ℕ) (d : Laid im h S t es seg-none (blanks B) (blanks F)) (n c : List ℕ)
+    (g : Fit (length c) n) (b : Bytes c)
     (room : size-of (length n) (length c) ≤ F) where
-  at-hole : (H : Hole im h S t es seg-none (blanks B) (blanks F)) (ss : List Step) → Programs ss → run im (moved S ss) ≡ H .pre ++ run (blanks F ++ H .post) ss
+  at-hole : (H : Hole im h S t es seg-none (blanks B) (blanks F)) (ss : List Step) → Programs ss
+      → run im (moved S ss) ≡ H .pre ++ run (blanks F ++ H .post) ss
   at-hole H ss p = ap (λ (z : Image). run z (moved S ss)) (H .is) ∙ run-past (H .pre) (blanks F ++ H .post) ss S (H .at) p
 
   -- what stands at S replaced by a record under way
-  plugged : (l : Ledger) → Starts es → Ok es l → (H : Hole im h S t es seg-none (blanks B) (blanks F)) (im′ : Image) (s : List ℕ) → Opened F (H .post) s → im′ ≡ H .pre ++ s → Kind im′ l
+  plugged : (l : Ledger) → Starts es → Ok es l → (H : Hole im h S t es seg-none (blanks B) (blanks F)) (im′ : Image) (s : List ℕ)
+      → Opened F (H .post) s → im′ ≡ H .pre ++ s → Kind im′ l
   plugged l st ok H im′ s o e =
       let m : ℕ = blank-words F d .0 - seg-words (o .seg) .0 in
       let w : o .left ≡ 8 * m = omega (arith, blank-words F d .1, seg-words (o .seg) .1, o .sum) in
@@ -136,32 +142,40 @@ module _ {im : Image} {h S : ℕ} {t : Bool} {es : List Entry} (B F : ℕ) (d : 
 
   open-kind : (l : Ledger) → Starts es → Ok es l → (k : ℕ) → k ≤ 8 + length n + length c → Kind (run im (take k (moved S (open-steps n c)))) l
   open-kind l st ok k i =
-      plugged l st ok (hole-of d) (run im (take k (moved S (open-steps n c)))) (run (blanks F ++ hole-of d .post) (take k (open-steps n c))) (open-cut n c (hole-of d .post) F g room k i)
-      (ap (run im) (take-moved k S (open-steps n c)) ∙ at-hole (hole-of d) (take k (open-steps n c)) (take-programs k (open-steps n c) (open-programs n c)))
+      plugged l st ok (hole-of d) (run im (take k (moved S (open-steps n c)))) (run (blanks F ++ hole-of d .post) (take k (open-steps n c)))
+          (open-cut n c (hole-of d .post) F g room k i)
+      (ap (run im) (take-moved k S (open-steps n c))
+          ∙ at-hole (hole-of d) (take k (open-steps n c)) (take-programs k (open-steps n c) (open-programs n c)))
 
   -- before the commit, cut anywhere
   pub open-safe : (l : Ledger) → good-length (length im) ≡ true → Starts es → Ok es l → Safe (Inv l) im (moved S (open-steps n c))
   open-safe l good st ok =
       safe-from (Inv l) im (moved S (open-steps n c))
       (λ k i. record {
-        good = good-run im (take k (moved S (open-steps n c))) (take-programs k (moved S (open-steps n c)) (programs-moved S (open-steps n c) (open-programs n c))) good;
+        good =
+            good-run im (take k (moved S (open-steps n c)))
+                (take-programs k (moved S (open-steps n c)) (programs-moved S (open-steps n c) (open-programs n c))) good;
         kind = open-kind l st ok k (omega (arith, length-moved S (open-steps n c), length-open n c));
       })
       (subst (λ (z : Image). Steps-sound z (moved S (open-steps n c))) (sym (hole-of d .is))
-      (sound-past (hole-of d .pre) (blanks F ++ hole-of d .post) (open-steps n c) S (hole-of d .at) (open-programs n c) (open-sound n c (hole-of d .post) F g b room)))
+      (sound-past (hole-of d .pre) (blanks F ++ hole-of d .post) (open-steps n c) S (hole-of d .at) (open-programs n c)
+          (open-sound n c (hole-of d .post) F g b room)))
 
   open-is : run im (moved S (open-steps n c)) ≡ hole-of d .pre ++ onto (held n c) (blanks (F - size-of (length n) (length c)) ++ hole-of d .post)
-  open-is = at-hole (hole-of d) (open-steps n c) (open-programs n c) ∙ ap (λ (z : List ℕ). hole-of d .pre ++ z) (open-done n c (hole-of d .post) F room)
+  open-is =
+      at-hole (hole-of d) (open-steps n c) (open-programs n c) ∙ ap (λ (z : List ℕ). hole-of d .pre ++ z) (open-done n c (hole-of d .post) F room)
 
   -- the commit only clears bits
   pub commit-sound : Sound (run im (moved S (open-steps n c))) (program (S + 2) 252)
   commit-sound =
       subst (λ (z : Image). Sound z (program (S + 2) 252)) (sym open-is)
-      (sound-past (hole-of d .pre) (onto (held n c) (blanks (F - size-of (length n) (length c)) ++ hole-of d .post)) (program 2 252 ∷ []) S (hole-of d .at) tt ((omega arith, refl), tt) .0)
+      (sound-past (hole-of d .pre) (onto (held n c) (blanks (F - size-of (length n) (length c)) ++ hole-of d .post)) (program 2 252 ∷ []) S
+          (hole-of d .at) tt ((omega arith, refl), tt) .0)
 
   -- and adds the record
   pub committed :
-      Laid (apply (run im (moved S (open-steps n c))) (program (S + 2) 252)) h (S + size-of (length n) (length c)) t (es ++ (record { at = S; it = file n c } ∷ [])) seg-none (blanks B)
+      Laid (apply (run im (moved S (open-steps n c))) (program (S + 2) 252)) h (S + size-of (length n) (length c)) t
+          (es ++ (record { at = S; it = file n c } ∷ [])) seg-none (blanks B)
       (blanks (F - size-of (length n) (length c)))
   committed =
       let z : ℕ = size-of (length n) (length c) in
@@ -170,8 +184,13 @@ module _ {im : Image} {h S : ℕ} {t : Bool} {es : List Entry} (B F : ℕ) (d : 
       let w : left ≡ 8 * m = omega (arith, blank-words F d .1) in
       let x = opens-words m left w in
       let e : apply (run im (moved S (open-steps n c))) (program (S + 2) 252) ≡ hole-of d .pre ++ onto (file n c) (blanks left ++ hole-of d .post) =
-      ap (λ (y : Image). set y (S + 2) 252) open-is ∙ run-past (hole-of d .pre) (onto (held n c) (blanks left ++ hole-of d .post)) (program 2 252 ∷ []) S (hole-of d .at) tt in
+      ap (λ (y : Image). set y (S + 2) 252) open-is
+          ∙ run-past (hole-of d .pre) (onto (held n c) (blanks left ++ hole-of d .post)) (program 2 252 ∷ []) S (hole-of d .at) tt in
       subst (λ (y : Image). Laid y h (S + z) t (es ++ (record { at = S; it = file n c } ∷ [])) seg-none (blanks B) (blanks left)) (sym e)
-      (hole-of d .grow (file n c) m (blanks left) (x .0) (record { low-ok = low-record; status-ok = st-fc; fit = g }) refl (length-replicate {A = ℕ} left 255 ∙ w)
+      (hole-of d .grow (file n c) m (blanks left) (x .0) (record {
+        low-ok = low-record;
+        status-ok = st-fc;
+        fit = g;
+      }) refl (length-replicate {A = ℕ} left 255 ∙ w)
       (quiet-ff m (blanks left) (ap blanks w)) (x .1)
       (omega (arith, length-replicate {A = ℕ} left 255, length-replicate {A = ℕ} F 255)))

@@ -58,7 +58,8 @@ regroup : (v w x y z : List Step) → v ++ (w ++ ((x ++ y) ++ z)) ≡ (v ++ (w +
 regroup v w x y z = simp append-assoc
 
 -- mig before the record, del behind it
-module _ (k l : Ledger) (im : Image) (h : ℕ) (es : List Entry) (n c : List ℕ) (mig turn del : List Step) (a m : ℕ) (s : Safe (Inv k) im mig) (w : Written k (run im mig) h es n c turn a m) where
+module _ (k l : Ledger) (im : Image) (h : ℕ) (es : List Entry) (n c : List ℕ) (mig turn del : List Step) (a m : ℕ) (s : Safe (Inv k) im mig)
+    (w : Written k (run im mig) h es n c turn a m) where
   abbrev opened : List Step
   opened = turn ++ moved a (open-steps n c)
 
@@ -70,7 +71,8 @@ module _ (k l : Ledger) (im : Image) (h : ℕ) (es : List Entry) (n c : List ℕ
       ap (λ (z : List Step). mig ++ (turn ++ (z ++ del))) (ap (moved a) (commit-last n c) ∙ moved-two a (open-steps n c) commit-steps)
       ∙ regroup mig turn (moved a (open-steps n c)) (moved a commit-steps) del
 
-  together : (left : Reading) → Safe (Inv l) (apply (run (run im mig) opened) (program (a + 2) 252)) del → Rested l (run (apply (run (run im mig) opened) (program (a + 2) 252)) del) left →
+  together : (left : Reading) → Safe (Inv l) (apply (run (run im mig) opened) (program (a + 2) 252)) del
+      → Rested l (run (apply (run (run im mig) opened) (program (a + 2) 252)) del) left →
       left .place .head ≡ h →
       Commits k l im (mig ++ (turn ++ (moved a (record-steps n c) ++ del))) (length mig + (8 + length n + length c + m) + 1) h
   together left t r hd =
@@ -89,7 +91,9 @@ module _ (k l : Ledger) (im : Image) (h : ℕ) (es : List Entry) (n c : List ℕ
       }
     where
       at-end : run im (mig ++ (turn ++ (moved a (record-steps n c) ++ del))) ≡ run (apply (run (run im mig) opened) (program (a + 2) 252)) del
-      at-end = ap (run im) split ∙ run-append im (mig ++ opened) (program (a + 2) 252 ∷ del) ∙ ap (λ (z : Image). run (apply z (program (a + 2) 252)) del) at-commit
+      at-end =
+          ap (run im) split ∙ run-append im (mig ++ opened) (program (a + 2) 252 ∷ del)
+              ∙ ap (λ (z : Image). run (apply z (program (a + 2) 252)) del) at-commit
 
 -- the same number, written otherwise
 recount : {k l : Ledger} {im : Image} {ss : List Step} {at at′ h : ℕ} → at ≡ at′ → Commits k l im ss at h → Commits k l im ss at′ h
@@ -99,11 +103,14 @@ recount {k} {l} {im} {ss} {h = h} e c = subst (λ (a : ℕ). Commits k l im ss a
 committed-good : {k : Ledger} {im : Image} {h : ℕ} {es : List Entry} {n c : List ℕ} {turn : List Step} {a m : ℕ} → Written k im h es n c turn a m →
     good-length (length (apply (run im (turn ++ moved a (open-steps n c))) (program (a + 2) 252))) ≡ true
 committed-good {k} {im} {n = n} {c} {turn} {a} w =
-    ap good-length (length-set (run im (turn ++ moved a (open-steps n c))) (a + 2) 252) ∙ safe-end (Inv k) im (turn ++ moved a (open-steps n c)) (w .safe) .good
+    ap good-length (length-set (run im (turn ++ moved a (open-steps n c))) (a + 2) 252)
+        ∙ safe-end (Inv k) im (turn ++ moved a (open-steps n c)) (w .safe) .good
 
 -- a new name
-fresh : {l : Ledger} {im : Image} {r : Reading} (q : Rested l im r) (n c : List ℕ) → Absent n (q .es) → name-ok n ≡ true → Bytes c → fits (r .place) (size-of (length n) (length c)) ≡ true →
-    Commits l (with-file n c l) im (put-steps (r .place) none n c) (length n + length c + 9 + 0 + three-if (with-marker (r .place) (size-of (length n) (length c)))) (q .h)
+fresh : {l : Ledger} {im : Image} {r : Reading} (q : Rested l im r) (n c : List ℕ) → Absent n (q .es) → name-ok n ≡ true → Bytes c
+    → fits (r .place) (size-of (length n) (length c)) ≡ true →
+    Commits l (with-file n c l) im (put-steps (r .place) none n c)
+        (length n + length c + 9 + 0 + three-if (with-marker (r .place) (size-of (length n) (length c)))) (q .h)
 unfolding put-steps
 fresh {l} {im} {r} q n c absent nice b f =
     let z : ℕ = size-of (length n) (length c) in
@@ -116,21 +123,29 @@ fresh {l} {im} {r} q n c absent nice b f =
     let ok : Ok (q .es ++ (e ∷ [])) (with-file n c l) = ok-new (q .es) e l (q .ok) (fc-alive e fc) absent nice b in
     let g = committed-good w in
     recount (omega arith)
-    (together l (with-file n c l) im (q .h) (q .es) n c [] (turn-steps p z) [] (address p z) (three-if (with-marker p z)) (safe-here (Inv l) im (turn-steps p z ++ moved (address p z) (open-steps n c)) (w .safe)) w
+    (together l (with-file n c l) im (q .h) (q .es) n c [] (turn-steps p z) [] (address p z) (three-if (with-marker p z))
+        (safe-here (Inv l) im (turn-steps p z ++ moved (address p z) (open-steps n c)) (w .safe)) w
     (bare-read (w .rest)) (bare-inv g (w .rest) st ok) (bare-quiet g (w .rest) st ok) (bare-head (w .rest)))
 
 -- a file replaced: o is the file once it is F8, x the new record
-module _ {l : Ledger} {im : Image} {r : Reading} (q : Rested l im r) (n c : List ℕ) (nice : name-ok n ≡ true) (b : Bytes c) (f : fits (r .place) (size-of (length n) (length c)) ≡ true)
+module _ {l : Ledger} {im : Image} {r : Reading} (q : Rested l im r) (n c : List ℕ) (nice : name-ok n ≡ true) (b : Bytes c)
+    (f : fits (r .place) (size-of (length n) (length c)) ≡ true)
     (xs ys : List Entry) (e : Entry) (i : q .es ≡ xs ++ (e ∷ ys)) (a : alive e ≡ true) (same : name-of e ≡ n) where
   over : (o : Entry) (mig : List Step) → Migrated l im (q .h) (q .S) (q .t) (q .B) (q .F) xs ys e o mig →
       Commits l (with-file n c l) im
-      (mig ++ (turn-steps (r .place) (size-of (length n) (length c)) ++ (moved (address (r .place) (size-of (length n) (length c))) (record-steps n c) ++ (program (e .at + 2) 0 ∷ []))))
+      (mig ++ (turn-steps (r .place) (size-of (length n) (length c)) ++
+          (moved (address (r .place) (size-of (length n) (length c))) (record-steps n c) ++ (program (e .at + 2) 0 ∷ []))))
       (length mig + (8 + length n + length c + three-if (with-marker (r .place) (size-of (length n) (length c)))) + 1) (q .h)
   over o mig M =
       let z : ℕ = size-of (length n) (length c) in
       let p : Place = r .place in
       let at : p ≡ place (run im mig) (q .h) (q .S) (q .t) =
-      ap (λ (y : Reading). y .place) (q .is) ∙ ap (λ (N : ℕ). record { head = q .h; tail = q .S; turned = q .t; length = N }) (sym (M .same-length)) in
+      ap (λ (y : Reading). y .place) (q .is) ∙ ap (λ (N : ℕ). record {
+        head = q .h;
+        tail = q .S;
+        turned = q .t;
+        length = N;
+      }) (sym (M .same-length)) in
       let w : Written l (run im mig) (q .h) (xs ++ (o ∷ ys)) n c (turn-steps p z) (address p z) (three-if (with-marker p z)) =
       written (q .B) (q .F) (M .laid) l (ap good-length (M .same-length) ∙ q .good) (M .starts) (M .ok) n c nice b p at (q .tail) f in
       let x : Entry = record { at = address p z; it = file n c } in
@@ -138,15 +153,19 @@ module _ {l : Ledger} {im : Image} {r : Reading} (q : Rested l im r) (n c : List
       let name : n ≡ name-of o = sym (M .same-name ∙ same) in
       let g = committed-good w in
       let plain = plain-file (address p z) n c in
-      subst (λ (k : ℕ). Commits l (with-file n c l) im (mig ++ (turn-steps p z ++ (moved (address p z) (record-steps n c) ++ (program (k + 2) 0 ∷ [])))) (length mig + (8 + length n + length c + three-if (with-marker p z)) + 1) (q .h))
+      subst (λ (k : ℕ). Commits l (with-file n c l) im
+          (mig ++ (turn-steps p z ++ (moved (address p z) (record-steps n c) ++ (program (k + 2) 0 ∷ []))))
+          (length mig + (8 + length n + length c + three-if (with-marker p z)) + 1) (q .h))
       (M .same-at)
-      (together l (with-file n c l) im (q .h) (xs ++ (o ∷ ys)) n c mig (turn-steps p z) (program (o .at + 2) 0 ∷ []) (address p z) (three-if (with-marker p z)) (M .safe) w
+      (together l (with-file n c l) im (q .h) (xs ++ (o ∷ ys)) n c mig (turn-steps p z) (program (o .at + 2) 0 ∷ []) (address p z)
+          (three-if (with-marker p z)) (M .safe) w
       (bare-read (deleted xs ys o x l g (w .rest) (M .starts) (M .ok) (M .named-f8) fc name plain b))
       (delete-safe xs ys o x l g (w .rest) (M .starts) (M .ok) (M .named-f8) fc name plain b)
       (delete-rested xs ys o x l g (w .rest) (M .starts) (M .ok) (M .named-f8) fc name plain b)
       (bare-head (deleted xs ys o x l g (w .rest) (M .starts) (M .ok) (M .named-f8) fc name plain b)))
 
-  replaced : Commits l (with-file n c l) im (put-steps (r .place) (some e) n c) (length n + length c + 9 + one-if-fc (some e) + three-if (with-marker (r .place) (size-of (length n) (length c)))) (q .h)
+  replaced : Commits l (with-file n c l) im (put-steps (r .place) (some e) n c)
+      (length n + length c + 9 + one-if-fc (some e) + three-if (with-marker (r .place) (size-of (length n) (length c)))) (q .h)
   unfolding put-steps
   replaced = go (is-committed (e .it .status)) refl
     where
@@ -168,18 +187,21 @@ module _ {l : Ledger} {im : Image} {r : Reading} (q : Rested l im r) (n c : List
       P : Bool → Type 0
       P y =
           Commits l (with-file n c l) im
-          ((elim y as (λ x. List Step) [ true ↦ program (e .at + 2) 248 ∷ [] | false ↦ [] ]) ++ (turn-steps (r .place) z ++ (moved (address (r .place) z) (record-steps n c) ++ (program (e .at + 2) 0 ∷ []))))
+          ((elim y as (λ x. List Step) [ true ↦ program (e .at + 2) 248 ∷ [] | false ↦ [] ]) ++
+              (turn-steps (r .place) z ++ (moved (address (r .place) z) (record-steps n c) ++ (program (e .at + 2) 0 ∷ []))))
           (length n + length c + 9 + (elim y as (λ x. ℕ) [ true ↦ 1 | false ↦ 0 ]) + three-if (with-marker (r .place) z)) (q .h)
 
       go : (y : Bool) → is-committed (e .it .status) ≡ y → P (is-committed (e .it .status))
       go true k =
           subst P (sym k)
-          (recount (omega arith) (over (record { at = e .at; it = restatus 248 (e .it) }) (program (e .at + 2) 248 ∷ []) (migrates (q .B) (q .F) xs ys e d (q .tail) l (q .good) st ok a k named-so)))
+          (recount (omega arith) (over (record { at = e .at; it = restatus 248 (e .it) }) (program (e .at + 2) 248 ∷ [])
+              (migrates (q .B) (q .F) xs ys e d (q .tail) l (q .good) st ok a k named-so)))
       go false k = subst P (sym k) (recount (omega arith) (over e [] (stays (q .B) (q .F) xs ys e d (q .tail) l (q .good) st ok a k)))
 
 -- put on a rested image
 pub put-commits :
-    {l : Ledger} {im : Image} {r : Reading} (q : Rested l im r) (old : Option Entry) (n c : List ℕ) → Old n (r .entries) old → name-ok n ≡ true → Bytes c →
+    {l : Ledger} {im : Image} {r : Reading} (q : Rested l im r) (old : Option Entry) (n c : List ℕ) → Old n (r .entries) old → name-ok n ≡ true
+        → Bytes c →
     fits (r .place) (size-of (length n) (length c)) ≡ true →
     Commits l (with-file n c l) im (put-steps (r .place) old n c)
     (length n + length c + 9 + one-if-fc old + three-if (with-marker (r .place) (size-of (length n) (length c)))) (r .place .head)

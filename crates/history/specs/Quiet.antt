@@ -36,7 +36,8 @@ pub quiet-append : (j k : ℕ) (p s : List ℕ) → length p ≡ 8 * j → Quiet
 quiet-append zero k [] s e q r = rw zero-add r
 quiet-append zero k (x ∷ p) s e q r = absurd (omega arith)
 quiet-append (suc j) k p s e q r =
-    rw (suc-add j k) (mark-append p s (omega arith) ∙ q .0, rw (drop-append-le 8 p s (omega arith)) (quiet-append j k (drop 8 p) s (length-drop 8 p ∙ omega arith) (q .1) r))
+    rw (suc-add j k) (mark-append p s (omega arith)
+        ∙ q .0, rw (drop-append-le 8 p s (omega arith)) (quiet-append j k (drop 8 p) s (length-drop 8 p ∙ omega arith) (q .1) r))
 
 -- from the j-th word on
 pub quiet-drop : (j k : ℕ) (s : List ℕ) → Quiet (j + k) s → Quiet k (drop (8 * j) s)
@@ -50,7 +51,8 @@ pub quiet-take : (j k : ℕ) (p s : List ℕ) → length p ≡ 8 * j → Quiet (
 quiet-take zero k p s e q = tt
 quiet-take (suc j) k p s e q =
     let r : Quiet (suc (j + k)) (p ++ s) = subst (λ (n : ℕ). Quiet n (p ++ s)) (suc-add j k) q in
-    (sym (mark-append p s (omega arith)) ∙ r .0, quiet-take j k (drop 8 p) s (length-drop 8 p ∙ omega arith) (rw (drop-append-le 8 p s (omega arith)) at (r .1)))
+    (sym (mark-append p s (omega arith))
+        ∙ r .0, quiet-take j k (drop 8 p) s (length-drop 8 p ∙ omega arith) (rw (drop-append-le 8 p s (omega arith)) at (r .1)))
 
 -- ---- no mark, wherever it stands
 
@@ -100,12 +102,14 @@ calm-name [] (suc k) p = (pair-ff 0, calm-blanks (suc k))
 calm-name (x ∷ n) k p = (plain-pair x (getD (n ++ (0 ∷ blanks k)) 0 0) (p .0 .0) (p .0 .1), calm-name n k (p .1))
 
 -- a record behind its first word: the name is calm, the data has been cleaned
-pub quiet-body : (n c : List ℕ) → Plain n → Quiet (up8 (length c) / 8) (padded c []) → Quiet (up8 (length n + 1) / 8 + up8 (length c) / 8) (body n c [])
+pub quiet-body : (n c : List ℕ) → Plain n → Quiet (up8 (length c) / 8) (padded c [])
+    → Quiet (up8 (length n + 1) / 8 + up8 (length c) / 8) (body n c [])
 quiet-body n c p q =
     let N : List ℕ = n ++ (0 ∷ blanks (pad (length n + 1))) in
     let l : length N ≡ 8 * (up8 (length n + 1) / 8) = simp (length-append, length-replicate) (omega arith) in
     let e : body n c [] ≡ N ++ padded c [] = simp append-assoc in
-    rw e (quiet-append (up8 (length n + 1) / 8) (up8 (length c) / 8) N (padded c []) l (calm-quiet (up8 (length n + 1) / 8) N (calm-name n (pad (length n + 1)) p)) q)
+    rw e (quiet-append (up8 (length n + 1) / 8) (up8 (length c) / 8) N (padded c []) l
+        (calm-quiet (up8 (length n + 1) / 8) N (calm-name n (pad (length n + 1)) p)) q)
 
 -- an old header: its second byte is 00, or its first is none of the three
 pub mark-second : (b : ℕ) (s : List ℕ) → mark-here (b ∷ 0 ∷ s) ≡ false

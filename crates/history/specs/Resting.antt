@@ -48,7 +48,8 @@ close-some N x y e =
     some-append (clean-steps (length (content-of x)) (data-at x) (content-of x)) (vacate-steps x y (vacated N x y))
     (some-behind (map erase (vacated N x y)) (forget-steps x (vacated N x y)) (program (y .at) 0)) e
 
-second-clean : (w : Work) (x y : Entry) (es : List Entry) → y .it .low ≡ 160 → repair-2 w (x ∷ y ∷ es) ≡ after w (close-steps (w .reading .place .length) x y) (y .at)
+second-clean : (w : Work) (x y : Entry) (es : List Entry) → y .it .low ≡ 160
+    → repair-2 w (x ∷ y ∷ es) ≡ after w (close-steps (w .reading .place .length) x y) (y .at)
 unfolding repair-2
 second-clean w x y es e = rw (repair-2, is-clean-A0 (y .it .low) e)
 
@@ -69,7 +70,8 @@ or-second false b e = e
 
 -- the whole reading, with nothing at S
 start-is :
-    {im : Image} {h S T : ℕ} (B F : ℕ) {t u : Bool} {x : Entry} {es : List Entry} → Laid im h S t (x ∷ es) seg-none (blanks B) (blanks F) → Tail h S t seg-none (blanks B) (blanks F) T u →
+    {im : Image} {h S T : ℕ} (B F : ℕ) {t u : Bool} {x : Entry} {es : List Entry} → Laid im h S t (x ∷ es) seg-none (blanks B) (blanks F)
+        → Tail h S t seg-none (blanks B) (blanks F) T u →
     x .it .low ≡ 0 →
     Ruled (x ∷ es) → reading im ≡ give (read (length im) h T u (x ∷ es) Ending.Tail)
 start-is {im} {h} {T = T} B F {u = u} {x} {es} d e a r =
@@ -78,7 +80,8 @@ start-is {im} {h} {T = T} B F {u = u} {x} {es} d e a r =
 
 -- of any records that begin with START
 pub starts-read :
-    {im : Image} {h S T : ℕ} (B F : ℕ) {t u : Bool} (es : List Entry) → Laid im h S t es seg-none (blanks B) (blanks F) → Tail h S t seg-none (blanks B) (blanks F) T u → Starts es → Ruled es →
+    {im : Image} {h S T : ℕ} (B F : ℕ) {t u : Bool} (es : List Entry) → Laid im h S t es seg-none (blanks B) (blanks F)
+        → Tail h S t seg-none (blanks B) (blanks F) T u → Starts es → Ruled es →
     reading im ≡ give (read (length im) h T u es Ending.Tail)
 starts-read B F [] d e s r = absurd s
 starts-read B F (x ∷ es) d e s r = start-is B F d e (s .0) r
@@ -86,23 +89,28 @@ starts-read B F (x ∷ es) d e s r = start-is B F d e (s .0) r
 -- the kind clean: mount does the rest of the move
 pub mends-clean :
     {l : Ledger} {im : Image} {h S T : ℕ} (B F : ℕ) {t u : Bool} {x y : Entry} {es : List Entry} → good-length (length im) ≡ true →
-    Laid im h S t (x ∷ y ∷ es) seg-none (blanks B) (blanks F) → Tail h S t seg-none (blanks B) (blanks F) T u → x .it .low ≡ 0 → alive x ≡ false → y .it .low ≡ 160 → Each Unmarked es →
+    Laid im h S t (x ∷ y ∷ es) seg-none (blanks B) (blanks F) → Tail h S t seg-none (blanks B) (blanks F) T u → x .it .low ≡ 0 → alive x ≡ false
+        → y .it .low ≡ 160 → Each Unmarked es →
     Ok (x ∷ y ∷ es) l → Mends l im
 mends-clean {l} {im} {h} {T = T} B F {u = u} {x} {y} {es} g d e a b c m o =
     let r : Reading = read (length im) h T u (x ∷ y ∷ es) Ending.Tail in
-    mends-2 {r = r} (start-is B F d e a (second-ruled x y es l o b (or-first (is-clean (y .it .low)) (eqb (floor (y .at)) (floor (x .at))) (is-clean-A0 (y .it .low) c)) m))
+    mends-2 {r = r} (start-is B F d e a
+        (second-ruled x y es l o b (or-first (is-clean (y .it .low)) (eqb (floor (y .at)) (floor (x .at))) (is-clean-A0 (y .it .low) c)) m))
     (close-rests B F g d e a b c m o) (close-some (length im) x y)
     (one-none (begin im r) (is-clean-0 (x .it .low) a)) (second-clean (begin im r) x y es c)
 
 -- the kind both: mount does the last step
 pub mends-both :
     {l : Ledger} {im : Image} {h S T : ℕ} (B F : ℕ) {t u : Bool} {x y : Entry} {es : List Entry} → good-length (length im) ≡ true →
-    Laid im h S t (x ∷ y ∷ es) seg-none (blanks B) (blanks F) → Tail h S t seg-none (blanks B) (blanks F) T u → x .it .low ≡ 0 → alive x ≡ false → Cleaned (x .it) → y .it .low ≡ 0 →
+    Laid im h S t (x ∷ y ∷ es) seg-none (blanks B) (blanks F) → Tail h S t seg-none (blanks B) (blanks F) T u → x .it .low ≡ 0 → alive x ≡ false
+        → Cleaned (x .it) → y .it .low ≡ 0 →
     floor (y .at) ≡ floor h → Each Unmarked es → Ok (x ∷ y ∷ es) l → Mends l im
 mends-both {l} {im} {h} {T = T} B F {u = u} {x} {y} {es} g d e a b c k f m o =
     let r : Reading = read (length im) h T u (x ∷ y ∷ es) Ending.Tail in
     let n : floor (y .at) ≡ floor (x .at) = f ∙ ap floor (sym (first-is d)) in
-    mends-2 {r = r} (start-is B F d e a (second-ruled x y es l o b (or-second (is-clean (y .it .low)) (eqb (floor (y .at)) (floor (x .at))) (eq-eqb (floor (y .at)) (floor (x .at)) n)) m))
+    mends-2 {r = r} (start-is B F d e a
+        (second-ruled x y es l o b
+        (or-second (is-clean (y .it .low)) (eqb (floor (y .at)) (floor (x .at))) (eq-eqb (floor (y .at)) (floor (x .at)) n)) m))
     (both-rests B F g d e a b c k f m o) (some-behind [] [] (program (x .at + 1) 0))
     (one-none (begin im r) (is-clean-0 (x .it .low) a)) (second-start (begin im r) x y es k)
 
@@ -113,9 +121,11 @@ first-clean w e = rw (repair-1, e)
 
 -- the kind vacated: mount erases, and makes Y START
 pub mends-vacated :
-    {l : Ledger} {im : Image} {h S T : ℕ} {t u : Bool} {x : Entry} {es : List Entry} {below free : List ℕ} → good-length (length im) ≡ true → Laid im h S t (x ∷ es) seg-none below free →
+    {l : Ledger} {im : Image} {h S T : ℕ} {t u : Bool} {x : Entry} {es : List Entry} {below free : List ℕ} → good-length (length im) ≡ true
+        → Laid im h S t (x ∷ es) seg-none below free →
     Tail h S t seg-none below free T u → tail-blank im (place im h T u) ≡ true → x .it .low ≡ 160 → Each Unmarked es → Ok (x ∷ es) l → Mends l im
 mends-vacated {l} {im} {h} {T = T} {u = u} {x} {es} g d e b a m o =
     let r : Reading = read (length im) h T u (x ∷ es) Ending.Tail in
-    mends-1 {r = r} (clean-reads d e b a m (plain-ruled x es l o m)) (vacated-rests g d e b a m o) (some-behind (erase-steps im (place im h T u)) [] (program h 0))
+    mends-1 {r = r} (clean-reads d e b a m (plain-ruled x es l o m)) (vacated-rests g d e b a m o)
+        (some-behind (erase-steps im (place im h T u)) [] (program h 0))
     (first-clean (begin im r) (is-clean-A0 (x .it .low) a))

@@ -48,7 +48,8 @@ seg-plain at (seg-held n c f) = (refl, tt)
 
 -- ---- the next record CLEAN or START, behind a dead head
 
-second-by : (es : List Entry) (x y : Entry) → live es x ≡ false → (is-clean (y .it .low) || eqb (floor (y .at)) (floor (x .at))) ≡ true → second-ok es x y ≡ true
+second-by : (es : List Entry) (x y : Entry) → live es x ≡ false → (is-clean (y .it .low) || eqb (floor (y .at)) (floor (x .at))) ≡ true
+    → second-ok es x y ≡ true
 unfolding second-ok
 second-by es x y d e = go (marked y) refl
   where
@@ -61,7 +62,8 @@ unfolding marks-ok
 marks-second x y es s h = rw (marks-ok, s, any-none marked es h)
 
 -- a head that is dead, and Y behind it CLEAN or in its sector
-pub second-ruled : (x y : Entry) (es : List Entry) (l : Ledger) → Ok (x ∷ y ∷ es) l → alive x ≡ false → (is-clean (y .it .low) || eqb (floor (y .at)) (floor (x .at))) ≡ true →
+pub second-ruled : (x y : Entry) (es : List Entry) (l : Ledger) → Ok (x ∷ y ∷ es) l → alive x ≡ false
+    → (is-clean (y .it .low) || eqb (floor (y .at)) (floor (x .at))) ≡ true →
     Each Unmarked es → Ruled (x ∷ y ∷ es)
 second-ruled x y es l o a e m =
     record {
@@ -74,7 +76,8 @@ second-ruled x y es l o a e m =
 
 -- a head with plain records behind it
 pub plain-ruled : (x : Entry) (es : List Entry) (l : Ledger) → Ok (x ∷ es) l → Each Unmarked es → Ruled (x ∷ es)
-plain-ruled x es l o m = record { names = names-by (x ∷ es) (o .unique) (o .well-named); singles = unique-single (x ∷ es) (o .unique); marks = marks-by x es m }
+plain-ruled x es l o m =
+    record { names = names-by (x ∷ es) (o .unique) (o .well-named); singles = unique-single (x ∷ es) (o .unique); marks = marks-by x es m }
 
 -- ---- one F8 record whose name has an FC
 
@@ -86,7 +89,8 @@ differ-none : (st : ℕ) (es : List Entry) → Pairwise (Differ st) es → doubl
 unfolding doubled has-named
 differ-none st [] u = refl
 differ-none st (e ∷ es) u =
-    rw (doubled, and-no (named st e) (any (named-as st e) es) (λ h. any-none (named-as st e) es (each-map es (λ f q. q h) (u .0)))) (differ-none st es (u .1))
+    rw (doubled, and-no (named st e) (any (named-as st e) es) (λ h. any-none (named-as st e) es (each-map es (λ f q. q h) (u .0))))
+        (differ-none st es (u .1))
 
 module _ {A : Type 0} where
   pairwise-map : (S R : A → A → Type 0) (xs : List A) → ((x y : A) → S x y → R x y) → Pairwise S xs → Pairwise R xs
@@ -114,7 +118,8 @@ module _ (xs ys : List Entry) (o : Entry) (l : Ledger) (s : Shadowed xs ys o) (o
   shadow-names =
       all-each (name-legal es) es
       (each-insert (λ e. name-legal es e ≡ true) xs ys o
-      (each-map (xs ++ ys) (λ e p. legal-same e (p .0) (p .1)) (each-both (λ e. live (xs ++ ys) e ≡ alive e) Well-named (xs ++ ys) (live-alive (xs ++ ys) (s .unique)) (ok .well-named))) legal-o)
+      (each-map (xs ++ ys) (λ e p. legal-same e (p .0) (p .1))
+          (each-both (λ e. live (xs ++ ys) e ≡ alive e) Well-named (xs ++ ys) (live-alive (xs ++ ys) (s .unique)) (ok .well-named))) legal-o)
 
   -- nobody else has F8 and o's name: that name has FC
   has-by : (e : Entry) → name-of e ≡ name-of o → has-named 0xFC (xs ++ ys) e ≡ has-named 0xFC (xs ++ ys) o
@@ -148,8 +153,10 @@ module _ (xs ys : List Entry) (o : Entry) (l : Ledger) (s : Shadowed xs ys o) (o
   single-f8 =
       differ-none 0xF8 es
       (pairwise-insert (Differ 0xF8) xs ys o (differ-rest 0xF8 f8-alive)
-      (each-map xs (λ e q h. and-no (named 0xF8 o) (same-name e o) (λ k. q h)) (each-left (λ e. named 0xF8 e ≡ true → same-name e o ≡ false) xs ys lonely))
-      (each-map ys (λ e q h. and-no (named 0xF8 e) (same-name o e) (λ k. same-sym (name-of o) (name-of e) ∙ q k)) (each-right (λ e. named 0xF8 e ≡ true → same-name e o ≡ false) xs ys lonely)))
+      (each-map xs (λ e q h. and-no (named 0xF8 o) (same-name e o) (λ k. q h))
+          (each-left (λ e. named 0xF8 e ≡ true → same-name e o ≡ false) xs ys lonely))
+      (each-map ys (λ e q h. and-no (named 0xF8 e) (same-name o e) (λ k. same-sym (name-of o) (name-of e) ∙ q k))
+          (each-right (λ e. named 0xF8 e ≡ true → same-name e o ≡ false) xs ys lonely)))
 
   shadow-single : single es ≡ true
   unfolding single
@@ -160,5 +167,7 @@ marks-starts [] s = absurd s
 marks-starts (x ∷ es) s = marks-by x es (s .1)
 
 -- one record shadowed by its successor
-pub shadow-ruled : (xs ys : List Entry) (o : Entry) (l : Ledger) → Starts (xs ++ (o ∷ ys)) → Shadowed xs ys o → Ok (xs ++ ys) l → Ruled (xs ++ (o ∷ ys))
-shadow-ruled xs ys o l h s ok = record { names = shadow-names xs ys o l s ok; singles = shadow-single xs ys o l s ok; marks = marks-starts (xs ++ (o ∷ ys)) h }
+pub shadow-ruled : (xs ys : List Entry) (o : Entry) (l : Ledger) → Starts (xs ++ (o ∷ ys)) → Shadowed xs ys o → Ok (xs ++ ys) l
+    → Ruled (xs ++ (o ∷ ys))
+shadow-ruled xs ys o l h s ok =
+    record { names = shadow-names xs ys o l s ok; singles = shadow-single xs ys o l s ok; marks = marks-starts (xs ++ (o ∷ ys)) h }

@@ -72,7 +72,8 @@ pub on-blank : (b : ℕ) → b < 256 → bitAnd b 255 ≡ b
 on-blank b h = and-mask b 8 ∙ omega arith
 
 -- bytes on FF
-pub sound-bytes : (p w s : List ℕ) (a k m : ℕ) → length p ≡ a → k ≡ length w + m → Each (λ b. b < 256) w → Steps-sound (p ++ (blanks k ++ s)) (bytes-at a w)
+pub sound-bytes : (p w s : List ℕ) (a k m : ℕ) → length p ≡ a → k ≡ length w + m → Each (λ b. b < 256) w
+    → Steps-sound (p ++ (blanks k ++ s)) (bytes-at a w)
 sound-bytes p [] s a k m e i h = tt
 sound-bytes p (b ∷ w) s a zero m e i h = absurd (omega arith)
 sound-bytes p (b ∷ w) s a (suc k) m e i h = (

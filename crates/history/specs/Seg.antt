@@ -50,7 +50,8 @@ seg-open (seg-cut d n f) = true
 seg-open (seg-held n c f) = true
 
 -- the chain over it
-pub seg-ends : (x : Next) (at : ℕ) (g : Seg) (s : List ℕ) → Stops (at + seg-size g) s x → Ends at (seg-onto g s) (chain-of (seg-entries at g) (seg-open g) (at + seg-size g) x)
+pub seg-ends : (x : Next) (at : ℕ) (g : Seg) (s : List ℕ) → Stops (at + seg-size g) s x
+    → Ends at (seg-onto g s) (chain-of (seg-entries at g) (seg-open g) (at + seg-size g) x)
 seg-ends x at seg-none s e k = rw (add-zero at) (rw (add-zero at) at (e false (suc k)))
 seg-ends x at (seg-torn c u y z w t b m) s e k = ends-torn at u y z w s b m (e true) k
 seg-ends x at (seg-cut d n f) s e k = ends-begun at d n s f (e true) k
@@ -77,7 +78,8 @@ drop-seg (seg-cut d n f) s = drop-begun d n s
 drop-seg (seg-held n c f) s = drop-onto (held n c) s
 
 -- the head behind it
-gap-or : {b : ℕ} (at j : ℕ) (q t : List ℕ) → length q ≡ 8 * j → Quiet j q → Head-low b → (at ≡ 0 → 1 ≤ j) → Reaches₁ at (q ++ (b ∷ 90 ∷ t)) (b ∷ 90 ∷ t) (8 * j)
+gap-or : {b : ℕ} (at j : ℕ) (q t : List ℕ) → length q ≡ 8 * j → Quiet j q → Head-low b → (at ≡ 0 → 1 ≤ j)
+    → Reaches₁ at (q ++ (b ∷ 90 ∷ t)) (b ∷ 90 ∷ t) (8 * j)
 gap-or at zero q t e h l n = reaches-gap at zero q t e h l (λ i. not-suc-le-zero (n i))
 gap-or {b} at (suc j) q t e h l n = reaches-quiet at j q (b ∷ 90 ∷ t) e h
 
@@ -86,5 +88,7 @@ pub seg-reaches : {b : ℕ} (at j : ℕ) (g : Seg) (q t : List ℕ) → length q
     Reaches at (seg-onto g (q ++ (b ∷ 90 ∷ t))) (b ∷ 90 ∷ t) (seg-size g + 8 * j)
 seg-reaches {b} at j seg-none q t e h l n = rw (zero-add (8 * j)) (reaches-more (gap-or at j q t e h l (λ i. n (add-zero at ∙ i))))
 seg-reaches {b} at j (seg-torn c x y z w u o m) q t e h l n = reaches-more (reaches-torn at x y z w j q (b ∷ 90 ∷ t) o m e h)
-seg-reaches {b} at j (seg-cut d m f) q t e h l n = reaches-begun at d m (q ++ (b ∷ 90 ∷ t)) (b ∷ 90 ∷ t) f (reaches-gap (at + size-of (length m) d) j q t e h l (λ i. omega arith))
-seg-reaches {b} at j (seg-held m c f) q t e h l n = reaches-held at m c (q ++ (b ∷ 90 ∷ t)) (b ∷ 90 ∷ t) f (reaches-gap (at + size-of (length m) (length c)) j q t e h l (λ i. omega arith))
+seg-reaches {b} at j (seg-cut d m f) q t e h l n =
+    reaches-begun at d m (q ++ (b ∷ 90 ∷ t)) (b ∷ 90 ∷ t) f (reaches-gap (at + size-of (length m) d) j q t e h l (λ i. omega arith))
+seg-reaches {b} at j (seg-held m c f) q t e h l n =
+    reaches-held at m c (q ++ (b ∷ 90 ∷ t)) (b ∷ 90 ∷ t) f (reaches-gap (at + size-of (length m) (length c)) j q t e h l (λ i. omega arith))

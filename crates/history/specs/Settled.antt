@@ -30,11 +30,14 @@ one-none w e = rw (repair-1, e)
 pub two-none : (w : Work) (x : Entry) (es : List Entry) → Each Unmarked es → repair-2 w (x ∷ es) ≡ w
 unfolding repair-2
 two-none w x [] h = refl
-two-none w x (y ∷ es) h = rw (repair-2, or-right (is-start (y .it .low)) (is-clean (y .it .low)) (h .0), or-left (is-start (y .it .low)) (is-clean (y .it .low)) (h .0))
+two-none w x (y ∷ es) h =
+    rw (repair-2, or-right (is-start (y .it .low)) (is-clean (y .it .low)) (h .0), or-left (is-start (y .it .low)) (is-clean (y .it .low)) (h .0))
 
 void-none : (im : Image) (e : Entry) → Finished e → void-steps im e ≡ []
 unfolding void-steps is-unfinished
-void-none im e h = rw (void-steps, or-left (is-erased (e .it .status)) (is-reserved (e .it .status)) h, or-right (is-erased (e .it .status)) (is-reserved (e .it .status)) h)
+void-none im e h =
+    rw (void-steps, or-left (is-erased (e .it .status)) (is-reserved (e .it .status)) h, or-right (is-erased (e .it .status))
+        (is-reserved (e .it .status)) h)
 
 -- no record is unfinished
 pub last-none : (im : Image) (es : List Entry) → Each Finished es → last-steps im es ≡ []
@@ -47,12 +50,15 @@ last-none im (e ∷ f ∷ es) h = last-none im (f ∷ es) (h .1)
 pub three-none : (w : Work) → Each Finished (w .reading .entries) → w .reading .ending ≡ Ending.Tail → repair-3 w ≡ w
 unfolding repair-3
 three-none w h t =
-    ap₂ (λ (a : List Step) (b : Ending). after w (a ++ torn-wrap-steps b) (w .reading .place .head)) (last-none (w .image) (w .reading .entries) h) t ∙ after-none w (w .reading .place .head)
+    ap₂ (λ (a : List Step) (b : Ending). after w (a ++ torn-wrap-steps b) (w .reading .place .head)) (last-none (w .image) (w .reading .entries) h) t
+        ∙ after-none w (w .reading .place .head)
 
 -- repair 4: no name is alive twice
 pub four-none : (w : Work) → Unique (w .reading .entries) → repair-4 w ≡ w
 unfolding repair-4 drop-steps
-four-none w u = ap (λ (l : List Entry). after w (map delete-step l) (w .reading .place .head)) (none-superseded (w .reading .entries) u) ∙ after-none w (w .reading .place .head)
+four-none w u =
+    ap (λ (l : List Entry). after w (map delete-step l) (w .reading .place .head)) (none-superseded (w .reading .entries) u)
+        ∙ after-none w (w .reading .place .head)
 
 mended-none : (im : Image) (N h t : ℕ) (b : Bool) (x : Entry) (es : List Entry) → Calm-store x es → is-clean (x .it .low) ≡ false →
     mended im (read N h t b (x ∷ es) Ending.Tail) ≡ begin im (read N h t b (x ∷ es) Ending.Tail)
@@ -61,7 +67,8 @@ mended-none im N h t b x es c k =
     let w : Work = begin im (read N h t b (x ∷ es) Ending.Tail) in
     rw (mended, one-none w k, two-none w x es (c .unmarked), three-none w (c .finished) refl, four-none w (c .unique))
 
-settled-calm : (im : Image) (N h t : ℕ) (b : Bool) (x : Entry) (es : List Entry) → Calm-store x es → is-clean (x .it .low) ≡ false → settled im (read N h t b (x ∷ es) Ending.Tail) ≡ true
+settled-calm : (im : Image) (N h t : ℕ) (b : Bool) (x : Entry) (es : List Entry) → Calm-store x es → is-clean (x .it .low) ≡ false
+    → settled im (read N h t b (x ∷ es) Ending.Tail) ≡ true
 unfolding settled
 settled-calm im N h t b x es c k = rw (settled, mended-none im N h t b x es c k)
 
@@ -73,4 +80,5 @@ if-calm im r e = rw (if-settled, e)
 pub settled-give : (im : Image) (N h t : ℕ) (b : Bool) (x : Entry) (es : List Entry) → Calm-store x es → is-clean (x .it .low) ≡ false →
     reading im ≡ give (read N h t b (x ∷ es) Ending.Tail) → settled-reading im ≡ give (read N h t b (x ∷ es) Ending.Tail)
 unfolding settled-reading
-settled-give im N h t b x es c k e = ap (λ (a : Answer Reading). onward a (if-settled im)) e ∙ if-calm im (read N h t b (x ∷ es) Ending.Tail) (settled-calm im N h t b x es c k)
+settled-give im N h t b x es c k e =
+    ap (λ (a : Answer Reading). onward a (if-settled im)) e ∙ if-calm im (read N h t b (x ∷ es) Ending.Tail) (settled-calm im N h t b x es c k)

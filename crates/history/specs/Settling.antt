@@ -25,13 +25,16 @@ use Rattle.history.specs.Settled.{settled-give}
 use Rattle.history.specs.Kinds.{Ok, Starts, Rested}
 
 quiet-reads :
-    {im : Image} {h S : ℕ} (B F : ℕ) {t : Bool} (es : List Entry) {l : Ledger} → Laid im h S t es seg-none (blanks B) (blanks F) → Tail h S t seg-none (blanks B) (blanks F) S t →
-    Starts es → Ok es l → (reading im ≡ give (read (length im) h S t es Ending.Tail)) × (settled-reading im ≡ give (read (length im) h S t es Ending.Tail))
+    {im : Image} {h S : ℕ} (B F : ℕ) {t : Bool} (es : List Entry) {l : Ledger} → Laid im h S t es seg-none (blanks B) (blanks F)
+        → Tail h S t seg-none (blanks B) (blanks F) S t →
+    Starts es → Ok es l → (reading im ≡ give (read (length im) h S t es Ending.Tail))
+        × (settled-reading im ≡ give (read (length im) h S t es Ending.Tail))
 quiet-reads B F [] d e st ok = absurd st
 quiet-reads {im} {h} {S} B F {t} (x ∷ es) d e st ok =
     let c : Calm-store x es = calm-of x es _ (laid-fine d) (st .1) ok in
     let r : reading im ≡ give (read (length im) h S t (x ∷ es) Ending.Tail) =
-    start-reads B F d e (st .0) (subst Ruled (sym (append-nil (x ∷ es))) (calm-ruled x es c)) ∙ ap (λ (w : List Entry). give (read (length im) h S t w Ending.Tail)) (append-nil (x ∷ es)) in
+    start-reads B F d e (st .0) (subst Ruled (sym (append-nil (x ∷ es))) (calm-ruled x es c))
+        ∙ ap (λ (w : List Entry). give (read (length im) h S t w Ending.Tail)) (append-nil (x ∷ es)) in
     (r, settled-give im (length im) h S t x es c (is-clean-0 (x .it .low) (st .0)) r)
 
 -- what is read

@@ -58,7 +58,8 @@ module _ {A : Type 0} where
   -- what holds of each element among the others
   each-split : (P : A → Type 0) (zs xs : List A) → ((before behind : List A) (x : A) → zs ++ xs ≡ before ++ (x ∷ behind) → P x) → Each P xs
   each-split P zs [] f = tt
-  each-split P zs (x ∷ xs) f = (f zs xs x refl, each-split P (zs ++ (x ∷ [])) xs (λ before behind y e. f before behind y (sym (append-assoc zs (x ∷ []) xs) ∙ e)))
+  each-split P zs (x ∷ xs) f =
+      (f zs xs x refl, each-split P (zs ++ (x ∷ [])) xs (λ before behind y e. f before behind y (sym (append-assoc zs (x ∷ []) xs) ∙ e)))
 
   index-below : (xs : List A) (i : ℕ) (x : A) → getElem? xs i ≡ some x → i < length xs
   index-below [] i x e = absurd (let z : _≡_ {A = ℕ} 0 1 = cc in omega arith)
@@ -74,7 +75,8 @@ module _ {A : Type 0} where
   any-none-each p [] h = tt
   any-none-each p (x ∷ xs) h = go (p x) refl h (any-none-each p xs)
     where
-      go : (b : Bool) → p x ≡ b → elim b as (λ b. Bool) [ true ↦ true | false ↦ any p xs ] ≡ false → (any p xs ≡ false → Each (λ x. p x ≡ false) xs) → Each (λ x. p x ≡ false) (x ∷ xs)
+      go : (b : Bool) → p x ≡ b → elim b as (λ b. Bool) [ true ↦ true | false ↦ any p xs ] ≡ false → (any p xs ≡ false → Each (λ x. p x ≡ false) xs)
+          → Each (λ x. p x ≡ false) (x ∷ xs)
       go true k e f = absurd (let z : _≡_ {A = ℕ} 0 1 = cc in omega arith)
       go false k e f = (k, f e)
 
@@ -118,7 +120,8 @@ first-at (x ∷ fs) zero e d h =
     first-yes (has-name (name-of e)) x fs (ap (λ (y : Entry). same (name-of y) (name-of e)) p ∙ same-refl (name-of e)) ∙ ap some p
 first-at (x ∷ fs) (suc i) e d h = first-no (has-name (name-of e)) x fs (index-each (Distinct x) fs i e h (d .0)) ∙ first-at fs i e (d .1) h
 
-same-index : (fs : List Entry) (i j : ℕ) (e f : Entry) → Pairwise Distinct fs → getElem? fs i ≡ some e → getElem? fs j ≡ some f → name-of e ≡ name-of f → i ≡ j
+same-index : (fs : List Entry) (i j : ℕ) (e f : Entry) → Pairwise Distinct fs → getElem? fs i ≡ some e → getElem? fs j ≡ some f
+    → name-of e ≡ name-of f → i ≡ j
 same-index [] i j e f d h k n = absurd (let z : _≡_ {A = ℕ} 0 1 = cc in omega arith)
 same-index (x ∷ fs) zero zero e f d h k n = refl
 same-index (x ∷ fs) zero (suc j) e f d h k n =
@@ -210,12 +213,16 @@ module _ {l : Ledger} {im : Image} {r : Reading} (q : Rested l im r) where
   unfolding carry-out
   refused n = refl
 
-  get-some : (n : List ℕ) (e : Entry) → name-ok n ≡ true → file-named n (r .entries) ≡ some e → get im n .numbers ≡ success (data-at e) (length (content-of e)) 0 []
-  get-some n e ok f = ap (λ (p : Answer Plan). carry-out im 0 p .numbers) (plan-get n ok ∙ ap (found getting) f) ∙ carried (refusal 0) (data-at e) (length (content-of e)) 0
+  get-some : (n : List ℕ) (e : Entry) → name-ok n ≡ true → file-named n (r .entries) ≡ some e
+      → get im n .numbers ≡ success (data-at e) (length (content-of e)) 0 []
+  get-some n e ok f =
+      ap (λ (p : Answer Plan). carry-out im 0 p .numbers) (plan-get n ok ∙ ap (found getting) f)
+          ∙ carried (refusal 0) (data-at e) (length (content-of e)) 0
 
   list-some : (i : ℕ) (e : Entry) → getElem? fs i ≡ some e → list im i .numbers ≡ success (e .at + 8) (length (name-of e)) (length (content-of e)) []
   list-some i e f =
-      ap (λ (p : Answer Plan). carry-out im 0 p .numbers) (plan-list i ∙ ap (λ (x : List Entry). found listing (getElem? x i)) files-are ∙ ap (found listing) f)
+      ap (λ (p : Answer Plan). carry-out im 0 p .numbers)
+          (plan-list i ∙ ap (λ (x : List Entry). found listing (getElem? x i)) files-are ∙ ap (found listing) f)
       ∙ carried (refusal 0) (e .at + 8) (length (name-of e)) (length (content-of e))
 
   list-name : (i : ℕ) (e : Entry) → getElem? fs i ≡ some e → part-of im (list im i .numbers) ≡ name-of e
@@ -265,17 +272,23 @@ module _ {l : Ledger} {im : Image} {r : Reading} (q : Rested l im r) where
   none-named n h o x = go x
     where
       absent : Each (λ e. same (name-of e) n ≡ false) (keep alive (q .es))
-      absent = map-each-file (λ f. is-named n f ≡ false) (keep alive (q .es)) (perm-each (λ f. is-named n f ≡ false) (Permᴰ·symm (q .ok .matches)) (any-none-each (is-named n) l h))
+      absent =
+          map-each-file (λ f. is-named n f ≡ false) (keep alive (q .es))
+              (perm-each (λ f. is-named n f ≡ false) (Permᴰ·symm (q .ok .matches)) (any-none-each (is-named n) l h))
 
       go : {o : Option Entry} → Old n (q .es) o → o ≡ none
       go (old-none a) = refl
       go (old-some xs ys e p a m) =
-          absurd (not-both (same (name-of e) n) (in-kept (λ d. same (name-of d) n ≡ false) xs ys e a (subst (λ (z : List Entry). Each (λ d. same (name-of d) n ≡ false) (keep alive z)) p absent))
+          absurd (not-both (same (name-of e) n)
+              (in-kept (λ d. same (name-of d) n ≡ false) xs ys e a
+              (subst (λ (z : List Entry). Each (λ d. same (name-of d) n ≡ false) (keep alive z)) p absent))
           (ap (λ (w : List ℕ). same w n) m ∙ same-refl n))
 
   get-none : (n : List ℕ) → name-ok n ≡ true → has n l ≡ false → get im n .numbers .answer ≡ 2
   get-none n ok h =
-      let f : file-named n (r .entries) ≡ none = ap (file-named n) entries-are ∙ none-named n h (file-named n (q .es)) (old-file n (q .es) l (q .ok)) in
+      let f : file-named n (r .entries) ≡ none = ap (file-named n) entries-are
+          ∙ none-named n h (file-named n (q .es)) (old-file n (q .es) l (q .ok)) in
+      
       ap (λ (p : Answer Plan). carry-out im 0 p .numbers .answer) (plan-get n ok ∙ ap (found getting) f) ∙ refused 2
 
   -- list and get on a rested image
@@ -283,7 +296,9 @@ module _ {l : Ledger} {im : Image} {r : Reading} (q : Rested l im r) where
   rested-shows =
       record {
         counted = count-is ∙ ledger-length;
-        listed = subst (λ (k : ℕ). Each (Listed im k) l) (sym count-is) (over (Listed im (length fs)) (each-index (λ e. Listed im (length fs) (as-file e)) fs listed-at));
+        listed =
+            subst (λ (k : ℕ). Each (Listed im k) l) (sym count-is)
+                (over (Listed im (length fs)) (each-index (λ e. Listed im (length fs) (as-file e)) fs listed-at));
         got = over (Got im) (each-index (λ e. Got im (as-file e)) fs got-at);
         others = get-none;
       }

@@ -13,13 +13,15 @@ use Rattle.history.specs.Quiet.{blank-split}
 -- ---- a property of every cut, phase by phase
 
 -- one step, then others
-pub cut-one : (P : List ℕ → Type 0) (s : List ℕ) (x : Step) (b : List Step) → P s → ((j : ℕ) → j ≤ length b → P (run (apply s x) (take j b))) → (k : ℕ) → k ≤ suc (length b) →
+pub cut-one : (P : List ℕ → Type 0) (s : List ℕ) (x : Step) (b : List Step) → P s → ((j : ℕ) → j ≤ length b → P (run (apply s x) (take j b)))
+    → (k : ℕ) → k ≤ suc (length b) →
     P (run s (take k (x ∷ b)))
 cut-one P s x b p q zero h = p
 cut-one P s x b p q (suc k) h = q k (omega arith)
 
 -- some steps, then others
-pub cut-append : (P : List ℕ → Type 0) (s : List ℕ) (a b : List Step) → ((j : ℕ) → j ≤ length a → P (run s (take j a))) → ((j : ℕ) → j ≤ length b → P (run (run s a) (take j b)))
+pub cut-append : (P : List ℕ → Type 0) (s : List ℕ) (a b : List Step) → ((j : ℕ) → j ≤ length a → P (run s (take j a)))
+    → ((j : ℕ) → j ≤ length b → P (run (run s a) (take j b)))
     → (k : ℕ) → k ≤ length a + length b → P (run s (take k (a ++ b)))
 cut-append P s [] b p q k h = q k (omega arith)
 cut-append P s (x ∷ a) b p q zero h = p zero (omega arith)
@@ -88,6 +90,8 @@ write-over p (o ∷ old) (b ∷ w) s a e h =
     ∙ append-snoc p b (w ++ s)
 
 -- j bytes written over FF
-pub write-blank : (p w s : List ℕ) (a j m k : ℕ) → length p ≡ a → j ≤ length w → k ≡ j + m → run (p ++ (blanks k ++ s)) (take j (bytes-at a w)) ≡ p ++ (take j w ++ (blanks m ++ s))
+pub write-blank : (p w s : List ℕ) (a j m k : ℕ) → length p ≡ a → j ≤ length w → k ≡ j + m
+    → run (p ++ (blanks k ++ s)) (take j (bytes-at a w)) ≡ p ++ (take j w ++ (blanks m ++ s))
 write-blank p w s a j m k e h l =
-    rw (take-bytes j a w, blank-split j m k l, append-assoc (blanks j) (blanks m) s) (write-over p (blanks j) (take j w) (blanks m ++ s) a e (length-replicate j 255 ∙ sym (length-take-le j w h)))
+    rw (take-bytes j a w, blank-split j m k l, append-assoc (blanks j) (blanks m) s)
+        (write-over p (blanks j) (take j w) (blanks m ++ s) a e (length-replicate j 255 ∙ sym (length-take-le j w h)))

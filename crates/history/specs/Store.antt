@@ -149,11 +149,13 @@ name-legal-by es e h n = go (alive e) refl
 pub names-by : (es : List Entry) → Unique es → Each Well-named es → names-ok es ≡ true
 unfolding names-ok
 names-by es u h =
-    all-each (name-legal es) es (each-map es (λ e p. name-legal-by es e (p .0) (p .1)) (each-both (λ e. live es e ≡ alive e) Well-named es (live-alive es u) h))
+    all-each (name-legal es) es
+        (each-map es (λ e p. name-legal-by es e (p .0) (p .1)) (each-both (λ e. live es e ≡ alive e) Well-named es (live-alive es u) h))
 
 second-plain : (es : List Entry) (x y : Entry) → Unmarked y → second-ok es x y ≡ true
 unfolding second-ok
-second-plain es x y h = rw (second-ok, or-left (is-start (y .it .low)) (is-clean (y .it .low)) h, or-right (is-start (y .it .low)) (is-clean (y .it .low)) h)
+second-plain es x y h =
+    rw (second-ok, or-left (is-start (y .it .low)) (is-clean (y .it .low)) h, or-right (is-start (y .it .low)) (is-clean (y .it .low)) h)
 
 -- the rule on marks
 pub marks-by : (x : Entry) (es : List Entry) → Each Unmarked es → marks-ok (x ∷ es) ≡ true
@@ -164,7 +166,11 @@ marks-by x (y ∷ es) h = rw (marks-ok, second-plain (x ∷ (y ∷ es)) x y (h .
 -- no rule is broken
 pub calm-ruled : (x : Entry) (es : List Entry) → Calm-store x es → Ruled (x ∷ es)
 calm-ruled x es c =
-    record { names = names-by (x ∷ es) (c .unique) (c .well-named); singles = unique-single (x ∷ es) (c .unique); marks = marks-by x es (c .unmarked) }
+    record {
+      names = names-by (x ∷ es) (c .unique) (c .well-named);
+      singles = unique-single (x ∷ es) (c .unique);
+      marks = marks-by x es (c .unmarked);
+    }
 
 -- a dead one is apart from any other
 pub dead-apart : (u : Entry) → alive u ≡ false → (e : Entry) → Apart e u

@@ -46,7 +46,8 @@ second-clean : (m : List ℕ) → (getD m 1 0 ≡ 90 → ⊥) → clean-here m �
 unfolding is-high
 second-clean m h = rw (ne-eqb (getD m 1 0) 90 h) (and-false (is-clean (getD m 0 0)))
 
-module _ {im : List ℕ} {a l : ℕ} {gap lost : List ℕ} {h : ℕ} {x : Rec} {ys : List Rec} {seg : Seg} {free : List ℕ} (s : Straight im a l gap lost h (x ∷ ys) seg free) where
+module _ {im : List ℕ} {a l : ℕ} {gap lost : List ℕ} {h : ℕ} {x : Rec} {ys : List Rec} {seg : Seg} {free : List ℕ}
+    (s : Straight im a l gap lost h (x ∷ ys) seg free) where
   together : im ≡ (gap ++ lost) ++ lay (x ∷ ys) (seg-onto seg free)
   together = s .is ∙ sym (append-assoc gap lost (lay (x ∷ ys) (seg-onto seg free)))
 
@@ -71,14 +72,16 @@ module _ {im : List ℕ} {a l : ℕ} {gap lost : List ℕ} {h : ℕ} {x : Rec} {
       let e : suc w ≡ 512 * a + l = omega (arith, s .at) in
       let g : 8 * suc w ≡ h = omega (arith, s .at) in
       subst (λ (m : ℕ). Reaches 0 ((gap ++ lost) ++ lay (x ∷ ys) (seg-onto seg free)) (lay (x ∷ ys) (seg-onto seg free)) m) g
-      (reaches-more (reaches-quiet 0 w (gap ++ lost) (lay (x ∷ ys) (seg-onto seg free)) (before-length ∙ omega arith) (subst (λ (n : ℕ). Quiet n (gap ++ lost)) (sym e) before-quiet)))
+      (reaches-more (reaches-quiet 0 w (gap ++ lost) (lay (x ∷ ys) (seg-onto seg free)) (before-length ∙ omega arith)
+          (subst (λ (n : ℕ). Quiet n (gap ++ lost)) (sym e) before-quiet)))
 
   -- START is found
   pub straight-start : (h ≡ 0 → ⊥) → x .low ≡ 0 → head im ≡ give h
   straight-start n e =
       ap head together
       ∙ head-start [] ((gap ++ lost) ++ lay (x ∷ ys) (seg-onto seg free)) (drop 2 (lay (x ∷ ys) (seg-onto seg free))) h tt tt (fronted n)
-      (subst (λ (b : ℕ). Reaches 0 ((gap ++ lost) ++ lay (x ∷ ys) (seg-onto seg free)) (b ∷ 90 ∷ drop 2 (lay (x ∷ ys) (seg-onto seg free))) h) e (reached n))
+      (subst (λ (b : ℕ). Reaches 0 ((gap ++ lost) ++ lay (x ∷ ys) (seg-onto seg free)) (b ∷ 90 ∷ drop 2 (lay (x ∷ ys) (seg-onto seg free))) h) e
+          (reached n))
       ∙ ap give (zero-add h)
 
   not-clean : (h ≡ 0 → ⊥) → clean-here ((gap ++ lost) ++ lay (x ∷ ys) (seg-onto seg free)) ≡ false
@@ -90,21 +93,25 @@ module _ {im : List ℕ} {a l : ℕ} {gap lost : List ℕ} {h : ℕ} {x : Rec} {
   pub straight-clean : (h ≡ 0 → ⊥) → x .low ≡ 160 → head im ≡ give h
   straight-clean n e =
       ap head together
-      ∙ head-clean [] ((gap ++ lost) ++ lay (x ∷ ys) (seg-onto seg free)) (drop 2 (lay (x ∷ ys) (seg-onto seg free))) h tt tt (fronted n) (not-clean n)
-      (subst (λ (b : ℕ). Reaches 0 ((gap ++ lost) ++ lay (x ∷ ys) (seg-onto seg free)) (b ∷ 90 ∷ drop 2 (lay (x ∷ ys) (seg-onto seg free))) h) e (reached n))
+      ∙ head-clean [] ((gap ++ lost) ++ lay (x ∷ ys) (seg-onto seg free)) (drop 2 (lay (x ∷ ys) (seg-onto seg free))) h tt tt (fronted n)
+          (not-clean n)
+      (subst (λ (b : ℕ). Reaches 0 ((gap ++ lost) ++ lay (x ∷ ys) (seg-onto seg free)) (b ∷ 90 ∷ drop 2 (lay (x ∷ ys) (seg-onto seg free))) h) e
+          (reached n))
       ∙ ap give (zero-add h)
 
   -- START at 0 is found
   pub straight-zero : h ≡ 0 → x .low ≡ 0 → head im ≡ give h
   straight-zero z e =
-      ap head (at-zero z) ∙ subst (λ (b : ℕ). head (b ∷ 90 ∷ drop 2 (lay (x ∷ ys) (seg-onto seg free))) ≡ give 0) (sym e) (head-zero (drop 2 (lay (x ∷ ys) (seg-onto seg free)))) ∙ ap give (sym z)
+      ap head (at-zero z) ∙ subst (λ (b : ℕ). head (b ∷ 90 ∷ drop 2 (lay (x ∷ ys) (seg-onto seg free))) ≡ give 0) (sym e)
+          (head-zero (drop 2 (lay (x ∷ ys) (seg-onto seg free)))) ∙ ap give (sym z)
 
   -- head CLEAN at 0: nothing is found
   pub straight-none : (f : ℕ) → h ≡ 0 → x .low ≡ 160 → Walked 0 (x ∷ ys) → seg ≡ seg-none → length free ≡ 8 * f → Quiet f free → head im ≡ give h
   straight-none f z e w o l q =
       ap head (at-zero z) ∙ ap (λ (g : Seg). head (lay (x ∷ ys) (seg-onto g free))) o
       ∙ head-none (x ∷ ys) free (8 * f) (s .fine) w front-low
-      (subst (λ (b : ℕ). clean-here (b ∷ 90 ∷ drop 2 (lay (x ∷ ys) free)) ≡ true) (sym e) (clean-is (drop 2 (lay (x ∷ ys) free)))) (omega (arith, length-lay (x ∷ ys) free))
+      (subst (λ (b : ℕ). clean-here (b ∷ 90 ∷ drop 2 (lay (x ∷ ys) free)) ≡ true) (sym e) (clean-is (drop 2 (lay (x ∷ ys) free))))
+          (omega (arith, length-lay (x ∷ ys) free))
       (reaches-more (reaches-end (sizes (x ∷ ys)) f free l q))
       ∙ ap give (sym z)
 
@@ -118,5 +125,6 @@ module _ {im : List ℕ} {a l : ℕ} {gap lost : List ℕ} {h : ℕ} {x : Rec} {
       reading-from im h ≡ read (length im) h t false (entries-of h (x ∷ ys) ++ es) Ending.Tail
   straight-reading t o es e =
       rw (s .is)
-      (shape-straight [] (x ∷ ys) gap lost (seg-onto seg free) h (zero-add (length gap) ∙ s .gap-length ∙ sym bottom) (omega (arith, bottom, s .at, s .lost-length)) tt (s .fine)
+      (shape-straight [] (x ∷ ys) gap lost (seg-onto seg free) h (zero-add (length gap) ∙ s .gap-length ∙ sym bottom)
+          (omega (arith, bottom, s .at, s .lost-length)) tt (s .fine)
       (omega arith) es o t e)

@@ -40,7 +40,8 @@ fine-right [] ys p = p
 fine-right (x ∷ xs) ys p = fine-right xs ys (p .1)
 
 -- the same place with other records and another end
-pub other : {im : List ℕ} {a l : ℕ} {gap lost : List ℕ} {h : ℕ} {high high′ : List Rec} {seg seg′ : Seg} {free free′ : List ℕ} (im′ : List ℕ) → Straight im a l gap lost h high seg free →
+pub other : {im : List ℕ} {a l : ℕ} {gap lost : List ℕ} {h : ℕ} {high high′ : List Rec} {seg seg′ : Seg} {free free′ : List ℕ} (im′ : List ℕ)
+    → Straight im a l gap lost h high seg free →
     im′ ≡ gap ++ (lost ++ lay high′ (seg-onto seg′ free′)) → All-fine high′ → Straight im′ a l gap lost h high′ seg′ free′
 other im′ s e f =
     record {
@@ -68,7 +69,8 @@ front-is gap lost xs t =
     append-assoc gap (lost ++ lay xs []) t
     ∙ ap (λ (l : List ℕ). gap ++ l) (append-assoc lost (lay xs []) t ∙ ap (λ (l : List ℕ). lost ++ l) (sym (lay-is xs t)))
 
-module _ {im : List ℕ} {a l : ℕ} {gap lost : List ℕ} {h : ℕ} {rs : List Rec} (xs ys : List Rec) {seg : Seg} {free : List ℕ} (e : rs ≡ xs ++ ys) (s : Straight im a l gap lost h rs seg free) where
+module _ {im : List ℕ} {a l : ℕ} {gap lost : List ℕ} {h : ℕ} {rs : List Rec} (xs ys : List Rec) {seg : Seg} {free : List ℕ} (e : rs ≡ xs ++ ys)
+    (s : Straight im a l gap lost h rs seg free) where
   -- how long it is
   pub front-length : length (front-part gap lost xs) ≡ h + sizes xs
   unfolding front-part
@@ -85,7 +87,8 @@ module _ {im : List ℕ} {a l : ℕ} {gap lost : List ℕ} {h : ℕ} {rs : List 
   -- programmed steps behind xs
   pub run-behind : (ss : List Step) → Programs ss → run im (moved (h + sizes xs) ss) ≡ gap ++ (lost ++ lay xs (run (lay ys (seg-onto seg free)) ss))
   run-behind ss p =
-      ap (λ (l : List ℕ). run l (moved (h + sizes xs) ss)) split-at ∙ run-past (front-part gap lost xs) (lay ys (seg-onto seg free)) ss (h + sizes xs) front-length p
+      ap (λ (l : List ℕ). run l (moved (h + sizes xs) ss)) split-at
+          ∙ run-past (front-part gap lost xs) (lay ys (seg-onto seg free)) ss (h + sizes xs) front-length p
       ∙ front-is gap lost xs (run (lay ys (seg-onto seg free)) ss)
 
 -- ---- a record changed
@@ -105,8 +108,10 @@ recontent c r = record { low = r .low; status = r .status; name = r .name; conte
 -- ---- its length
 
 -- how long the image is
-pub straight-length : {im : List ℕ} {a l : ℕ} {gap lost : List ℕ} {h : ℕ} {high : List Rec} {seg : Seg} {free : List ℕ} → Straight im a l gap lost h high seg free →
+pub straight-length : {im : List ℕ} {a l : ℕ} {gap lost : List ℕ} {h : ℕ} {high : List Rec} {seg : Seg} {free : List ℕ}
+    → Straight im a l gap lost h high seg free →
     length im ≡ h + sizes high + seg-size seg + length free
 straight-length {gap = gap} {lost = lost} {high = high} {seg = seg} {free = free} s =
-    ap length (s .is) ∙ length-append gap (lost ++ lay high (seg-onto seg free)) ∙ ap (λ (n : ℕ). length gap + n) (length-append lost (lay high (seg-onto seg free)))
+    ap length (s .is) ∙ length-append gap (lost ++ lay high (seg-onto seg free))
+        ∙ ap (λ (n : ℕ). length gap + n) (length-append lost (lay high (seg-onto seg free)))
     ∙ omega (arith, s .gap-length, s .lost-length, s .at, length-lay high (seg-onto seg free), length-seg seg free)

@@ -23,7 +23,8 @@ second-ff zero p q h e = not-suc-le-zero h
 second-ff (suc zero) p q h e = omega arith
 second-ff (suc (suc n)) p q h e = omega arith
 
-front-keep : (gap lost D L : List ℕ) (a : ℕ) → length gap ≡ 4096 * a → (getD (gap ++ lost) 1 0 ≡ 90 → ⊥) → (getD (D ++ L) 1 0 ≡ 90 → ⊥) → getD ((gap ++ D) ++ L) 1 0 ≡ 90 → ⊥
+front-keep : (gap lost D L : List ℕ) (a : ℕ) → length gap ≡ 4096 * a → (getD (gap ++ lost) 1 0 ≡ 90 → ⊥) → (getD (D ++ L) 1 0 ≡ 90 → ⊥)
+    → getD ((gap ++ D) ++ L) 1 0 ≡ 90 → ⊥
 front-keep [] lost D L a l f g = g
 front-keep (x ∷ []) lost D L a l f g = absurd (omega arith)
 front-keep (x ∷ y ∷ gap) lost D L a l f g = f
@@ -40,7 +41,8 @@ Cleaned x = Quiet (rsize x / 8 - 1) (body (x .name) (x .content) [])
 unfoldable pub old-head : List ℕ → Rec → List ℕ
 old-head lost x = lost ++ onto x []
 
-module _ {im : List ℕ} {a l : ℕ} {gap lost : List ℕ} {h : ℕ} {x y : Rec} {ys : List Rec} {free : List ℕ} (s : Straight im a l gap lost h (x ∷ y ∷ ys) seg-none free) (c : Cleaned x) where
+module _ {im : List ℕ} {a l : ℕ} {gap lost : List ℕ} {h : ℕ} {x y : Rec} {ys : List Rec} {free : List ℕ}
+    (s : Straight im a l gap lost h (x ∷ y ∷ ys) seg-none free) (c : Cleaned x) where
   abbrev q : List ℕ
   q = old-head lost x
 
@@ -50,22 +52,29 @@ module _ {im : List ℕ} {a l : ℕ} {gap lost : List ℕ} {h : ℕ} {x y : Rec}
 
   im-is : im ≡ gap ++ (q ++ lay (y ∷ ys) free)
   unfolding old-head
-  im-is = s .is ∙ ap (λ (m : List ℕ). gap ++ m) (ap (λ (m : List ℕ). lost ++ m) (lay-is (x ∷ []) (lay (y ∷ ys) free)) ∙ sym (append-assoc lost (onto x []) (lay (y ∷ ys) free)))
+  im-is =
+      s .is ∙ ap (λ (m : List ℕ). gap ++ m)
+          (ap (λ (m : List ℕ). lost ++ m) (lay-is (x ∷ []) (lay (y ∷ ys) free)) ∙ sym (append-assoc lost (onto x []) (lay (y ∷ ys) free)))
 
   -- the sectors to erase: suc k of them, r words of q are left behind them
   module _ (k r : ℕ) (all : 512 * suc k + r ≡ l + rsize x / 8) (short : r < 512) where
-    erased : (i : ℕ) → i ≤ suc k → run im (take i (erases (4096 * a) (suc k))) ≡ gap ++ (half-erased i (suc k) q ++ (drop (4096 * suc k) q ++ lay (y ∷ ys) free))
-    erased i e = ap (λ (m : List ℕ). run m (take i (erases (4096 * a) (suc k)))) im-is ∙ erase-cut i (suc k) (4096 * a) gap q (lay (y ∷ ys) free) (s .gap-length) (omega (arith, q-length)) e
+    erased : (i : ℕ) → i ≤ suc k
+        → run im (take i (erases (4096 * a) (suc k))) ≡ gap ++ (half-erased i (suc k) q ++ (drop (4096 * suc k) q ++ lay (y ∷ ys) free))
+    erased i e =
+        ap (λ (m : List ℕ). run m (take i (erases (4096 * a) (suc k)))) im-is
+            ∙ erase-cut i (suc k) (4096 * a) gap q (lay (y ∷ ys) free) (s .gap-length) (omega (arith, q-length)) e
 
     quiet-q : Quiet (512 * k + r) (drop 4096 q)
     unfolding old-head
     quiet-q =
         let n : rsize x / 8 - 1 ≡ 511 - l + (512 * k + r) = omega (arith, s .lost-small) in
-        quiet-second x lost [] l (512 * k + r) (s .lost-length) (omega (arith, s .lost-small)) (subst (λ (m : ℕ). Quiet m (body (x .name) (x .content) [])) n c)
+        quiet-second x lost [] l (512 * k + r) (s .lost-length) (omega (arith, s .lost-small))
+            (subst (λ (m : ℕ). Quiet m (body (x .name) (x .content) [])) n c)
 
     -- after at least one erase: the head is Y, the free run may hold remains, without marks
     pub to-m3 : (i : ℕ) → i ≤ k →
-        Straight (run im (take (suc i) (erases (4096 * a) (suc k)))) (a + suc k) r (gap ++ half-erased (suc i) (suc k) (old-head lost x)) (drop (4096 * suc k) (old-head lost x)) (h + rsize x)
+        Straight (run im (take (suc i) (erases (4096 * a) (suc k)))) (a + suc k) r (gap ++ half-erased (suc i) (suc k) (old-head lost x))
+            (drop (4096 * suc k) (old-head lost x)) (h + rsize x)
         (y ∷ ys) seg-none free
     to-m3 i e =
         let D : List ℕ = half-erased (suc i) (suc k) q in
@@ -77,11 +86,15 @@ module _ {im : List ℕ} {a l : ℕ} {gap lost : List ℕ} {h : ℕ} {x y : Rec}
           is = erased (suc i) (omega arith) ∙ sym (append-assoc gap D (L ++ lay (y ∷ ys) free));
           at = omega (arith, s .at, rsize-words x);
           gap-length = length-append gap D ∙ omega (arith, s .gap-length, ld);
-          gap-quiet = subst (λ (n : ℕ). Quiet n (gap ++ D)) qn (quiet-append (512 * a) (512 * suc k) gap D (s .gap-length ∙ omega arith) (s .gap-quiet) (half-erased-quiet k r q ql quiet-q i e));
+          gap-quiet =
+              subst (λ (n : ℕ). Quiet n (gap ++ D)) qn
+                  (quiet-append (512 * a) (512 * suc k) gap D (s .gap-length ∙ omega arith) (s .gap-quiet) (half-erased-quiet k r q ql quiet-q i e));
           lost-length = length-drop (4096 * suc k) q ∙ omega arith;
           lost-small = short;
           lost-quiet = quiet-lost k r q ql quiet-q;
-          front = front-keep gap lost D L a (s .gap-length) (s .front) (second-ff (4096 * suc i) (take (4096 * (suc k - suc i)) (drop (4096 * suc i) q)) L (omega arith));
+          front =
+              front-keep gap lost D L a (s .gap-length) (s .front)
+                  (second-ff (4096 * suc i) (take (4096 * (suc k - suc i)) (drop (4096 * suc i) q)) L (omega arith));
           fine = s .fine .1;
         }
 
@@ -102,16 +115,20 @@ vacated-are N h x y a l k r e s t u =
 
 -- ---- after (c): X's data is cleaned
 
-module _ {im : Image} {a l : ℕ} {gap lost : List ℕ} {h : ℕ} {x y : Rec} {ys : List Rec} {free : List ℕ} (s : Straight im a l gap lost h (x ∷ y ∷ ys) seg-none free) (c : Cleaned x)
+module _ {im : Image} {a l : ℕ} {gap lost : List ℕ} {h : ℕ} {x y : Rec} {ys : List Rec} {free : List ℕ}
+    (s : Straight im a l gap lost h (x ∷ y ∷ ys) seg-none free) (c : Cleaned x)
     (k r : ℕ) (all : 512 * suc k + r ≡ l + rsize x / 8) (short : r < 512) where
   abbrev A : ℕ
   A = 4096 * a
 
   -- all of (d): the gap's new sectors are FF
-  pub done : Straight (run im (erases A (suc k))) (a + suc k) r (gap ++ blanks (4096 * suc k)) (drop (4096 * suc k) (old-head lost x)) (h + rsize x) (y ∷ ys) seg-none free
+  pub done : Straight (run im (erases A (suc k))) (a + suc k) r (gap ++ blanks (4096 * suc k)) (drop (4096 * suc k) (old-head lost x)) (h + rsize x)
+      (y ∷ ys) seg-none free
   done =
-      subst (λ (g : List ℕ). Straight (run im (erases A (suc k))) (a + suc k) r (gap ++ g) (drop (4096 * suc k) (old-head lost x)) (h + rsize x) (y ∷ ys) seg-none free)
+      subst (λ (g : List ℕ). Straight (run im (erases A (suc k))) (a + suc k) r (gap ++ g) (drop (4096 * suc k) (old-head lost x)) (h + rsize x)
+          (y ∷ ys) seg-none free)
       (all-erased (suc k) (old-head lost x))
-      (subst (λ (ss : List Step). Straight (run im ss) (a + suc k) r (gap ++ half-erased (suc k) (suc k) (old-head lost x)) (drop (4096 * suc k) (old-head lost x)) (h + rsize x)
+      (subst (λ (ss : List Step). Straight (run im ss) (a + suc k) r (gap ++ half-erased (suc k) (suc k) (old-head lost x))
+          (drop (4096 * suc k) (old-head lost x)) (h + rsize x)
       (y ∷ ys) seg-none free)
       (take-erases (suc k) (suc k) A (omega arith)) (to-m3 s c k r all short k (omega arith)))

@@ -42,19 +42,23 @@ pub remove-keeps :
     Sound im (status-step e 0) × Inv (without n l) (run im (status-step e 0 ∷ []))
 remove-keeps {l} {im} {r} n e q f = go (old-file n (q .es) l (q .ok)) (sym (ap (λ (y : Reading). file-named n (y .entries)) (q .is)) ∙ f)
   where
-    at : (xs ys : List Entry) → q .es ≡ xs ++ (e ∷ ys) → alive e ≡ true → name-of e ≡ n → Sound im (status-step e 0) × Inv (without n l) (run im (status-step e 0 ∷ []))
+    at : (xs ys : List Entry) → q .es ≡ xs ++ (e ∷ ys) → alive e ≡ true → name-of e ≡ n → Sound im (status-step e 0)
+        × Inv (without n l) (run im (status-step e 0 ∷ []))
     at xs ys i a m =
         let d : Laid im (q .h) (q .S) (q .t) (xs ++ (e ∷ ys)) seg-none (blanks (q .B)) (blanks (q .F)) =
         subst (λ (fs : List Entry). Laid im (q .h) (q .S) (q .t) fs seg-none (blanks (q .B)) (blanks (q .F))) i (q .laid) in
         let o : Ok (xs ++ (gone e ∷ ys)) (without n l) =
-        subst (λ (k : List ℕ). Ok (xs ++ (gone e ∷ ys)) (without k l)) m (ok-delete xs ys e (gone e) l (subst (λ (fs : List Entry). Ok fs l) i (q .ok)) a (gone-dead e)) in
-        (delete-sound (q .B) (q .F) xs ys e (q .good) d (q .tail), rested-inv (delete-rests (q .B) (q .F) xs ys e (q .good) d (q .tail) (subst Starts i (q .starts)) o))
+        subst (λ (k : List ℕ). Ok (xs ++ (gone e ∷ ys)) (without k l)) m
+            (ok-delete xs ys e (gone e) l (subst (λ (fs : List Entry). Ok fs l) i (q .ok)) a (gone-dead e)) in
+        (delete-sound (q .B) (q .F) xs ys e (q .good) d (q .tail), rested-inv
+            (delete-rests (q .B) (q .F) xs ys e (q .good) d (q .tail) (subst Starts i (q .starts)) o))
 
     go : {o : Option Entry} → Old n (q .es) o → o ≡ some e → Sound im (status-step e 0) × Inv (without n l) (run im (status-step e 0 ∷ []))
     go (old-none x) k = absurd (let z : _≡_ {A = ℕ} 0 1 = cc in omega arith)
     go (old-some xs ys g i a m) k =
         let p : g ≡ e = cc in
-        at xs ys (subst (λ (y : Entry). q .es ≡ xs ++ (y ∷ ys)) p i) (subst (λ (y : Entry). alive y ≡ true) p a) (subst (λ (y : Entry). name-of y ≡ n) p m)
+        at xs ys (subst (λ (y : Entry). q .es ≡ xs ++ (y ∷ ys)) p i) (subst (λ (y : Entry). alive y ≡ true) p a)
+            (subst (λ (y : Entry). name-of y ≡ n) p m)
 
 -- ---- the move
 
@@ -65,7 +69,8 @@ record Done (l : Ledger) (im : Image) (w : Work) : Type 0 where
   pub rested : Rested l (w .image) (w .reading)
 
 two-on : (w : Work) (x y : Entry) (es : List Entry) → w .reading .entries ≡ x ∷ y ∷ es →
-    moved-on w ≡ reread w (program (y .at) 160 ∷ close-steps (w .reading .place .length) x y) (run (w .image) (program (y .at) 160 ∷ close-steps (w .reading .place .length) x y)) (y .at)
+    moved-on w ≡ reread w (program (y .at) 160 ∷ close-steps (w .reading .place .length) x y)
+        (run (w .image) (program (y .at) 160 ∷ close-steps (w .reading .place .length) x y)) (y .at)
 unfolding hand-over after
 two-on w x y es e = ap (hand-over w) e
 
@@ -77,7 +82,8 @@ moved-done l im w d f =
     let e : w .reading .entries ≡ f .x ∷ f .y ∷ f .rest = ap (λ (r : Reading). r .entries) (q .is) ∙ f .is in
     let ss : List Step = program (f .y .at) 160 ∷ close-steps (w .reading .place .length) (f .x) (f .y) in
     let p : Rests l (w .image) ss (f .y .at) =
-    subst (λ (n : ℕ). Rests l (w .image) (program (f .y .at) 160 ∷ close-steps n (f .x) (f .y)) (f .y .at)) (sym N) (hands-over q (f .x) (f .y) (f .rest) (f .is) (f .dead)) in
+    subst (λ (n : ℕ). Rests l (w .image) (program (f .y .at) 160 ∷ close-steps n (f .x) (f .y)) (f .y .at)) (sym N)
+        (hands-over q (f .x) (f .y) (f .rest) (f .is) (f .dead)) in
     subst (Done l im) (sym (two-on w (f .x) (f .y) (f .rest) e))
     (record {
       safe = safe-append (Inv l) im (w .steps) ss (d .safe) (subst (λ (i : Image). Safe (Inv l) i ss) (d .image) (p .safe));
@@ -110,7 +116,8 @@ want-room : (r : Reading) (x : Entry) (es : List Entry) → live (x ∷ es) x �
 unfolding no-room
 want-room r x es a b = rw (no-room, a, b)
 
-has-room : (r : Reading) (x : Entry) (es : List Entry) → r .entries ≡ x ∷ es → stuck r ≡ false → live (x ∷ es) x ≡ true → fits (r .place) (size x) ≡ true
+has-room : (r : Reading) (x : Entry) (es : List Entry) → r .entries ≡ x ∷ es → stuck r ≡ false → live (x ∷ es) x ≡ true
+    → fits (r .place) (size x) ≡ true
 has-room r x es e s a = go (fits (r .place) (size x)) refl
   where
     go : (b : Bool) → fits (r .place) (size x) ≡ b → fits (r .place) (size x) ≡ true
@@ -119,7 +126,8 @@ has-room r x es e s a = go (fits (r .place) (size x)) refl
 
 -- ---- one move
 
-copy-live : (r : Reading) (x : Entry) (es : List Entry) → live (x ∷ es) x ≡ true → copy-steps r (x ∷ es) ≡ put-steps (r .place) (some x) (name-of x) (content-of x)
+copy-live : (r : Reading) (x : Entry) (es : List Entry) → live (x ∷ es) x ≡ true
+    → copy-steps r (x ∷ es) ≡ put-steps (r .place) (some x) (name-of x) (content-of x)
 unfolding copy-steps
 copy-live r x es e = rw (copy-steps, e)
 
@@ -127,10 +135,13 @@ copy-dead : (r : Reading) (x : Entry) (es : List Entry) → live (x ∷ es) x �
 unfolding copy-steps
 copy-dead r x es e = rw (copy-steps, e)
 
-move-by : (im : Image) (r : Reading) (es : List Entry) (ss : List Step) (w : Work) → r .entries ≡ es → copy-steps r es ≡ ss → after (begin im r) ss (r .place .head) ≡ w →
+move-by : (im : Image) (r : Reading) (es : List Entry) (ss : List Step) (w : Work) → r .entries ≡ es → copy-steps r es ≡ ss
+    → after (begin im r) ss (r .place .head) ≡ w →
     move (begin im r) ≡ moved-on w
 unfolding move
-move-by im r es ss w e k a = ap moved-on (ap (λ (fs : List Entry). after (begin im r) (copy-steps r fs) (r .place .head)) e ∙ ap (λ (ts : List Step). after (begin im r) ts (r .place .head)) k ∙ a)
+move-by im r es ss w e k a =
+    ap moved-on (ap (λ (fs : List Entry). after (begin im r) (copy-steps r fs) (r .place .head)) e
+        ∙ ap (λ (ts : List Step). after (begin im r) ts (r .place .head)) k ∙ a)
 
 module _ {l : Ledger} {im : Image} {r : Reading} (q : Rested l im r) (free : stuck r ≡ false) where
   entries-is : r .entries ≡ q .es
@@ -144,15 +155,21 @@ module _ {l : Ledger} {im : Image} {r : Reading} (q : Rested l im r) (free : stu
       let ss : List Step = put-steps (r .place) (some x) (name-of x) (content-of x) in
       let room : fits (r .place) (size x) ≡ true = has-room r x es (entries-is ∙ i) free (live-is x es i ∙ a) in
       let c : (p : Rested l (run im ss) (reading-from (run im ss) (r .place .head))) × Dead-first (p .es) = copied q x es i a room in
-      let d : Done l im (reread (begin im r) ss (run im ss) (r .place .head)) = record { safe = copy-safe q x es i a room; image = refl; rested = c .0 } in
-      subst (Done l im) (sym (move-by im r (x ∷ es) ss (reread (begin im r) ss (run im ss) (r .place .head)) (entries-is ∙ i) (copy-live r x es (live-is x es i ∙ a))
+      let d : Done l im (reread (begin im r) ss (run im ss) (r .place .head)) = record
+          { safe = copy-safe q x es i a room; image = refl; rested = c .0 } in
+      
+      subst (Done l im) (sym (move-by im r (x ∷ es) ss (reread (begin im r) ss (run im ss) (r .place .head)) (entries-is ∙ i)
+          (copy-live r x es (live-is x es i ∙ a))
       (after-some (begin im r) ss (r .place .head) (copy-some q x es i a room))))
       (moved-done l im (reread (begin im r) ss (run im ss) (r .place .head)) d (c .1))
 
   move-dead : (x : Entry) (es : List Entry) → q .es ≡ x ∷ es → alive x ≡ false → Done l im (move (begin im r))
-  move-dead x [] i a = let z : true ≡ false = sym (dead-end x (live-is x [] i ∙ a)) ∙ ap at-end (sym (entries-is ∙ i)) ∙ not-end r free in absurd (let n : _≡_ {A = ℕ} 0 1 = cc in omega arith)
+  move-dead x [] i a =
+      let z : true ≡ false = sym (dead-end x (live-is x [] i ∙ a)) ∙ ap at-end (sym (entries-is ∙ i)) ∙ not-end r free in
+      absurd (let n : _≡_ {A = ℕ} 0 1 = cc in omega arith)
   move-dead x (y ∷ es) i a =
-      subst (Done l im) (sym (move-by im r (x ∷ y ∷ es) [] (begin im r) (entries-is ∙ i) (copy-dead r x (y ∷ es) (live-is x (y ∷ es) i ∙ a)) (after-none (begin im r) (r .place .head))))
+      subst (Done l im) (sym (move-by im r (x ∷ y ∷ es) [] (begin im r) (entries-is ∙ i) (copy-dead r x (y ∷ es) (live-is x (y ∷ es) i ∙ a))
+          (after-none (begin im r) (r .place .head))))
       (moved-done l im (begin im r) (record { safe = rested-inv q; image = refl; rested = q }) (record { x = x; y = y; rest = es; is = i; dead = a }))
 
   move-done : Done l im (move (begin im r))
@@ -172,7 +189,8 @@ moves-stop : (k : ℕ) (im : Image) (r : Reading) → stuck r ≡ true → moves
 unfolding moves
 moves-stop k im r e = rw (moves, e)
 
-moves-on : (k : ℕ) (im : Image) (r : Reading) → stuck r ≡ false → moves (suc k) im r ≡ move (begin im r) .steps ∷ moves k (move (begin im r) .image) (move (begin im r) .reading)
+moves-on : (k : ℕ) (im : Image) (r : Reading) → stuck r ≡ false
+    → moves (suc k) im r ≡ move (begin im r) .steps ∷ moves k (move (begin im r) .image) (move (begin im r) .reading)
 unfolding moves
 moves-on k im r e = rw (moves, e)
 
@@ -182,7 +200,9 @@ unfolding moves
 moves-safe zero q = rested-inv q
 moves-safe (suc k) {l} {im} {r} q = go (stuck r) refl (λ d. moves-safe k (d .rested))
   where
-    go : (b : Bool) → stuck r ≡ b → ((d : Done l im (move (begin im r))) → Safe (Inv l) (move (begin im r) .image) (concat (moves k (move (begin im r) .image) (move (begin im r) .reading)))) →
+    go : (b : Bool) → stuck r ≡ b
+        → ((d : Done l im (move (begin im r)))
+        → Safe (Inv l) (move (begin im r) .image) (concat (moves k (move (begin im r) .image) (move (begin im r) .reading)))) →
         Safe (Inv l) im (concat (moves (suc k) im r))
     go true e ih = subst (λ (ms : List (List Step)). Safe (Inv l) im (concat ms)) (sym (moves-stop k im r e)) (rested-inv q)
     go false e ih =

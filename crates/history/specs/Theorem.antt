@@ -48,7 +48,8 @@ module _ {k l : Ledger} {im : Image} {ss : List Step} {at h : ℕ} (c : Commits 
 
   commits-early : (j : ℕ) → j < at → Inv k (run im (take j ss))
   commits-early j h =
-      subst (λ (ts : List Step). Inv k (run im ts)) (sym (ap (take j) (c .is) ∙ take-append-le j (c .before) (c .commit ∷ c .behind) (omega (arith, c .place))))
+      subst (λ (ts : List Step). Inv k (run im ts))
+          (sym (ap (take j) (c .is) ∙ take-append-le j (c .before) (c .commit ∷ c .behind) (omega (arith, c .place))))
       (safe-cut (Inv k) im (c .before) (c .safe-before) j)
 
   commits-late : (j : ℕ) → at ≤ j → Inv l (run im (take j ss))
@@ -89,11 +90,13 @@ done-cut im n c k p = refl
 abbrev Keeps : Image → Ledger → Request → ℕ → Answer Plan → Type 0
 Keeps im l r k p = Inv (fed im r (carry-out im k p .numbers) l) (carry-out im k p .image)
 
-put-refused : (im : Image) (l : Ledger) (n c : List ℕ) (k m : ℕ) → Inv l im → eqb m 0 ≡ false → eqb m 4 ≡ false → Keeps im l (Request.put n c) k (refuse m)
+put-refused : (im : Image) (l : Ledger) (n c : List ℕ) (k m : ℕ) → Inv l im → eqb m 0 ≡ false → eqb m 4 ≡ false
+    → Keeps im l (Request.put n c) k (refuse m)
 unfolding carry-out
 put-refused im l n c k m i e f = subst (λ (x : Ledger). Inv x im) (sym (fed-no im n c (refusal m) l (done-refused im n c m e f))) i
 
-module _ (im : Image) (l : Ledger) (n c : List ℕ) (k : ℕ) (ss : List Step) (at : ℕ) {h : ℕ} (place : commit-place n c (reading im) ≡ at) (m : Commits l (with-file n c l) im ss at h) where
+module _ (im : Image) (l : Ledger) (n c : List ℕ) (k : ℕ) (ss : List Step) (at : ℕ) {h : ℕ} (place : commit-place n c (reading im) ≡ at)
+    (m : Commits l (with-file n c l) im ss at h) where
   abbrev P : Plan
   P = doing ss 0 0 0
 
@@ -103,9 +106,11 @@ module _ (im : Image) (l : Ledger) (n c : List ℕ) (k : ℕ) (ss : List Step) (
 
   cut-fits : (b : Bool) → leb at k ≡ b → Fits (record { numbers = cut k P; image = run im (take k ss) })
   cut-fits true e =
-      subst (λ (x : Ledger). Inv x (run im (take k ss))) (sym (fed-yes im n c (cut k P) l (done-cut im n c k P ∙ ap (λ (x : ℕ). leb x k) place ∙ e))) (commits-late m k (leb-true at k e))
+      subst (λ (x : Ledger). Inv x (run im (take k ss))) (sym (fed-yes im n c (cut k P) l (done-cut im n c k P ∙ ap (λ (x : ℕ). leb x k) place ∙ e)))
+          (commits-late m k (leb-true at k e))
   cut-fits false e =
-      subst (λ (x : Ledger). Inv x (run im (take k ss))) (sym (fed-no im n c (cut k P) l (done-cut im n c k P ∙ ap (λ (x : ℕ). leb x k) place ∙ e))) (commits-early m k (leb-false at k e))
+      subst (λ (x : Ledger). Inv x (run im (take k ss))) (sym (fed-no im n c (cut k P) l (done-cut im n c k P ∙ ap (λ (x : ℕ). leb x k) place ∙ e)))
+          (commits-early m k (leb-false at k e))
 
   put-given : Keeps im l (Request.put n c) k (give P)
   put-given = go (leb (length ss) k) refl
@@ -117,7 +122,8 @@ module _ (im : Image) (l : Ledger) (n c : List ℕ) (k : ℕ) (ss : List Step) (
       go false e = subst Fits (sym (carried-cut im k P (leb-false (length ss) k e))) (cut-fits (leb at k) refl)
 
 place-is : (im : Image) (r : Reading) (n c : List ℕ) → reading im ≡ give r →
-    commit-place n c (reading im) ≡ length n + length c + 9 + one-if-fc (file-named n (r .entries)) + three-if (with-marker (r .place) (size-of (length n) (length c)))
+    commit-place n c (reading im) ≡ length n + length c + 9 + one-if-fc (file-named n (r .entries)) + three-if
+        (with-marker (r .place) (size-of (length n) (length c)))
 unfolding commit-place
 place-is im r n c e = ap (commit-place n c) e
 
@@ -131,7 +137,8 @@ put-keeps im l n c k i b = go (puts-of l im n c i)
     go (put-no r) = subst (Keeps im l (Request.put n c) k) (sym (r .is)) (put-refused im l n c k (r .number) i (r .not-done) (r .not-cut))
     go (put-yes r q ok f e) =
         subst (Keeps im l (Request.put n c) k) (sym e)
-        (put-given im l n c k (put-steps (r .place) (file-named n (r .entries)) n c) _ (place-is im r n c (rested-reads q)) (put-commits q (file-named n (r .entries)) n c (rested-old n q) ok b f))
+        (put-given im l n c k (put-steps (r .place) (file-named n (r .entries)) n c) _ (place-is im r n c (rested-reads q))
+            (put-commits q (file-named n (r .entries)) n c (rested-old n q) ok b f))
 
 put-sound : (im : Image) (l : Ledger) (n c : List ℕ) → Inv l im → Bytes c → Steps-sound im (steps-of (put-plan n c im))
 put-sound im l n c i b = go (puts-of l im n c i)
@@ -139,7 +146,8 @@ put-sound im l n c i b = go (puts-of l im n c i)
     go : Puts l im n c → Steps-sound im (steps-of (put-plan n c im))
     go (put-no r) = subst (λ (p : Answer Plan). Steps-sound im (steps-of p)) (sym (r .is)) tt
     go (put-yes r q ok f e) =
-        subst (λ (p : Answer Plan). Steps-sound im (steps-of p)) (sym e) (commits-sound (put-commits q (file-named n (r .entries)) n c (rested-old n q) ok b f))
+        subst (λ (p : Answer Plan). Steps-sound im (steps-of p)) (sym e)
+            (commits-sound (put-commits q (file-named n (r .entries)) n c (rested-old n q) ok b f))
 
 -- ---- remove
 
@@ -156,7 +164,8 @@ unfolding carry-out
 remove-refused im l n k m i e = subst (λ (x : Ledger). Inv x im) (sym (not-removed im n (refusal m) l e)) i
 
 -- one step: with no allowance it is not done
-remove-given : (im : Image) (l : Ledger) (n : List ℕ) (k : ℕ) (e : Entry) → Inv l im → Inv (without n l) (run im (status-step e 0 ∷ [])) → Keeps im l (Request.remove n) k (give (removing e))
+remove-given : (im : Image) (l : Ledger) (n : List ℕ) (k : ℕ) (e : Entry) → Inv l im → Inv (without n l) (run im (status-step e 0 ∷ []))
+    → Keeps im l (Request.remove n) k (give (removing e))
 remove-given im l n zero e i j =
     subst (λ (o : Outcome). Inv (fed im (Request.remove n) (o .numbers) l) (o .image)) (sym (carried-cut im 0 (removing e) (omega arith)))
     (subst (λ (x : Ledger). Inv x im) (sym (not-removed im n (cut 0 (removing e)) l refl)) i)
@@ -209,10 +218,12 @@ mount-safe im l i =
 abbrev Shown : Ledger → Outcome → Type 0
 Shown l o = (o .numbers .answer ≡ 0) × Shows (o .image) (o .numbers .third) l
 
-mounted-by : (im : Image) (l : Ledger) (k : ℕ) (p : Answer Plan) (q : Plan) → p ≡ give q → length (steps-of p) ≤ k → q .done .answer ≡ 0 → Shows (run im (q .steps)) (q .done .third) l →
+mounted-by : (im : Image) (l : Ledger) (k : ℕ) (p : Answer Plan) (q : Plan) → p ≡ give q → length (steps-of p) ≤ k → q .done .answer ≡ 0
+    → Shows (run im (q .steps)) (q .done .third) l →
     Shown l (carry-out im k p)
 mounted-by im l k p q e h a s =
-    subst (λ (p : Answer Plan). length (steps-of p) ≤ k → Shown l (carry-out im k p)) (sym e) (λ j. subst (Shown l) (sym (carried-done im k q j)) (a, s)) h
+    subst (λ (p : Answer Plan). length (steps-of p) ≤ k → Shown l (carry-out im k p)) (sym e)
+        (λ j. subst (Shown l) (sym (carried-done im k q j)) (a, s)) h
 
 mounts : (im : Image) (l : Ledger) → Inv l im → (k : ℕ) → length (steps-of (mount-plan im)) ≤ k → Mounted im k l
 mounts im l i k h =
@@ -229,8 +240,10 @@ keeps-by im l (Request.put n c) k i b = put-keeps im l n c k i b
 keeps-by im l (Request.remove n) k i b = remove-call im l n k i
 keeps-by im l Request.sweep k i b = still-keeps Inv im l (record { request = Request.sweep; allowance = k }) (sweep-safe im l i) refl
 keeps-by im l Request.mount k i b = still-keeps Inv im l (record { request = Request.mount; allowance = k }) (mount-safe im l i) refl
-keeps-by im l (Request.get n) k i b = still-keeps Inv im l (record { request = Request.get n; allowance = k }) (none-safe im l (get-plan n im) (get-none n im) i) refl
-keeps-by im l (Request.list j) k i b = still-keeps Inv im l (record { request = Request.list j; allowance = k }) (none-safe im l (list-plan j im) (list-none j im) i) refl
+keeps-by im l (Request.get n) k i b =
+    still-keeps Inv im l (record { request = Request.get n; allowance = k }) (none-safe im l (get-plan n im) (get-none n im) i) refl
+keeps-by im l (Request.list j) k i b =
+    still-keeps Inv im l (record { request = Request.list j; allowance = k }) (none-safe im l (list-plan j im) (list-none j im) i) refl
 
 sound-by : (im : Image) (l : Ledger) (r : Request) → Inv l im → Bytes-put r → Steps-sound im (steps-of (plan im r))
 sound-by im l (Request.put n c) i b = put-sound im l n c i b

@@ -14,7 +14,8 @@ use lib.Dec.{leb}
 use borrow.Author.Tests.{le-leb, lt-leb}
 use Rattle.history.specs.Safe.{Safe, safe-cut, sound-take}
 
-numbers-by : (k : ℕ) (p : Plan) (b : Bool) → leb (length (p .steps)) k ≡ b → numbers-of k p ≡ elim b as (λ t. Numbers) [ true ↦ p .done | false ↦ cut k p ]
+numbers-by : (k : ℕ) (p : Plan) (b : Bool) → leb (length (p .steps)) k ≡ b
+    → numbers-of k p ≡ elim b as (λ t. Numbers) [ true ↦ p .done | false ↦ cut k p ]
 unfolding numbers-of
 numbers-by k p b e = ap (λ (t : Bool). elim t as (λ u. Numbers) [ true ↦ p .done | false ↦ cut k p ]) e
 
@@ -23,15 +24,25 @@ unfolding carry-out
 carried im k p = refl
 
 -- enough allowance: done
-pub carried-done : (im : Image) (k : ℕ) (p : Plan) → length (p .steps) ≤ k → carry-out im k (give p) ≡ record { numbers = p .done; image = run im (p .steps) }
+pub carried-done : (im : Image) (k : ℕ) (p : Plan) → length (p .steps) ≤ k → carry-out im k (give p) ≡ record {
+  numbers = p .done;
+  image = run im (p .steps);
+}
 carried-done im k p h =
     carried im k p
-    ∙ ap₂ (λ (n : Numbers) (i : Image). record { numbers = n; image = i }) (numbers-by k p true (le-leb (length (p .steps)) k h)) (ap (run im) (take-all k (p .steps) h))
+    ∙ ap₂ (λ (n : Numbers) (i : Image). record { numbers = n; image = i }) (numbers-by k p true (le-leb (length (p .steps)) k h))
+        (ap (run im) (take-all k (p .steps) h))
 
 -- less: cut
-pub carried-cut : (im : Image) (k : ℕ) (p : Plan) → k < length (p .steps) → carry-out im k (give p) ≡ record { numbers = cut k p; image = run im (take k (p .steps)) }
+pub carried-cut : (im : Image) (k : ℕ) (p : Plan) → k < length (p .steps) → carry-out im k (give p) ≡ record {
+  numbers = cut k p;
+  image = run im (take k (p .steps));
+}
 carried-cut im k p h =
-    carried im k p ∙ ap (λ (n : Numbers). record { numbers = n; image = run im (take k (p .steps)) }) (numbers-by k p false (lt-leb (length (p .steps)) k h))
+    carried im k p ∙ ap (λ (n : Numbers). record {
+      numbers = n;
+      image = run im (take k (p .steps));
+    }) (numbers-by k p false (lt-leb (length (p .steps)) k h))
 
 -- what a plan leaves: the image after the first of its steps, refused or not
 carried-image : (im : Image) (k : ℕ) (p : Answer Plan) → carry-out im k p .image ≡ run im (take k (steps-of p))
@@ -41,15 +52,18 @@ carried-image im k (give p) = refl
 
 module _ (Inv : Ledger → Image → Type 0) where
   -- a call that leaves the ledger as it is keeps the invariant, if its steps are safe
-  pub still-keeps : (im : Image) (l : Ledger) (c : Call) → Safe (Inv l) im (steps-of (plan im (c .request))) → fed im (c .request) (outcome im c .numbers) l ≡ l →
+  pub still-keeps : (im : Image) (l : Ledger) (c : Call) → Safe (Inv l) im (steps-of (plan im (c .request)))
+      → fed im (c .request) (outcome im c .numbers) l ≡ l →
       Inv (fed im (c .request) (outcome im c .numbers) l) (outcome im c .image)
   still-keeps im l c s e =
       subst (λ (m : Ledger). Inv m (outcome im c .image)) (sym e)
-      (subst (Inv l) (sym (carried-image im (c .allowance) (plan im (c .request)))) (safe-cut (Inv l) im (steps-of (plan im (c .request))) s (c .allowance)))
+      (subst (Inv l) (sym (carried-image im (c .allowance) (plan im (c .request))))
+          (safe-cut (Inv l) im (steps-of (plan im (c .request))) s (c .allowance)))
 
   module _
       (formatted : (raw : Image) (k : ℕ) → format raw k .numbers .answer ≡ 0 → Inv [] (format raw k .image))
-      (keeps : (im : Image) (l : Ledger) (c : Call) → Inv l im → Bytes-put (c .request) → Inv (fed im (c .request) (outcome im c .numbers) l) (outcome im c .image))
+      (keeps : (im : Image) (l : Ledger) (c : Call) → Inv l im → Bytes-put (c .request)
+          → Inv (fed im (c .request) (outcome im c .numbers) l) (outcome im c .image))
       (sound : (im : Image) (l : Ledger) (r : Request) → Inv l im → Bytes-put r → Steps-sound im (steps-of (plan im r)))
       (mounts : (im : Image) (l : Ledger) → Inv l im → (k : ℕ) → length (steps-of (mount-plan im)) ≤ k → Mounted im k l) where
     all-calls : (im : Image) (l : Ledger) (cs : List Call) → Inv l im → Each (λ c. Bytes-put (c .request)) cs → Inv (ledger im cs l) (replay im cs)

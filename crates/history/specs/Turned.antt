@@ -37,7 +37,8 @@ pub data Opens : List ℕ → Next → Type 0 where
 
 -- the records low from 0 on, seg at T, f words of free up to floor(h), l words of lost, then the records from the head h on and what ends them;
 -- floor(h) is a sectors
-pub record Turned (im : List ℕ) (a l : ℕ) (lost : List ℕ) (h : ℕ) (low : List Rec) (seg : Seg) (f : ℕ) (free : List ℕ) (high : List Rec) (end : End) : Type 0 where
+pub record Turned (im : List ℕ) (a l : ℕ) (lost : List ℕ) (h : ℕ) (low : List Rec) (seg : Seg) (f : ℕ) (free : List ℕ) (high : List Rec) (end : End) :
+    Type 0 where
   pub is : im ≡ lay low (seg-onto seg (free ++ (lost ++ lay high (end-bytes end))))
   pub at : 4096 * a + 8 * l ≡ h
   pub some-below : 1 ≤ a
@@ -57,7 +58,8 @@ ff-not : _≡_ {A = ℕ} 255 90 → ⊥
 ff-not e = omega arith
 
 -- at 0 a record, FF, or something unfinished
-front-seg : (low : List Rec) (g : Seg) (free t : List ℕ) (x : Next) → Opens free x → 1 ≤ sizes low + seg-size g + length free → Front low (seg-onto g (free ++ t))
+front-seg : (low : List Rec) (g : Seg) (free t : List ℕ) (x : Next) → Opens free x → 1 ≤ sizes low + seg-size g + length free
+    → Front low (seg-onto g (free ++ t))
 front-seg (r ∷ rs) g free t x o h = front-low
 front-seg [] seg-none free t x o h = go o h
   where
@@ -102,25 +104,32 @@ module _ {im : List ℕ} {a l : ℕ} {lost : List ℕ} {h : ℕ} {low : List Rec
   word-count : length (free ++ lost) ≡ 8 * (f + l)
   word-count = length-append free lost ∙ omega (arith, s .free-length, s .lost-length)
 
-  reached : {b : ℕ} → x .low ≡ b → Head-low b → Reaches (sizes low) (seg-onto seg ((free ++ lost) ++ rest)) (b ∷ 90 ∷ drop 2 rest) (seg-size seg + 8 * (f + l))
+  reached : {b : ℕ} → x .low ≡ b → Head-low b
+      → Reaches (sizes low) (seg-onto seg ((free ++ lost) ++ rest)) (b ∷ 90 ∷ drop 2 rest) (seg-size seg + 8 * (f + l))
   reached {b} e k =
-      subst (λ (c : ℕ). Reaches (sizes low) (seg-onto seg ((free ++ lost) ++ (c ∷ 90 ∷ drop 2 rest))) (b ∷ 90 ∷ drop 2 rest) (seg-size seg + 8 * (f + l))) (sym e)
-      (seg-reaches (sizes low) (f + l) seg (free ++ lost) (drop 2 rest) word-count (quiet-append f l free lost (s .free-length) (s .free-quiet) (s .lost-quiet)) k
+      subst (λ (c : ℕ). Reaches (sizes low) (seg-onto seg ((free ++ lost) ++ (c ∷ 90 ∷ drop 2 rest))) (b ∷ 90 ∷ drop 2 rest)
+          (seg-size seg + 8 * (f + l))) (sym e)
+      (seg-reaches (sizes low) (f + l) seg (free ++ lost) (drop 2 rest) word-count
+          (quiet-append f l free lost (s .free-length) (s .free-quiet) (s .lost-quiet)) k
       (λ i. omega (arith, s .below, s .some-below)))
 
   fronted : Front low (seg-onto seg ((free ++ lost) ++ rest))
-  fronted = rw (append-assoc free lost rest) (front-seg low seg free (lost ++ rest) (s .opened) (s .opens) (omega (arith, s .below, s .free-length, s .some-below)))
+  fronted =
+      rw (append-assoc free lost rest)
+          (front-seg low seg free (lost ++ rest) (s .opened) (s .opens) (omega (arith, s .below, s .free-length, s .some-below)))
 
   -- START is found
   pub turned-start : x .low ≡ 0 → head im ≡ give h
   turned-start e =
-      ap head seg-whole ∙ head-start low (seg-onto seg ((free ++ lost) ++ rest)) (drop 2 rest) (seg-size seg + 8 * (f + l)) (s .fine-low) (s .walked) fronted (reached e is-START)
+      ap head seg-whole ∙ head-start low (seg-onto seg ((free ++ lost) ++ rest)) (drop 2 rest) (seg-size seg + 8 * (f + l)) (s .fine-low) (s .walked)
+          fronted (reached e is-START)
       ∙ ap give (omega (arith, s .below, s .at))
 
   -- CLEAN is found, if none stands at 0
   pub turned-clean : x .low ≡ 160 → clean-here im ≡ false → head im ≡ give h
   turned-clean e c =
-      ap head seg-whole ∙ head-clean low (seg-onto seg ((free ++ lost) ++ rest)) (drop 2 rest) (seg-size seg + 8 * (f + l)) (s .fine-low) (s .walked) fronted (sym (ap clean-here seg-whole) ∙ c)
+      ap head seg-whole ∙ head-clean low (seg-onto seg ((free ++ lost) ++ rest)) (drop 2 rest) (seg-size seg + 8 * (f + l)) (s .fine-low) (s .walked)
+          fronted (sym (ap clean-here seg-whole) ∙ c)
       (reached e is-CLEAN)
       ∙ ap give (omega (arith, s .below, s .at))
 
@@ -144,16 +153,20 @@ module _ {im : List ℕ} {a l : ℕ} {lost : List ℕ} {h : ℕ} {low : List Rec
   low-ends = seg-ends (s .opened) (sizes low) seg free (opens-stops (sizes low + seg-size seg) (s .opens))
 
   -- what is read
-  pub turned-reading : reading-from im h ≡ read (length im) h (sizes low + seg-size seg) true (entries-of h (x ∷ ys) ++ (entries-of 0 low ++ seg-entries (sizes low) seg)) Ending.Tail
+  pub turned-reading : reading-from im h ≡ read (length im) h (sizes low + seg-size seg) true
+      (entries-of h (x ∷ ys) ++ (entries-of 0 low ++ seg-entries (sizes low) seg)) Ending.Tail
   turned-reading = go end shaped
     where
       go : (en : End) → im ≡ lay low (seg-onto seg free ++ (lost ++ lay (x ∷ ys) (end-bytes en))) →
-          reading-from im h ≡ read (length im) h (sizes low + seg-size seg) true (entries-of h (x ∷ ys) ++ (entries-of 0 low ++ seg-entries (sizes low) seg)) Ending.Tail
+          reading-from im h ≡ read (length im) h (sizes low + seg-size seg) true
+              (entries-of h (x ∷ ys) ++ (entries-of 0 low ++ seg-entries (sizes low) seg)) Ending.Tail
       go exact e =
-          rw e (shape-turned low (x ∷ ys) (seg-onto seg free) lost [] h low-part high-part (s .fine-low) (s .fine-high) (omega arith) (seg-entries (sizes low) seg) (seg-open seg)
+          rw e (shape-turned low (x ∷ ys) (seg-onto seg free) lost [] h low-part high-part (s .fine-low) (s .fine-high) (omega arith)
+              (seg-entries (sizes low) seg) (seg-open seg)
           (h + sizes (x ∷ ys)) (sizes low + seg-size seg)
           (λ z. omega (arith, bottom, s .some-below)) turns-over (λ k. stops-over (h + sizes (x ∷ ys)) false (suc k)) (opens-end (s .opens)) low-ends)
       go (marker k) e =
-          rw e (shape-turned low (x ∷ ys) (seg-onto seg free) lost (wrap (blanks k)) h low-part high-part (s .fine-low) (s .fine-high) (omega arith) (seg-entries (sizes low) seg) (seg-open seg)
+          rw e (shape-turned low (x ∷ ys) (seg-onto seg free) lost (wrap (blanks k)) h low-part high-part (s .fine-low) (s .fine-high) (omega arith)
+              (seg-entries (sizes low) seg) (seg-open seg)
           (h + sizes (x ∷ ys)) (sizes low + seg-size seg)
           (λ z. omega (arith, bottom, s .some-below)) turns-wrap (ends-wrap (h + sizes (x ∷ ys)) (blanks k)) (opens-end (s .opens)) low-ends)

@@ -21,10 +21,12 @@ more-open : {free : List ℕ} {x : Next} (i k : ℕ) (q : List ℕ) → Opens fr
 more-open i k q opens-ff = opens-ff
 more-open i k q opens-none =
     subst (λ (l : List ℕ). Opens l Next.Clear)
-    (sym (ap (λ (l : List ℕ). l ++ take (4096 * (k - suc i)) (drop (4096 * suc i) q)) (blank-split 8 (4096 * suc i - 8) (4096 * suc i) (omega arith)))) opens-ff
+    (sym (ap (λ (l : List ℕ). l ++ take (4096 * (k - suc i)) (drop (4096 * suc i) q))
+        (blank-split 8 (4096 * suc i - 8) (4096 * suc i) (omega arith)))) opens-ff
 
 -- the bytes below the head's sector
-pre-length : {im : List ℕ} {a l : ℕ} {lost : List ℕ} {h : ℕ} {low : List Rec} {f : ℕ} {free : List ℕ} {high : List Rec} {end : End} → Turned im a l lost h low seg-none f free high end →
+pre-length : {im : List ℕ} {a l : ℕ} {lost : List ℕ} {h : ℕ} {low : List Rec} {f : ℕ} {free : List ℕ} {high : List Rec} {end : End}
+    → Turned im a l lost h low seg-none f free high end →
     length (lay low free) ≡ 4096 * a
 pre-length {low = low} {free = free} s = length-lay low free ∙ omega (arith, s .free-length, s .below)
 
@@ -53,11 +55,13 @@ module _ {im : List ℕ} {a l : ℕ} {lost : List ℕ} {h : ℕ} {low : List Rec
   unfolding old-head
   quiet-q =
       let n : rsize x / 8 - 1 ≡ 511 - l + (512 * k + r) = omega (arith, s .lost-small) in
-      quiet-second x lost [] l (512 * k + r) (s .lost-length) (omega (arith, s .lost-small)) (subst (λ (m : ℕ). Quiet m (body (x .name) (x .content) [])) n c)
+      quiet-second x lost [] l (512 * k + r) (s .lost-length) (omega (arith, s .lost-small))
+          (subst (λ (m : ℕ). Quiet m (body (x .name) (x .content) [])) n c)
 
   -- after at least one erase: the head is Y
   pub turned-m3 : (i : ℕ) → i ≤ k →
-      Turned (run im (take (suc i) (erases (4096 * a) (suc k)))) (a + suc k) r (drop (4096 * suc k) (old-head lost x)) (h + rsize x) low seg-none (f + 512 * suc k)
+      Turned (run im (take (suc i) (erases (4096 * a) (suc k)))) (a + suc k) r (drop (4096 * suc k) (old-head lost x)) (h + rsize x) low seg-none
+          (f + 512 * suc k)
       (free ++ half-erased (suc i) (suc k) (old-head lost x)) (y ∷ ys) end
   unfolding rest
   turned-m3 i e =
@@ -88,14 +92,17 @@ unfoldable pub last-head : List ℕ → Rec → End → List ℕ
 last-head lost x end = lost ++ onto x (end-bytes end)
 
 -- Y at 0, X the last before the turn: to N
-module _ {im : List ℕ} {a l : ℕ} {lost : List ℕ} {h : ℕ} {low : List Rec} {f : ℕ} {free : List ℕ} {x : Rec} {end : End} (s : Turned im a l lost h low seg-none f free (x ∷ []) end)
+module _ {im : List ℕ} {a l : ℕ} {lost : List ℕ} {h : ℕ} {low : List Rec} {f : ℕ} {free : List ℕ} {x : Rec} {end : End}
+    (s : Turned im a l lost h low seg-none f free (x ∷ []) end)
     (k : ℕ) (all : length im ≡ 4096 * (a + suc k)) (c : Quiet (511 - l + 512 * k) (body (x .name) (x .content) (end-bytes end))) where
   abbrev q₀ : List ℕ
   q₀ = last-head lost x end
 
   im₀-is : im ≡ lay low free ++ (q₀ ++ [])
   unfolding last-head
-  im₀-is = s .is ∙ sym (lay-past low free (lost ++ onto x (end-bytes end))) ∙ ap (λ (l : List ℕ). lay low free ++ l) (sym (append-nil (lost ++ onto x (end-bytes end))))
+  im₀-is =
+      s .is ∙ sym (lay-past low free (lost ++ onto x (end-bytes end)))
+          ∙ ap (λ (l : List ℕ). lay low free ++ l) (sym (append-nil (lost ++ onto x (end-bytes end))))
 
   q₀-length : length q₀ ≡ 4096 * suc k + 8 * 0
   q₀-length =
@@ -106,10 +113,13 @@ module _ {im : List ℕ} {a l : ℕ} {lost : List ℕ} {h : ℕ} {low : List Rec
   unfolding last-head
   quiet-q₀ =
       let n : 511 - l + 512 * k ≡ 511 - l + (512 * k + 0) = omega arith in
-      quiet-second x lost (end-bytes end) l (512 * k + 0) (s .lost-length) (omega (arith, s .lost-small)) (subst (λ (m : ℕ). Quiet m (body (x .name) (x .content) (end-bytes end))) n c)
+      quiet-second x lost (end-bytes end) l (512 * k + 0) (s .lost-length) (omega (arith, s .lost-small))
+          (subst (λ (m : ℕ). Quiet m (body (x .name) (x .content) (end-bytes end))) n c)
 
   -- after at least one erase: not turned, the head is at 0
-  pub zero-m3 : (i : ℕ) → i ≤ k → Straight (run im (take (suc i) (erases (4096 * a) (suc k)))) 0 0 [] [] 0 low seg-none (free ++ half-erased (suc i) (suc k) (last-head lost x end))
+  pub zero-m3 : (i : ℕ) → i ≤ k
+      → Straight (run im (take (suc i) (erases (4096 * a) (suc k)))) 0 0 [] [] 0 low seg-none
+      (free ++ half-erased (suc i) (suc k) (last-head lost x end))
   zero-m3 i e =
       let D : List ℕ = half-erased (suc i) (suc k) q₀ in
       let L : drop (4096 * suc k) q₀ ≡ [] = drop-of-length-le q₀ {i = 4096 * suc k} (omega (arith, q₀-length)) in
@@ -132,4 +142,6 @@ module _ {im : List ℕ} {a l : ℕ} {lost : List ℕ} {h : ℕ} {low : List Rec
 
   -- and its free run has no mark: so nothing is found, and CLEAN at 0 is the head
   pub zero-quiet : (i : ℕ) → i ≤ k → Quiet (f + 512 * suc k) (free ++ half-erased (suc i) (suc k) (last-head lost x end))
-  zero-quiet i e = quiet-append f (512 * suc k) free (half-erased (suc i) (suc k) q₀) (s .free-length) (s .free-quiet) (half-erased-quiet k 0 q₀ q₀-length quiet-q₀ i e)
+  zero-quiet i e =
+      quiet-append f (512 * suc k) free (half-erased (suc i) (suc k) q₀) (s .free-length) (s .free-quiet)
+          (half-erased-quiet k 0 q₀ q₀-length quiet-q₀ i e)

@@ -36,8 +36,10 @@ walked-right at (r ∷ xs) ys p = subst (λ (n : ℕ). Walked n ys) (omega arith
 -- ---- the same place with other bytes
 
 -- other records from the head on
-with-high : {im : List ℕ} {a l : ℕ} {lost : List ℕ} {h : ℕ} {low : List Rec} {seg : Seg} {f : ℕ} {free : List ℕ} {high high′ : List Rec} {end : End} (im′ : List ℕ) →
-    Turned im a l lost h low seg f free high end → im′ ≡ lay low (seg-onto seg (free ++ (lost ++ lay high′ (end-bytes end)))) → All-fine high′ → Turned im′ a l lost h low seg f free high′ end
+with-high : {im : List ℕ} {a l : ℕ} {lost : List ℕ} {h : ℕ} {low : List Rec} {seg : Seg} {f : ℕ} {free : List ℕ} {high high′ : List Rec} {end : End}
+    (im′ : List ℕ) →
+    Turned im a l lost h low seg f free high end → im′ ≡ lay low (seg-onto seg (free ++ (lost ++ lay high′ (end-bytes end)))) → All-fine high′
+        → Turned im′ a l lost h low seg f free high′ end
 with-high im′ s e f =
     record {
       is = e;
@@ -57,9 +59,11 @@ with-high im′ s e f =
     }
 
 -- other records from 0 on, something else behind them, another free run
-with-low : {im : List ℕ} {a l : ℕ} {lost : List ℕ} {h : ℕ} {low low′ : List Rec} {seg seg′ : Seg} {f : ℕ} {free new : List ℕ} {high : List Rec} {end : End} {x : Next} (im′ : List ℕ) (f′ : ℕ) →
+with-low : {im : List ℕ} {a l : ℕ} {lost : List ℕ} {h : ℕ} {low low′ : List Rec} {seg seg′ : Seg} {f : ℕ} {free new : List ℕ} {high : List Rec}
+    {end : End} {x : Next} (im′ : List ℕ) (f′ : ℕ) →
     Turned im a l lost h low seg f free high end → im′ ≡ lay low′ (seg-onto seg′ (new ++ (lost ++ lay high (end-bytes end)))) →
-    sizes low′ + seg-size seg′ + length new ≡ sizes low + seg-size seg + length free → length new ≡ 8 * f′ → Quiet f′ new → Opens new x → All-fine low′ → Walked 0 low′ →
+    sizes low′ + seg-size seg′ + length new ≡ sizes low + seg-size seg + length free → length new ≡ 8 * f′ → Quiet f′ new → Opens new x
+        → All-fine low′ → Walked 0 low′ →
     Turned im′ a l lost h low′ seg′ f′ new high end
 with-low {x = x} im′ f′ s e z m q o fl w =
     record {
@@ -80,8 +84,10 @@ with-low {x = x} im′ f′ s e z m q o fl w =
     }
 
 -- with one record from the head on at least
-high-laid : {im : List ℕ} {a l : ℕ} {lost : List ℕ} {h : ℕ} {low : List Rec} {seg : Seg} {f : ℕ} {free : List ℕ} (xs : List Rec) (r : Rec) (ys : List Rec) {end : End} {es : List Entry} →
-    Turned im a l lost h low seg f free (xs ++ (r ∷ ys)) end → es ≡ entries-of h (xs ++ (r ∷ ys)) ++ entries-of 0 low → Laid im h (sizes low) true es seg [] free
+high-laid : {im : List ℕ} {a l : ℕ} {lost : List ℕ} {h : ℕ} {low : List Rec} {seg : Seg} {f : ℕ} {free : List ℕ} (xs : List Rec) (r : Rec)
+    (ys : List Rec) {end : End} {es : List Entry} →
+    Turned im a l lost h low seg f free (xs ++ (r ∷ ys)) end → es ≡ entries-of h (xs ++ (r ∷ ys)) ++ entries-of 0 low
+        → Laid im h (sizes low) true es seg [] free
 high-laid [] r ys s e = laid-turned s refl refl e refl
 high-laid (x ∷ xs) r ys s e = laid-turned s refl refl e refl
 
@@ -102,7 +108,8 @@ module _ {im : List ℕ} {a l : ℕ} {lost : List ℕ} {h : ℕ} {low : List Rec
         at = length-lay low [] ∙ omega arith;
         plug = λ g k new y m q o z.
             laid-turned {low = low}
-            (with-low (lay low [] ++ seg-onto g (new ++ rest)) k s (sym (lay-is low (seg-onto g (new ++ rest)))) (omega arith) m q o (s .fine-low) (s .walked)) refl refl refl refl;
+            (with-low (lay low [] ++ seg-onto g (new ++ rest)) k s (sym (lay-is low (seg-onto g (new ++ rest)))) (omega arith) m q o (s .fine-low)
+                (s .walked)) refl refl refl refl;
         grow = λ r k new y fine w m q o z.
             laid-turned {low = low ++ (r ∷ [])}
             (with-low (lay low [] ++ onto r (new ++ rest)) k s
@@ -129,7 +136,8 @@ module _ {im : List ℕ} {a l : ℕ} {lost : List ℕ} {h : ℕ} {low : List Rec
       lay-past low (seg-onto seg u) t
       ∙ ap (lay low)
       (sym (seg-append seg u t)
-      ∙ ap (seg-onto seg) (append-assoc free (lost ++ lay xs []) t ∙ ap (λ (l : List ℕ). free ++ l) (append-assoc lost (lay xs []) t ∙ ap (λ (l : List ℕ). lost ++ l) (sym (lay-is xs t)))))
+      ∙ ap (seg-onto seg) (append-assoc free (lost ++ lay xs []) t
+          ∙ ap (λ (l : List ℕ). free ++ l) (append-assoc lost (lay xs []) t ∙ ap (λ (l : List ℕ). lost ++ l) (sym (lay-is xs t)))))
 
   -- how long it is
   pub high-front-length : (xs : List Rec) → length (high-front xs) ≡ h + sizes xs
@@ -149,13 +157,15 @@ module _ {im : List ℕ} {a l : ℕ} {lost : List ℕ} {h : ℕ} {low : List Rec
       )
 
   -- a record from the head on may be replaced
-  pub high-inside : {xs zs : List Entry} {e : Entry} → Among h (x ∷ ys) xs e zs → Inside im h (sizes low) true xs e (zs ++ entries-of 0 low) seg [] free
+  pub high-inside : {xs zs : List Entry} {e : Entry} → Among h (x ∷ ys) xs e zs
+      → Inside im h (sizes low) true xs e (zs ++ entries-of 0 low) seg [] free
   high-inside {xs} {zs} {e} q =
       record {
         pre = high-front (q .before);
         post = lay (q .after) (end-bytes end);
         is =
-            s .is ∙ ap (λ (l : List ℕ). lay low (seg-onto seg (free ++ (lost ++ l)))) (ap (λ (k : List Rec). lay k (end-bytes end)) (q .is) ∙ lay-append (q .before) (e .it ∷ q .after) (end-bytes end))
+            s .is ∙ ap (λ (l : List ℕ). lay low (seg-onto seg (free ++ (lost ++ l))))
+                (ap (λ (k : List Rec). lay k (end-bytes end)) (q .is) ∙ lay-append (q .before) (e .it ∷ q .after) (end-bytes end))
             ∙ sym (high-front-is (q .before) (lay (e .it ∷ q .after) (end-bytes end)));
         at = high-front-length (q .before) ∙ sym (q .there);
         fine = among-fine q (s .fine-high);
@@ -165,7 +175,8 @@ module _ {im : List ℕ} {a l : ℕ} {lost : List ℕ} {h : ℕ} {low : List Rec
             (high-front-is (q .before) (lay (r ∷ q .after) (end-bytes end)) ∙ ap (λ (l : List ℕ). lay low (seg-onto seg (free ++ (lost ++ l))))
             (sym (lay-append (q .before) (r ∷ q .after) (end-bytes end))))
             (fine-with q r z (s .fine-high) fine))
-            (sym (append-assoc xs (record { at = e .at; it = r } ∷ zs) (entries-of 0 low)) ∙ ap (λ (l : List Entry). l ++ entries-of 0 low) (entries-with q r z));
+            (sym (append-assoc xs (record { at = e .at; it = r } ∷ zs) (entries-of 0 low))
+                ∙ ap (λ (l : List Entry). l ++ entries-of 0 low) (entries-with q r z));
       }
 
   -- what the walk steps over, still
@@ -175,7 +186,8 @@ module _ {im : List ℕ} {a l : ℕ} {lost : List ℕ} {h : ℕ} {low : List Rec
   walks-still {e} k (low-zero p u) w = subst (λ (c : ℕ). Walks (e .at) c) (sym u) (walks-at (sym p) walks-clean)
 
   -- a record from 0 on may be replaced
-  pub low-inside : {xs zs : List Entry} {e : Entry} → Among 0 low xs e zs → Inside im h (sizes low) true (entries-of h (x ∷ ys) ++ xs) e zs seg [] free
+  pub low-inside : {xs zs : List Entry} {e : Entry} → Among 0 low xs e zs
+      → Inside im h (sizes low) true (entries-of h (x ∷ ys) ++ xs) e zs seg [] free
   low-inside {xs} {zs} {e} q =
       let t : List ℕ = seg-onto seg (free ++ rest) in
       let v : Walked 0 (q .before ++ (e .it ∷ q .after)) = subst (Walked 0) (q .is) (s .walked) in
@@ -183,7 +195,9 @@ module _ {im : List ℕ} {a l : ℕ} {lost : List ℕ} {h : ℕ} {low : List Rec
       record {
         pre = lay (q .before) [];
         post = lay (q .after) t;
-        is = s .is ∙ ap (λ (k : List Rec). lay k t) (q .is) ∙ lay-append (q .before) (e .it ∷ q .after) t ∙ lay-is (q .before) (lay (e .it ∷ q .after) t);
+        is =
+            s .is ∙ ap (λ (k : List Rec). lay k t) (q .is) ∙ lay-append (q .before) (e .it ∷ q .after) t
+                ∙ lay-is (q .before) (lay (e .it ∷ q .after) t);
         at = length-lay (q .before) [] ∙ omega (arith, q .there);
         fine = among-fine q (s .fine-low);
         swap = λ r z fine w.
@@ -198,7 +212,8 @@ module _ {im : List ℕ} {a l : ℕ} {lost : List ℕ} {h : ℕ} {low : List Rec
               subst (λ (m : ℕ). Walked m (q .after)) (ap (λ (m : ℕ). 0 + sizes (q .before) + m) (sym z)) (v₁ .1),
             )))
             refl (sym n)
-            (append-assoc (entries-of h (x ∷ ys)) xs (record { at = e .at; it = r } ∷ zs) ∙ ap (λ (l : List Entry). entries-of h (x ∷ ys) ++ l) (entries-with q r z))
+            (append-assoc (entries-of h (x ∷ ys)) xs (record { at = e .at; it = r } ∷ zs)
+                ∙ ap (λ (l : List Entry). entries-of h (x ∷ ys) ++ l) (entries-with q r z))
             refl;
       }
 

@@ -49,7 +49,8 @@ tail-here {S = S} (tail-N e t z p q) = record { same = p ∙ add-zero S; turn = 
 tail-here (tail-turn s e t n b p q) = absurd (n refl)
 
 -- another head in the same sector
-pub tail-along : {h k S : ℕ} {t : Bool} {below free : List ℕ} → floor k ≡ floor h → Tail h S t seg-none below free S t → Tail k S t seg-none below free S t
+pub tail-along : {h k S : ℕ} {t : Bool} {below free : List ℕ} → floor k ≡ floor h → Tail h S t seg-none below free S t
+    → Tail k S t seg-none below free S t
 tail-along n (tail-clear s e p q) = tail-clear s e p q
 tail-along n (tail-floor e t p q) = tail-floor e t p q
 tail-along n (tail-N e t z p q) = tail-N e t (n ∙ z) p q
@@ -76,7 +77,8 @@ part-blanks pre s S m M e g l =
     let n : M ≡ length pre + j = omega arith in
     ap₂ (λ (a b : ℕ). blank (drop a (take b (pre ++ (blanks m ++ s))))) (sym e) n
     ∙ ap (λ (x : List ℕ). blank (drop (length pre) x)) (take-append-add pre (blanks m ++ s) j)
-    ∙ ap blank (drop-append-seam pre (take j (blanks m ++ s)) ∙ take-append-le j (blanks m) s (omega (arith, length-replicate {A = ℕ} m 255)) ∙ take-blanks j m (omega arith)) ∙ blank-blanks j
+    ∙ ap blank (drop-append-seam pre (take j (blanks m ++ s)) ∙ take-append-le j (blanks m) s (omega (arith, length-replicate {A = ℕ} m 255))
+        ∙ take-blanks j m (omega arith)) ∙ blank-blanks j
 
 -- a good length is sectors
 pub good-mod : (n : ℕ) → good-length n ≡ true → n % 4096 ≡ 0
@@ -88,11 +90,13 @@ limit-mod im h S true e = omega arith
 limit-mod im h S false e = e
 
 -- where the free run ends
-pub limit-is : {im : Image} {h S : ℕ} {t : Bool} {es : List Entry} {below free : List ℕ} → Laid im h S t es seg-none below free → limit (place im h S t) ≡ S + length free
+pub limit-is : {im : Image} {h S : ℕ} {t : Bool} {es : List Entry} {below free : List ℕ} → Laid im h S t es seg-none below free
+    → limit (place im h S t) ≡ S + length free
 limit-is {S = S} {free = free} d = laid-limit d ∙ ap (λ (n : ℕ). n + length free) (add-zero S)
 
 -- the first m bytes of the free run are FF
-free-part : {im : Image} {h S : ℕ} {t : Bool} {es : List Entry} {below free : List ℕ} (d : Laid im h S t es seg-none below free) (m : ℕ) (s : List ℕ) → free ≡ blanks m ++ s →
+free-part : {im : Image} {h S : ℕ} {t : Bool} {es : List Entry} {below free : List ℕ} (d : Laid im h S t es seg-none below free) (m : ℕ) (s : List ℕ)
+    → free ≡ blanks m ++ s →
     (M : ℕ) → S ≤ M → M ≤ S + m → blank (part S M im) ≡ true
 free-part {im} {h} {S} {t} {es} {below} {free} d m s e M p q =
     let k : Hole im h S t es seg-none below free = hole-of d in
@@ -137,7 +141,8 @@ module _ {h S : ℕ} {t : Bool} {es : List Entry} {im : Image} (v : Vacant h S t
       (omega (arith, v .own, limit-is (v .laid))) (omega (arith, v .own))
 
 -- from so many FF at T that they fill its sector
-pub vacant-at : {im : Image} {h S : ℕ} {t : Bool} {es : List Entry} {below free : List ℕ} (d : Laid im h S t es seg-none below free) (n : ℕ) (s : List ℕ) → free ≡ blanks n ++ s →
+pub vacant-at : {im : Image} {h S : ℕ} {t : Bool} {es : List Entry} {below free : List ℕ} (d : Laid im h S t es seg-none below free) (n : ℕ)
+    (s : List ℕ) → free ≡ blanks n ++ s →
     floor S + 4096 ≤ S + n →
     Vacant h S t es im
 vacant-at {S = S} {below = below} {free} d n s e h =
@@ -154,7 +159,8 @@ vacant-at {S = S} {below = below} {free} d n s e h =
     }
 
 -- the own sector of T, from the test
-own-back : (im pre free post : List ℕ) (S m M : ℕ) → im ≡ pre ++ (free ++ post) → length pre ≡ S → M ≡ S + m → m ≤ length free → blank (part S M im) ≡ true → take m free ≡ blanks m
+own-back : (im pre free post : List ℕ) (S m M : ℕ) → im ≡ pre ++ (free ++ post) → length pre ≡ S → M ≡ S + m → m ≤ length free
+    → blank (part S M im) ≡ true → take m free ≡ blanks m
 own-back im pre free post S m M e p q l b =
     let n : M ≡ length pre + m = omega arith in
     let f : part S M im ≡ take m free =
@@ -163,7 +169,8 @@ own-back im pre free post S m M e p q l b =
     blank-is (take m free) (sym (ap blank f) ∙ b) ∙ ap blanks (length-take-le m free l)
 
 -- from the test
-pub vacant-of : {im : Image} {h S : ℕ} {t : Bool} {es : List Entry} {below free : List ℕ} (d : Laid im h S t es seg-none below free) → good-length (length im) ≡ true → (s : List ℕ) →
+pub vacant-of : {im : Image} {h S : ℕ} {t : Bool} {es : List Entry} {below free : List ℕ} (d : Laid im h S t es seg-none below free)
+    → good-length (length im) ≡ true → (s : List ℕ) →
     free ≡ blanks 8 ++ s →
     tail-blank im (place im h S t) ≡ true → Vacant h S t es im
 unfolding tail-blank
@@ -187,7 +194,8 @@ vacant-of {im} {h} {S} {t} {es} {below} {free} d g s e b =
 -- ---- bare
 
 -- a rested image, as it is read
-pub rested-of : {l : Ledger} {im : Image} {h S : ℕ} (B F : ℕ) {t : Bool} {es : List Entry} → good-length (length im) ≡ true → Laid im h S t es seg-none (blanks B) (blanks F) →
+pub rested-of : {l : Ledger} {im : Image} {h S : ℕ} (B F : ℕ) {t : Bool} {es : List Entry} → good-length (length im) ≡ true
+    → Laid im h S t es seg-none (blanks B) (blanks F) →
     Tail h S t seg-none (blanks B) (blanks F) S t → Starts es → Ok es l → Rested l im (reading-from im h)
 rested-of {l} {im} {h} {S} B F {t} {es} g d e s o =
     record {
@@ -210,7 +218,8 @@ first-at [] = 0
 first-at (x ∷ es) = x .at
 
 -- the first record stands at the head
-pub first-is : {im : Image} {h S : ℕ} {t : Bool} {x : Entry} {es : List Entry} {seg : Seg} {below free : List ℕ} → Laid im h S t (x ∷ es) seg below free → x .at ≡ h
+pub first-is : {im : Image} {h S : ℕ} {t : Bool} {x : Entry} {es : List Entry} {seg : Seg} {below free : List ℕ}
+    → Laid im h S t (x ∷ es) seg below free → x .at ≡ h
 first-is d = ap first-at (laid-first d .2)
 
 -- the low byte is no part of a file
@@ -218,7 +227,8 @@ pub relow-alive : (x : Entry) (b : ℕ) → alive (record { at = x .at; it = rel
 unfolding alive named
 relow-alive x b = refl
 
-module _ {l : Ledger} {h : ℕ} {im : Image} {x : Entry} {es : List Entry} (g : good-length (length im) ≡ true) (c : x .it .low ≡ 160) (u : Each Unmarked es) (o : Ok (x ∷ es) l) where
+module _ {l : Ledger} {h : ℕ} {im : Image} {x : Entry} {es : List Entry} (g : good-length (length im) ≡ true) (c : x .it .low ≡ 160)
+    (u : Each Unmarked es) (o : Ok (x ∷ es) l) where
   -- the kind vacated
   pub vacant-inv : {S : ℕ} {t : Bool} → Vacant h S t (x ∷ es) im → Inv l im
   vacant-inv v = record { good = g; kind = vacated (v .laid) (vacant-tail v) (vacant-blank v) c u o }
@@ -231,7 +241,8 @@ module _ {l : Ledger} {h : ℕ} {im : Image} {x : Entry} {es : List Entry} (g : 
       record {
         good = g;
         kind = vacated (b .laid) (b .tail)
-            (free-part (b .laid) (b .F) [] (sym (append-nil (blanks (b .F)))) (min (floor (b .S) + 4096) (limit (place im h (b .S) (b .t)))) (omega arith) (omega arith)) c u o;
+            (free-part (b .laid) (b .F) [] (sym (append-nil (blanks (b .F)))) (min (floor (b .S) + 4096) (limit (place im h (b .S) (b .t))))
+                (omega arith) (omega arith)) c u o;
       }
 
   -- the head's low byte
@@ -243,7 +254,10 @@ module _ {l : Ledger} {h : ℕ} {im : Image} {x : Entry} {es : List Entry} (g : 
   bare-rested b =
       let p : x .at ≡ h = first-is (b .laid) in
       rested-of (b .B) (b .F) (rw (length-set im h 0) g)
-      (subst (λ (a : ℕ). Laid (set im a 0) h (b .S) (b .t) (record { at = x .at; it = relow 0 (x .it) } ∷ es) seg-none (blanks (b .B)) (blanks (b .F))) p
+      (subst (λ (a : ℕ). Laid (set im a 0) h (b .S) (b .t) (record {
+        at = x .at;
+        it = relow 0 (x .it);
+      } ∷ es) seg-none (blanks (b .B)) (blanks (b .F))) p
       (relow-laid [] es x (b .laid) 0 low-start (low-high (omega arith))))
       (b .tail) (refl, u) (ok-same [] es x (record { at = x .at; it = relow 0 (x .it) }) l o (relow-alive x 0) refl refl)
 

@@ -36,7 +36,8 @@ voided (seg-held n c f) = dead n c ∷ []
 
 set-end : (H n X : List ℕ) → length H ≡ 8 → set (H ++ (n ++ (255 ∷ X))) (8 + length n) 0 ≡ H ++ (n ++ (0 ∷ X))
 set-end H n X e =
-    ap (λ (x : List ℕ). set x (8 + length n) 0) (sym (append-assoc H n (255 ∷ X))) ∙ set-at (H ++ n) 255 X 0 (8 + length n) (length-append H n ∙ ap (λ (k : ℕ). k + length n) e)
+    ap (λ (x : List ℕ). set x (8 + length n) 0) (sym (append-assoc H n (255 ∷ X)))
+        ∙ set-at (H ++ n) 255 X 0 (8 + length n) (length-append H n ∙ ap (λ (k : ℕ). k + length n) e)
     ∙ append-assoc H n (0 ∷ X)
 
 end-name : (d : ℕ) (n s : List ℕ) → set (begun d n s) (8 + length n) 0 ≡ onto (held n (blanks d)) s
@@ -63,12 +64,19 @@ void-programs (seg-held n c f) = tt
 -- the dead record is fine
 pub void-fine : (g : Seg) → All-fine (voided g)
 void-fine seg-none = tt
-void-fine (seg-torn c x y z w t b m) = (record { low-ok = low-record; status-ok = st-00; fit = record { short = omega arith; plain = tt; small = omega arith } }, tt)
-void-fine (seg-cut d n f) = (record { low-ok = low-record; status-ok = st-00; fit = record { short = f .short; plain = f .plain; small = rw (length-replicate {A = ℕ} d 255) (f .small) } }, tt)
+void-fine (seg-torn c x y z w t b m) =
+    (record { low-ok = low-record; status-ok = st-00; fit = record { short = omega arith; plain = tt; small = omega arith } }, tt)
+void-fine (seg-cut d n f) =
+    (record {
+      low-ok = low-record;
+      status-ok = st-00;
+      fit = record { short = f .short; plain = f .plain; small = rw (length-replicate {A = ℕ} d 255) (f .small) };
+    }, tt)
 void-fine (seg-held n c f) = (record { low-ok = low-record; status-ok = st-00; fit = f }, tt)
 
 -- cut: still something unfinished, of the same size
-pub void-cut : (g : Seg) (s : List ℕ) (j : ℕ) → j < length (void-rel g) → (g′ : Seg) × (run (seg-onto g s) (take j (void-rel g)) ≡ seg-onto g′ s) × (seg-size g′ ≡ seg-size g)
+pub void-cut : (g : Seg) (s : List ℕ) (j : ℕ) → j < length (void-rel g) → (g′ : Seg) × (run (seg-onto g s) (take j (void-rel g)) ≡ seg-onto g′ s)
+    × (seg-size g′ ≡ seg-size g)
 void-cut seg-none s j h = absurd (not-suc-le-zero h)
 void-cut (seg-torn c x y z w t b m) s zero h = (seg-torn c x y z w t b m, refl, refl)
 void-cut (seg-torn c x y z w t b m) s (suc zero) h = (seg-torn 90 x y z w t begun-5a m, refl, refl)

@@ -53,7 +53,8 @@ tail-opens (tail-N f b z e k) = (Next.Over, subst (λ (l : List ℕ). Opens l Ne
 tail-opens (tail-turn s f b n w e k) = (Next.Over, subst (λ (l : List ℕ). Opens l Next.Over) (sym f) opens-none)
 
 -- with something else of that size
-retail : {h S T : ℕ} {t u : Bool} {g g′ : Seg} {below free : List ℕ} → seg-size g′ ≡ seg-size g → (g′ ≡ seg-none → ⊥) → Tail h S t g below free T u → Tail h S t g′ below free T u
+retail : {h S T : ℕ} {t u : Bool} {g g′ : Seg} {below free : List ℕ} → seg-size g′ ≡ seg-size g → (g′ ≡ seg-none → ⊥) → Tail h S t g below free T u
+    → Tail h S t g′ below free T u
 retail {S = S} z n (tail-clear s f e k) = tail-clear s f (e ∙ ap (λ (m : ℕ). S + m) (sym z)) k
 retail {S = S} z n (tail-floor f b e k) = tail-floor f b (e ∙ ap (λ (m : ℕ). S + m) (sym z)) k
 retail {S = S} z n (tail-N f b w e k) = tail-N f b w (e ∙ ap (λ (m : ℕ). S + m) (sym z)) k
@@ -63,7 +64,8 @@ plain-unmarked : (e : Entry) → e .it .low ≡ 165 → Unmarked e
 unfolding is-start is-clean
 plain-unmarked e k = rw k
 
-module _ {l : Ledger} {im : Image} {h S T : ℕ} (B F : ℕ) {t u : Bool} {es : List Entry} {g : Seg} (good : good-length (length im) ≡ true) (d : Laid im h S t es g (blanks B) (blanks F))
+module _ {l : Ledger} {im : Image} {h S T : ℕ} (B F : ℕ) {t u : Bool} {es : List Entry} {g : Seg} (good : good-length (length im) ≡ true)
+    (d : Laid im h S t es g (blanks B) (blanks F))
     (e : Tail h S t g (blanks B) (blanks F) T u) (st : Starts es) (ok : Ok es l) (v : Voids g S) where
   H : Hole im h S t es g (blanks B) (blanks F)
   H = hole-of d
@@ -81,7 +83,8 @@ module _ {l : Ledger} {im : Image} {h S T : ℕ} (B F : ℕ) {t u : Bool} {es : 
   unfolding rest
   same-length g′ z =
       ap good-length
-      (length-append (H .pre) (seg-onto g′ rest) ∙ ap (λ (n : ℕ). length (H .pre) + n) (length-seg g′ rest ∙ ap (λ (n : ℕ). n + length rest) z ∙ sym (length-seg g rest))
+      (length-append (H .pre) (seg-onto g′ rest)
+          ∙ ap (λ (n : ℕ). length (H .pre) + n) (length-seg g′ rest ∙ ap (λ (n : ℕ). n + length rest) z ∙ sym (length-seg g rest))
       ∙ sym (length-append (H .pre) (seg-onto g rest)) ∙ ap length (sym (H .is)))
       ∙ good
 
@@ -93,19 +96,24 @@ module _ {l : Ledger} {im : Image} {h S T : ℕ} (B F : ℕ) {t u : Bool} {es : 
   unfolding rest
   cut-inv j h = go (void-cut g rest j h)
     where
-      go : (g′ : Seg) × (run (seg-onto g rest) (take j (void-rel g)) ≡ seg-onto g′ rest) × (seg-size g′ ≡ seg-size g) → Inv l (run im (take j (moved S (void-rel g))))
+      go : (g′ : Seg) × (run (seg-onto g rest) (take j (void-rel g)) ≡ seg-onto g′ rest) × (seg-size g′ ≡ seg-size g)
+          → Inv l (run im (take j (moved S (void-rel g))))
       go c =
           let w = free-quiet d in
           let x = tail-opens e in
           subst (Inv l) (sym (now j ∙ ap (λ (s : List ℕ). H .pre ++ s) (c .1)))
           (record {
             good = same-length (c .0) (c .2);
-            kind = quiet B F (H .plug (c .0) (w .0) (blanks F) (x .0) (w .1) (w .2) (x .1) (ap (λ (n : ℕ). n + length (blanks F)) (c .2))) (retail (c .2) (sized-some (c .0) (c .2)) e) st ok;
+            kind =
+                quiet B F (H .plug (c .0) (w .0) (blanks F) (x .0) (w .1) (w .2) (x .1) (ap (λ (n : ℕ). n + length (blanks F)) (c .2)))
+                    (retail (c .2) (sized-some (c .0) (c .2)) e) st ok;
           })
 
   sound : Steps-sound im (moved S (void-rel g))
   unfolding rest
-  sound = subst (λ (i : Image). Steps-sound i (moved S (void-rel g))) (sym (H .is)) (sound-past (H .pre) (seg-onto g rest) (void-rel g) S (H .at) (void-programs g) (v .sound rest))
+  sound =
+      subst (λ (i : Image). Steps-sound i (moved S (void-rel g))) (sym (H .is))
+          (sound-past (H .pre) (seg-onto g rest) (void-rel g) S (H .at) (void-programs g) (v .sound rest))
 
   -- done
   gone : Entry
@@ -113,7 +121,8 @@ module _ {l : Ledger} {im : Image} {h S T : ℕ} (B F : ℕ) {t u : Bool} {es : 
 
   left-is : run im (moved S (void-rel g)) ≡ H .pre ++ onto (v .rec) rest
   left-is =
-      ap (run im) (sym (take-all (length (void-rel g)) (moved S (void-rel g)) (omega (arith, length-moved S (void-rel g))))) ∙ now (length (void-rel g))
+      ap (run im) (sym (take-all (length (void-rel g)) (moved S (void-rel g)) (omega (arith, length-moved S (void-rel g)))))
+          ∙ now (length (void-rel g))
       ∙ ap (λ (ss : List Step). H .pre ++ run (seg-onto g rest) ss) (take-all (length (void-rel g)) (void-rel g) (omega arith))
       ∙ ap (λ (s : List ℕ). H .pre ++ s) (void-run g rest ∙ ap (λ (rs : List Rec). lay rs rest) (v .is))
 
@@ -143,7 +152,9 @@ module _ {l : Ledger} {im : Image} {h S T : ℕ} (B F : ℕ) {t u : Bool} {es : 
 
   -- with sectors below and nothing free behind it the chain has turned
   left-rested : Rested l (H .pre ++ onto (v .rec) rest) (reading-from (H .pre ++ onto (v .rec) rest) h)
-  left-rested = let r : Bare h (es ++ (gone ∷ [])) (H .pre ++ onto (v .rec) rest) = bare-of B F left-laid in rested-of (r .B) (r .F) left-good (r .laid) (r .tail) left-starts left-ok
+  left-rested =
+      let r : Bare h (es ++ (gone ∷ [])) (H .pre ++ onto (v .rec) rest) = bare-of B F left-laid in
+      rested-of (r .B) (r .F) left-good (r .laid) (r .tail) left-starts left-ok
 
   void-rests : Rests l im (moved S (void-rel g)) h
   void-rests =
@@ -151,23 +162,29 @@ module _ {l : Ledger} {im : Image} {h S T : ℕ} (B F : ℕ) {t u : Bool} {es : 
       subst (λ (i : Image). Rested l i (reading-from i h)) (sym left-is) left-rested in
       record { rested = q; safe = safe-from (Inv l) im (moved S (void-rel g)) (λ k j. go q (leb (length (void-rel g)) k) k refl) sound }
     where
-      go : Rested l (run im (moved S (void-rel g))) (reading-from (run im (moved S (void-rel g))) h) → (b : Bool) (k : ℕ) → leb (length (void-rel g)) k ≡ b →
+      go : Rested l (run im (moved S (void-rel g))) (reading-from (run im (moved S (void-rel g))) h) → (b : Bool) (k : ℕ)
+          → leb (length (void-rel g)) k ≡ b →
           Inv l (run im (take k (moved S (void-rel g))))
       go q true k c =
-          subst (λ (ss : List Step). Inv l (run im ss)) (sym (take-all k (moved S (void-rel g)) (omega (arith, length-moved S (void-rel g), leb-true (length (void-rel g)) k c)))) (rested-inv q)
+          subst (λ (ss : List Step). Inv l (run im ss))
+              (sym (take-all k (moved S (void-rel g)) (omega (arith, length-moved S (void-rel g), leb-true (length (void-rel g)) k c))))
+              (rested-inv q)
       go q false k c = cut-inv k (leb-false (length (void-rel g)) k c)
 
 -- repair 3's steps are these
-third : (w : Work) (es : List Entry) (e : Entry) (ss : List Step) → w .reading .entries ≡ es ++ (e ∷ []) → w .reading .ending ≡ Ending.Tail → void-steps (w .image) e ≡ ss →
+third : (w : Work) (es : List Entry) (e : Entry) (ss : List Step) → w .reading .entries ≡ es ++ (e ∷ []) → w .reading .ending ≡ Ending.Tail
+    → void-steps (w .image) e ≡ ss →
     repair-3 w ≡ after w ss (w .reading .place .head)
 unfolding repair-3
 third w es e ss i j k =
-    ap₂ (λ (a : List Step) (b : Ending). after w (a ++ torn-wrap-steps b) (w .reading .place .head)) (ap (last-steps (w .image)) i ∙ last-end (w .image) es e ∙ k) j
+    ap₂ (λ (a : List Step) (b : Ending). after w (a ++ torn-wrap-steps b) (w .reading .place .head))
+        (ap (last-steps (w .image)) i ∙ last-end (w .image) es e ∙ k) j
     ∙ ap (λ (a : List Step). after w a (w .reading .place .head)) (append-nil ss)
 
 -- the kind quiet with an unfinished record: mount voids it
 pub mends-void :
-    {l : Ledger} {im : Image} {h S T : ℕ} (B F : ℕ) {t u : Bool} (es : List Entry) (g : Seg) → good-length (length im) ≡ true → Laid im h S t es g (blanks B) (blanks F) →
+    {l : Ledger} {im : Image} {h S T : ℕ} (B F : ℕ) {t u : Bool} (es : List Entry) (g : Seg) → good-length (length im) ≡ true
+        → Laid im h S t es g (blanks B) (blanks F) →
     Tail h S t g (blanks B) (blanks F) T u → Starts es → Ok es l → (g ≡ seg-none → ⊥) → Mends l im
 mends-void B F [] g good d e st ok n = absurd st
 mends-void {l} {im} {h} {S} {T} B F {t} {u} (x ∷ es) g good d e st ok n =
@@ -177,7 +194,8 @@ mends-void {l} {im} {h} {S} {T} B F {t} {u} (x ∷ es) g good d e st ok n =
     let p : Hole im h S t (x ∷ es) g (blanks B) (blanks F) = hole-of d in
     let k : all ≡ (x ∷ es) ++ (v .entry ∷ []) = ap (λ (fs : List Entry). (x ∷ es) ++ fs) (v .entries) in
     let c : Ruled ((x ∷ es) ++ (v .entry ∷ [])) =
-    calm-and x (v .entry) es (calm-of x es l (laid-fine d) (st .1) ok) (subst (Each (λ e. alive e ≡ false)) (v .entries) (seg-dead S g) .0) (subst (Each Unmarked) (v .entries) (seg-plain S g) .0) in
+    calm-and x (v .entry) es (calm-of x es l (laid-fine d) (st .1) ok) (subst (Each (λ e. alive e ≡ false)) (v .entries) (seg-dead S g) .0)
+        (subst (Each Unmarked) (v .entries) (seg-plain S g) .0) in
     mends-3 {r = r} (start-reads B F d e (st .0) (subst Ruled (sym k) c)) (void-rests B F good d e st ok v) (v .some)
     (one-none (begin im r) (is-clean-0 (x .it .low) (st .0)))
     (two-none (begin im r) x (es ++ seg-entries S g) (each-append Unmarked es (seg-entries S g) (st .1) (seg-plain S g)))

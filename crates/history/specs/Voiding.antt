@@ -54,9 +54,11 @@ byte-of pre s S i e = ap (λ (n : ℕ). getD (pre ++ s) (n + i) 0) (sym e) ∙ g
 
 torn-sound : {c : ℕ} (x y z w t : ℕ) (s : List ℕ) → Begun c → Steps-sound (165 ∷ c ∷ 255 ∷ 255 ∷ x ∷ y ∷ z ∷ w ∷ t ∷ s) torn-steps
 torn-sound x y z w t s begun-ff =
-    ((omega arith, refl), ((omega arith, refl), ((omega arith, refl), ((omega arith, refl), ((omega arith, refl), ((omega arith, refl), ((omega arith, refl), tt)))))))
+    ((omega arith, refl), ((omega arith, refl),
+        ((omega arith, refl), ((omega arith, refl), ((omega arith, refl), ((omega arith, refl), ((omega arith, refl), tt)))))))
 torn-sound x y z w t s begun-5a =
-    ((omega arith, refl), ((omega arith, refl), ((omega arith, refl), ((omega arith, refl), ((omega arith, refl), ((omega arith, refl), ((omega arith, refl), tt)))))))
+    ((omega arith, refl), ((omega arith, refl),
+        ((omega arith, refl), ((omega arith, refl), ((omega arith, refl), ((omega arith, refl), ((omega arith, refl), tt)))))))
 
 -- every unfinished record
 pub voids : (g : Seg) (S : ℕ) → (g ≡ seg-none → ⊥) → Voids g S
@@ -89,11 +91,14 @@ voids (seg-cut d n f) S k =
       entries = refl;
       steps = λ pre s e.
           ap (λ (m : List Step). m ++ (program (S + 2) 0 ∷ []))
-          (missing-yes (pre ++ seg-onto (seg-cut d n f) s) (S + (8 + length n)) (byte-of pre (seg-onto (seg-cut d n f) s) S (8 + length n) e ∙ byte-behind d 255 n
+          (missing-yes (pre ++ seg-onto (seg-cut d n f) s) (S + (8 + length n))
+              (byte-of pre (seg-onto (seg-cut d n f) s) S (8 + length n) e ∙ byte-behind d 255 n
           (blanks (pad (length n + 1)) ++ (blanks (up8 d) ++ s)) 254));
       some = some-behind [] _ _;
       big = omega arith;
-      sound = λ s. ((omega (arith, length-append n (255 ∷ (blanks (pad (length n + 1)) ++ (blanks (up8 d) ++ s)))), refl), ((omega (arith, length-set (begun d n s) (8 + length n) 0), refl), tt));
+      sound =
+          λ s. ((omega (arith, length-append n (255 ∷ (blanks (pad (length n + 1)) ++ (blanks (up8 d) ++ s)))), refl),
+              ((omega (arith, length-set (begun d n s) (8 + length n) 0), refl), tt));
     }
 voids (seg-held n c f) S k =
     record {
@@ -107,7 +112,8 @@ voids (seg-held n c f) S k =
       entries = refl;
       steps = λ pre s e.
           ap (λ (m : List Step). m ++ (program (S + 2) 0 ∷ []))
-          (missing-no (pre ++ seg-onto (seg-held n c f) s) (S + (8 + length n)) (byte-of pre (seg-onto (seg-held n c f) s) S (8 + length n) e ∙ byte-behind (length c) 0 n _ 254));
+          (missing-no (pre ++ seg-onto (seg-held n c f) s) (S + (8 + length n))
+              (byte-of pre (seg-onto (seg-held n c f) s) S (8 + length n) e ∙ byte-behind (length c) 0 n _ 254));
       some = some-behind [] _ _;
       big = omega arith;
       sound = λ s. ((omega arith, refl), tt);

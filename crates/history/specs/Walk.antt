@@ -38,7 +38,8 @@ abbrev pub Walked : ℕ → List Rec → Type 0
 Walked at [] = Unit {0}
 Walked at (r ∷ rs) = Walks at (r .low) × Walked (at + rsize r) rs
 
-walk-over : (k at n d : ℕ) (s : List ℕ) → torn-here s ≡ false → walk-next at s ≡ Next.Record n d → walk (suc k) at s ≡ walk k (at + size-of n d) (drop (size-of n d) s)
+walk-over : (k at n d : ℕ) (s : List ℕ) → torn-here s ≡ false → walk-next at s ≡ Next.Record n d
+    → walk (suc k) at s ≡ walk k (at + size-of n d) (drop (size-of n d) s)
 unfolding walk
 walk-over k at n d s e₁ e₂ = rw (walk, e₁, e₂)
 
@@ -90,13 +91,15 @@ over-reserved at s = refl
 -- over a record whose name was not ended
 pub walk-begun : (k at d : ℕ) (n s : List ℕ) → Fit d n → walk (suc k) at (begun d n s) ≡ walk k (at + size-of (length n) d) s
 walk-begun k at d n s f =
-    walk-over k at (length n) d (begun d n s) (reserved-not-torn (drop 3 (begun d n s))) (over-reserved at (drop 3 (begun d n s)) ∙ record-at-begun d n s f)
+    walk-over k at (length n) d (begun d n s) (reserved-not-torn (drop 3 (begun d n s)))
+        (over-reserved at (drop 3 (begun d n s)) ∙ record-at-begun d n s f)
     ∙ ap (walk k (at + size-of (length n) d)) (drop-begun d n s)
 
 -- over a record that was not committed
 pub walk-held : (k at : ℕ) (n c s : List ℕ) → Fit (length c) n → walk (suc k) at (onto (held n c) s) ≡ walk k (at + size-of (length n) (length c)) s
 walk-held k at n c s f =
-    walk-over k at (length n) (length c) (onto (held n c) s) (reserved-not-torn (drop 3 (onto (held n c) s))) (over-reserved at (drop 3 (onto (held n c) s)) ∙ record-at-onto true (held n c) s f)
+    walk-over k at (length n) (length c) (onto (held n c) s) (reserved-not-torn (drop 3 (onto (held n c) s)))
+        (over-reserved at (drop 3 (onto (held n c) s)) ∙ record-at-onto true (held n c) s f)
     ∙ ap (walk k (at + size-of (length n) (length c))) (drop-onto (held n c) s)
 
 -- where the walk ends, by further on, with g
@@ -163,16 +166,25 @@ CLEAN-torn : (st : ℕ) → (is-erased st && is-record 160 && is-high-begun 90) 
 unfolding is-record
 CLEAN-torn st = rw (and-false (is-erased st))
 
-CLEAN-walk : (at st : ℕ) → (at ≡ 0 → ⊥) → (not (is-erased st) && ((is-record 160 && is-high 90) || (eqb at 0 && (is-clean 160 && is-high 90)))) ≡ false
+CLEAN-walk : (at st : ℕ) → (at ≡ 0 → ⊥)
+    → (not (is-erased st) && ((is-record 160 && is-high 90) || (eqb at 0 && (is-clean 160 && is-high 90)))) ≡ false
 unfolding is-record
 CLEAN-walk at st h = rw (ne-eqb at 0 h) (and-false (not (is-erased st)))
 
 -- the head itself stands where the records end
 pub lands-head : {b : ℕ} (at : ℕ) (t : List ℕ) → Head-low b → (at ≡ 0 → ⊥) → Lands₁ at 0 (b ∷ 90 ∷ t) (b ∷ 90 ∷ t)
 lands-head at t is-START h =
-    record { lands = λ k. walk-halt k at (0 ∷ 90 ∷ t) (START-torn (getD t 0 0)) (bad-next at (0 ∷ 90 ∷ t) (START-walk at (getD t 0 0))) ∙ sym (add-zero at); there = refl }
+    record {
+      lands = λ k. walk-halt k at (0 ∷ 90 ∷ t) (START-torn (getD t 0 0)) (bad-next at (0 ∷ 90 ∷ t) (START-walk at (getD t 0 0))) ∙ sym (add-zero at);
+      there = refl;
+    }
 lands-head at t is-CLEAN h =
-    record { lands = λ k. walk-halt k at (160 ∷ 90 ∷ t) (CLEAN-torn (getD t 0 0)) (bad-next at (160 ∷ 90 ∷ t) (CLEAN-walk at (getD t 0 0) h)) ∙ sym (add-zero at); there = refl }
+    record {
+      lands =
+          λ k. walk-halt k at (160 ∷ 90 ∷ t) (CLEAN-torn (getD t 0 0)) (bad-next at (160 ∷ 90 ∷ t) (CLEAN-walk at (getD t 0 0) h))
+              ∙ sym (add-zero at);
+      there = refl;
+    }
 
 -- ---- the search
 
@@ -216,13 +228,16 @@ search-through (suc j) k at g s e q =
     )
 
 -- the search stops at the first START or CLEAN
-pub search-found : {b : ℕ} (j k at : ℕ) (g t : List ℕ) → length g ≡ 8 * j → Quiet j g → Head-low b → j < k → search k at (g ++ (b ∷ 90 ∷ t)) ≡ at + 8 * j
+pub search-found : {b : ℕ} (j k at : ℕ) (g t : List ℕ) → length g ≡ 8 * j → Quiet j g → Head-low b → j < k
+    → search k at (g ++ (b ∷ 90 ∷ t)) ≡ at + 8 * j
 search-found {b} j k at g t e q h l =
     let i : k ≡ j + suc (k - suc j) = omega arith in
-    ap (λ (m : ℕ). search m at (g ++ (b ∷ 90 ∷ t))) i ∙ search-through j (suc (k - suc j)) at g (b ∷ 90 ∷ t) e q ∙ search-hit (k - suc j) (at + 8 * j) (b ∷ 90 ∷ t) (head-low-hit t h)
+    ap (λ (m : ℕ). search m at (g ++ (b ∷ 90 ∷ t))) i ∙ search-through j (suc (k - suc j)) at g (b ∷ 90 ∷ t) e q
+        ∙ search-hit (k - suc j) (at + 8 * j) (b ∷ 90 ∷ t) (head-low-hit t h)
 
 -- the search finds nothing
 pub search-none : (j k at : ℕ) (g : List ℕ) → length g ≡ 8 * j → Quiet j g → j < k → search k at g ≡ at + 8 * j
 search-none j k at g e q l =
     let i : k ≡ j + suc (k - suc j) = omega arith in
-    ap₂ (λ (m : ℕ) (s : List ℕ). search m at s) i (sym (append-nil g)) ∙ search-through j (suc (k - suc j)) at g [] e q ∙ search-over (k - suc j) (at + 8 * j)
+    ap₂ (λ (m : ℕ) (s : List ℕ). search m at s) i (sym (append-nil g)) ∙ search-through j (suc (k - suc j)) at g [] e q
+        ∙ search-over (k - suc j) (at + 8 * j)

@@ -35,7 +35,8 @@ pub is-clean-A0 : (b : ℕ) → b ≡ 160 → is-clean b ≡ true
 unfolding is-clean
 is-clean-A0 b e = rw e
 
-module _ {im : List ℕ} {a l : ℕ} {gap lost : List ℕ} {h : ℕ} {x : Rec} {ys : List Rec} {seg : Seg} {free : List ℕ} (s : Straight im a l gap lost h (x ∷ ys) seg free) where
+module _ {im : List ℕ} {a l : ℕ} {gap lost : List ℕ} {h : ℕ} {x : Rec} {ys : List Rec} {seg : Seg} {free : List ℕ}
+    (s : Straight im a l gap lost h (x ∷ ys) seg free) where
   abbrev T : ℕ
   T = h + sizes (x ∷ ys) + seg-size seg
 
@@ -63,17 +64,21 @@ module _ {im : List ℕ} {a l : ℕ} {gap lost : List ℕ} {h : ℕ} {x : Rec} {
   pub free-part : part T (length im) im ≡ free
   free-part =
       let e : part (h + sizes (x ∷ ys)) (length im) im ≡ seg-onto seg free =
-      ap (λ (l : List ℕ). drop (h + sizes (x ∷ ys)) (take (length im) l)) (s .is) ∙ part-rest [] (x ∷ ys) gap lost (seg-onto seg free) h below here (length im) (ap length (s .is)) in
+      ap (λ (l : List ℕ). drop (h + sizes (x ∷ ys)) (take (length im) l)) (s .is)
+          ∙ part-rest [] (x ∷ ys) gap lost (seg-onto seg free) h below here (length im) (ap length (s .is)) in
       sym (drop-drop (seg-size seg) (h + sizes (x ∷ ys)) (take (length im) im)) ∙ ap (drop (seg-size seg)) e ∙ drop-seg seg free
 
   gap-blank : gap ≡ blanks (4096 * a) → blank (part 0 (floor h) im) ≡ true
   gap-blank g = ap blank (gap-part ∙ g) ∙ blank-blanks (4096 * a)
 
 -- a torn wrap at T
-pub torn-wrap-whole : (k : ℕ) {im : List ℕ} {a l : ℕ} {gap lost : List ℕ} {h c : ℕ} {x : Rec} {ys : List Rec} (s : Straight im a l gap lost h (x ∷ ys) seg-none (torn-wrap c k)) → Begun c → 1 ≤ a →
-    gap ≡ blanks (4096 * a) → x .low ≡ 0 → Ruled (entries-of h (x ∷ ys)) → reading im ≡ give (read (length im) h 0 true (entries-of h (x ∷ ys)) (Ending.TornWrap (h + sizes (x ∷ ys))))
+pub torn-wrap-whole : (k : ℕ) {im : List ℕ} {a l : ℕ} {gap lost : List ℕ} {h c : ℕ} {x : Rec} {ys : List Rec}
+    (s : Straight im a l gap lost h (x ∷ ys) seg-none (torn-wrap c k)) → Begun c → 1 ≤ a →
+    gap ≡ blanks (4096 * a) → x .low ≡ 0 → Ruled (entries-of h (x ∷ ys))
+        → reading im ≡ give (read (length im) h 0 true (entries-of h (x ∷ ys)) (Ending.TornWrap (h + sizes (x ∷ ys))))
 torn-wrap-whole k {im} {a} {l} {gap} {lost} {h} {c} {x} {ys} s b z g e r =
-    reading-by im h (read (length im) h 0 true (entries-of h (x ∷ ys)) (Ending.TornWrap (h + sizes (x ∷ ys)))) (started s e) (torn-reading k s b z) refl r
+    reading-by im h (read (length im) h 0 true (entries-of h (x ∷ ys)) (Ending.TornWrap (h + sizes (x ∷ ys)))) (started s e) (torn-reading k s b z)
+        refl r
     (free-turned im (length im) h 0 (entries-of h (x ∷ ys)) (Ending.TornWrap (h + sizes (x ∷ ys))) (is-clean-0 (x .low) e) (gap-blank s g))
 
 module _ {im : List ℕ} {a l : ℕ} {lost : List ℕ} {h : ℕ} {low : List Rec} {seg : Seg} {f : ℕ} {free : List ℕ} {x : Rec} {ys : List Rec} {end : End}

@@ -29,12 +29,14 @@ numbered-is (Written.Done i) n k p q = ap₂ numbered p q
 numbered-is (Written.Cut i) n k p q = ap₂ numbered p q
 numbered-is (Written.Refused i) n k p q = ap₂ numbered p q
 
-pub numbered-as : (w : Written) (n k : ℕ) (t : Image) (o : Outcome) → n ≡ written w .answer → k ≡ written w .steps → outcome (written w) t ≡ o → outcome (numbered n k) t ≡ o
+pub numbered-as : (w : Written) (n k : ℕ) (t : Image) (o : Outcome) → n ≡ written w .answer → k ≡ written w .steps → outcome (written w) t ≡ o
+    → outcome (numbered n k) t ≡ o
 numbered-as w n k t o p q e = ap (λ (x : Numbers). outcome x t) (numbered-is w n k p q) ∙ e
 
 -- ---- a plan with no moves, carried out
 
-spent-is : (r : Meter) (t : Bool) → leb (r .asked) (r .allowance) ≡ t → spent r ≡ elim t [ true ↦ Written.Done (r .asked) | false ↦ Written.Cut (r .allowance) ]
+spent-is : (r : Meter) (t : Bool) → leb (r .asked) (r .allowance) ≡ t
+    → spent r ≡ elim t [ true ↦ Written.Done (r .asked) | false ↦ Written.Cut (r .allowance) ]
 spent-is r t e = ap (λ (b : Bool). elim b [ true ↦ Written.Done (r .asked) | false ↦ Written.Cut (r .allowance) ]) e
 
 pub spent-done : (r : Meter) → r .asked ≤ r .allowance → Written.Done (r .asked) ≡ spent r
@@ -43,12 +45,14 @@ spent-done r h = sym (spent-is r true (le-leb (r .asked) (r .allowance) h))
 pub spent-cut : (r : Meter) → r .allowance < r .asked → Written.Cut (r .allowance) ≡ spent r
 spent-cut r h = sym (spent-is r false (lt-leb (r .asked) (r .allowance) h))
 
-answer-is : (ss : List Step) (k : ℕ) (r : Meter) (t : Bool) → r .asked ≡ length ss → r .allowance ≡ k → leb (length ss) k ≡ t → written (spent r) ≡ numbers-of k (doing ss 0 0 0)
+answer-is : (ss : List Step) (k : ℕ) (r : Meter) (t : Bool) → r .asked ≡ length ss → r .allowance ≡ k → leb (length ss) k ≡ t
+    → written (spent r) ≡ numbers-of k (doing ss 0 0 0)
 unfolding numbers-of
 answer-is ss k r true a b e = ap written (spent-is r true (ap₂ leb a b ∙ e)) ∙ rw (numbers-of, e) (ap (numbered 0) a)
 answer-is ss k r false a b e = ap written (spent-is r false (ap₂ leb a b ∙ e)) ∙ rw (numbers-of, e) (ap (numbered 4) b)
 
-pub carried : {s t : Image} {m r : Meter} {ss : List Step} (k : ℕ) → m .asked ≡ 0 → m .allowance ≡ k → Did s m ss t r → outcome (written (spent r)) t ≡ carry-out s k (give (doing ss 0 0 0))
+pub carried : {s t : Image} {m r : Meter} {ss : List Step} (k : ℕ) → m .asked ≡ 0 → m .allowance ≡ k → Did s m ss t r
+    → outcome (written (spent r)) t ≡ carry-out s k (give (doing ss 0 0 0))
 unfolding carry-out
 carried {s} {t} {m} {r} {ss} k z a d =
     let n : m .allowance - m .asked ≡ k = omega arith in
@@ -61,9 +65,11 @@ unfolding carry-out
 refused s k n = refl
 
 -- the reading's refusal stands, whatever the call is
-pub read-refused : (s : Image) (k n : ℕ) (f : Reading → Answer Plan) → refuse n ≡ settled-reading s → outcome (refusal n) s ≡ carry-out s k (onward (settled-reading s) f)
+pub read-refused : (s : Image) (k n : ℕ) (f : Reading → Answer Plan) → refuse n ≡ settled-reading s
+    → outcome (refusal n) s ≡ carry-out s k (onward (settled-reading s) f)
 read-refused s k n f e = refused s k n ∙ ap (λ (a : Answer Reading). carry-out s k (onward a f)) e
 
 -- what was read goes on to the call
-pub read-on : (s : Image) (k : ℕ) (r : Reading) (f : Reading → Answer Plan) → give r ≡ settled-reading s → carry-out s k (f r) ≡ carry-out s k (onward (settled-reading s) f)
+pub read-on : (s : Image) (k : ℕ) (r : Reading) (f : Reading → Answer Plan) → give r ≡ settled-reading s
+    → carry-out s k (f r) ≡ carry-out s k (onward (settled-reading s) f)
 read-on s k r f e = ap (λ (a : Answer Reading). carry-out s k (onward a f)) e

@@ -108,7 +108,8 @@ chain-ends : (k : ℕ) (held : Bool) (at : ℕ) (s : List ℕ) → Ended (chain 
 unfolding chain
 chain-ends zero held at s = tt
 chain-ends (suc k) held at s = go (allowed held (next s)) refl (allowed-spans held (next s) (length s) (next-spans s)) (chain-ends k) where
-  go : (x : Next) → allowed held (next s) ≡ x → Spans x (length s) → ((h : Bool) (a : ℕ) (r : List ℕ) → Ended (chain k h a r) (a + length r)) → Ended (chain (suc k) held at s) (at + length s)
+  go : (x : Next) → allowed held (next s) ≡ x → Spans x (length s) → ((h : Bool) (a : ℕ) (r : List ℕ) → Ended (chain k h a r) (a + length r))
+      → Ended (chain (suc k) held at s) (at + length s)
   go (Next.Record n d) e f ih =
       let q : at + size-of n d + length (drop (size-of n d) s) ≡ at + length s = rw length-drop (omega arith) in
       rw (e, chain) (rw q at (ih (is-unfinished (status-of s)) (at + size-of n d) (drop (size-of n d) s)))

@@ -57,18 +57,21 @@ unfolding carry-out numbers-of
 listing-is image e = refl
 
 -- the part that the code lends is the outcome's
-pub part-is : (image : Image) (n : Numbers) (o : Outcome) → outcome n image ≡ o → take (n .first + n .second - n .first) (drop (n .first) image) ≡ part-of image (o .numbers)
+pub part-is : (image : Image) (n : Numbers) (o : Outcome) → outcome n image ≡ o
+    → take (n .first + n .second - n .first) (drop (n .first) image) ≡ part-of image (o .numbers)
 part-is image n o e =
     let q : n .first + n .second - n .first ≡ n .second = omega arith in
     rw q (ap (λ (x : Outcome). part-of image (x .numbers)) e)
 
 -- what was found is the definitions' file
 module _ (image : List ℕ) (s : Survey) (quiet : Quiet image (Read.Good s)) (f : Found) where
-  pub named-file : (name : List ℕ) → found-in image f ≡ first-such (has-name name) (keep is-file (reading-of image s .entries)) → found-in image f ≡ file-named name (reading-of image s .entries)
+  pub named-file : (name : List ℕ) → found-in image f ≡ first-such (has-name name) (keep is-file (reading-of image s .entries))
+      → found-in image f ≡ file-named name (reading-of image s .entries)
   unfolding file-named
   named-file name q = q ∙ ap (first-such (has-name name)) (sym (files-are (reading-of image s .entries) quiet))
 
-  pub indexed-file : (i : ℕ) → found-in image f ≡ getElem? (keep is-file (reading-of image s .entries)) i → found-in image f ≡ file-indexed i (reading-of image s .entries)
+  pub indexed-file : (i : ℕ) → found-in image f ≡ getElem? (keep is-file (reading-of image s .entries)) i
+      → found-in image f ≡ file-indexed i (reading-of image s .entries)
   indexed-file i q = q ∙ ap (λ (l : List Entry). getElem? l i) (sym (files-are (reading-of image s .entries) quiet))
 
 -- ---- get
@@ -79,14 +82,26 @@ module _ (image : List ℕ) (o : Option Entry) where
   found-none g q = ap (λ (x : Option Entry). carry-out image 0 (found g x)) q
 
   module _ (e : Spot) (w : Whole image e) (q : some (entry-of image e) ≡ o) where
-    pub found-get : (a : ℕ) → a ≡ e .at + (8 + up8 (e .n + 1)) → outcome (record { answer = 0; first = a; second = e .d; third = 0; steps = 0 }) image ≡ carry-out image 0 (found getting o)
+    pub found-get : (a : ℕ) → a ≡ e .at + (8 + up8 (e .n + 1)) → outcome (record {
+      answer = 0;
+      first = a;
+      second = e .d;
+      third = 0;
+      steps = 0;
+    }) image ≡ carry-out image 0 (found getting o)
     found-get a p =
         ap₂ (λ (x y : ℕ). outcome (record { answer = 0; first = x; second = y; third = 0; steps = 0 }) image)
         (p ∙ ap (λ (n : ℕ). e .at + (8 + up8 (n + 1))) (sym (name-length-is image e w))) (sym (content-length-is image e w))
         ∙ getting-is image (entry-of image e)
         ∙ ap (λ (x : Option Entry). carry-out image 0 (found getting x)) q
 
-    pub found-listed : outcome (record { answer = 0; first = e .at + 8; second = e .n; third = e .d; steps = 0 }) image ≡ carry-out image 0 (found listing o)
+    pub found-listed : outcome (record {
+      answer = 0;
+      first = e .at + 8;
+      second = e .n;
+      third = e .d;
+      steps = 0;
+    }) image ≡ carry-out image 0 (found listing o)
     found-listed =
         ap₂ (λ (x y : ℕ). outcome (record { answer = 0; first = e .at + 8; second = x; third = y; steps = 0 }) image)
         (sym (name-length-is image e w)) (sym (content-length-is image e w))
@@ -104,7 +119,8 @@ module _ (image : List ℕ) (name : List ℕ) where
   unfolding get-plan file-plan carry-out
   get-name h g = rw (get-plan, file-plan, h, g, carry-out)
 
-  pub get-on : good-length (length image) ≡ true → name-ok name ≡ true → carry-out image 0 (onward (settled-reading image) (file-of name getting)) ≡ get image name
+  pub get-on : good-length (length image) ≡ true → name-ok name ≡ true
+      → carry-out image 0 (onward (settled-reading image) (file-of name getting)) ≡ get image name
   unfolding get-plan file-plan
   get-on h g = rw (get-plan, file-plan, h, g)
 

@@ -33,7 +33,8 @@ mounted (Mounted.Cut k) = given 4 0 0 0 k
 mounted (Mounted.Refused n) = refusal n
 
 -- five numbers that say what an answer says
-pub mounted-as : (w : Mounted) (a h t n k : ℕ) (i : Image) (o : Outcome) → a ≡ mounted w .answer → h ≡ mounted w .first → t ≡ mounted w .second → n ≡ mounted w .third → k ≡ mounted w .steps →
+pub mounted-as : (w : Mounted) (a h t n k : ℕ) (i : Image) (o : Outcome) → a ≡ mounted w .answer → h ≡ mounted w .first → t ≡ mounted w .second
+    → n ≡ mounted w .third → k ≡ mounted w .steps →
     outcome (mounted w) i ≡ o → outcome (given a h t n k) i ≡ o
 mounted-as (Mounted.Done x y z v) a h t n k i o p q r s u e = (λ j. outcome (given (p j) (q j) (r j) (s j) (u j)) i) ∙ e
 mounted-as (Mounted.Cut x) a h t n k i o p q r s u e = (λ j. outcome (given (p j) (q j) (r j) (s j) (u j)) i) ∙ e
@@ -62,7 +63,8 @@ plan-cut : (image : Image) (k : ℕ) (w : Work) → k < length (w .steps) → nu
 unfolding numbers-of
 plan-cut image k w h = rw (numbers-of, lt-leb (length (w .steps)) k h)
 
-carried : (image t : Image) (k : ℕ) (p : Plan) (n : Numbers) → numbers-of k p ≡ n → t ≡ run image (take k (p .steps)) → outcome n t ≡ carry-out image k (give p)
+carried : (image t : Image) (k : ℕ) (p : Plan) (n : Numbers) → numbers-of k p ≡ n → t ≡ run image (take k (p .steps))
+    → outcome n t ≡ carry-out image k (give p)
 unfolding carry-out
 carried image t k p n e b = ap₂ (λ (m : Numbers) (i : Image). record { numbers = m; image = i }) (sym e) b
 
@@ -77,7 +79,8 @@ module _ (image t : Image) (k : ℕ) (s : Survey) (l : Legal image s) (r : Mende
   bytes-are : t ≡ run image (take k (mended image (reading-of image s) .steps))
   bytes-are = c .bytes ∙ ap₂ (λ (n : ℕ) (w : Work). run image (take n (w .steps))) (sub-zero k) work-is
 
-  pub mount-cut : r .meter .allowance < r .meter .asked → outcome (mounted (Mounted.Cut (r .meter .allowance))) t ≡ carry-out image k (mount-of image (reading-of image s))
+  pub mount-cut : r .meter .allowance < r .meter .asked
+      → outcome (mounted (Mounted.Cut (r .meter .allowance))) t ≡ carry-out image k (mount-of image (reading-of image s))
   mount-cut h =
       let short : k < length (mended image (reading-of image s) .steps) = omega (arith, c .cut h, ap (λ (w : Work). length (w .steps)) work-is) in
       carried image t k (mount-work (mended image (reading-of image s))) (given 4 0 0 0 (r .meter .allowance))
@@ -88,19 +91,22 @@ module _ (image t : Image) (k : ℕ) (s : Survey) (l : Legal image s) (r : Mende
   mount-done h = go (mended image (reading-from image (s .place .head))) (c .done h) work-is
     where
       go : (w : Work) → Numbered w (record { allowance = k; asked = 0 }) r → w ≡ mended image (reading-of image s) →
-          outcome (mounted (Mounted.Done (r .head) (r .tail) (r .files) (r .meter .asked))) t ≡ carry-out image k (mount-of image (reading-of image s))
+          outcome (mounted (Mounted.Done (r .head) (r .tail) (r .files) (r .meter .asked))) t ≡ carry-out image k
+              (mount-of image (reading-of image s))
       go w n e =
           let count : r .meter .asked ≡ length (w .steps) = omega (arith, n .count) in
           let steps : length (w .steps) ≡ length (mended image (reading-of image s) .steps) = ap (λ (x : Work). length (x .steps)) e in
           carried image t k (mount-work (mended image (reading-of image s))) (given 0 (r .head) (r .tail) (r .files) (r .meter .asked))
           (plan-done image k (mount-work (mended image (reading-of image s))) (omega (arith, count, steps, c .same, h))
-          ∙ sym (λ i. given 0 ((n .head ∙ ap (λ (x : Work). x .reading .place .head) e) i) ((n .tail ∙ ap (λ (x : Work). x .reading .place .tail) e) i)
+          ∙ sym (λ i. given 0 ((n .head ∙ ap (λ (x : Work). x .reading .place .head) e) i)
+              ((n .tail ∙ ap (λ (x : Work). x .reading .place .tail) e) i)
           ((n .files ∙ ap (λ (x : Work). length (files (x .reading .entries))) e) i) ((count ∙ steps) i)))
           bytes-are
 
 -- ---- the refusals
 
-pub mount-refused : (image : Image) (k n : ℕ) → refuse n ≡ reading image → outcome (refusal n) image ≡ carry-out image k (onward (reading image) (mount-of image))
+pub mount-refused : (image : Image) (k n : ℕ) → refuse n ≡ reading image
+    → outcome (refusal n) image ≡ carry-out image k (onward (reading image) (mount-of image))
 unfolding carry-out
 mount-refused image k n e = ap (λ (a : Answer Reading). carry-out image k (onward a (mount-of image))) e
 
@@ -112,6 +118,7 @@ pub mount-length : (image : Image) (k : ℕ) → good-length (length image) ≡ 
 unfolding mount-plan carry-out
 mount-length image k h = rw (mount-plan, h, carry-out)
 
-pub mount-on : (image : Image) (k : ℕ) → good-length (length image) ≡ true → carry-out image k (onward (reading image) (mount-of image)) ≡ mount image k
+pub mount-on : (image : Image) (k : ℕ) → good-length (length image) ≡ true
+    → carry-out image k (onward (reading image) (mount-of image)) ≡ mount image k
 unfolding mount-plan
 mount-on image k h = rw (mount-plan, h)

@@ -36,7 +36,8 @@ use Rattle.lilota.specs.Settled.{Settled}
 -- ---- the room
 
 -- the largest of the others, and then the new one
-pub largest-is : (name : List ℕ) (s : ℕ) (es : List Entry) → any (superseded es) es ≡ false → max s (largest 0 (others name es)) ≡ largest-with name s es
+pub largest-is : (name : List ℕ) (s : ℕ) (es : List Entry) → any (superseded es) es ≡ false
+    → max s (largest 0 (others name es)) ≡ largest-with name s es
 unfolding largest-with
 largest-is name s es q =
     sym (largest-max s (others name es)) ∙ ap (λ (l : List Entry). largest s (keep (other-name name) l)) (sym (files-are es q))
@@ -54,17 +55,20 @@ room-fits p s l h = go (fits p s) refl h where
 pub old-is : (image : Image) (e : Spot) (o : Option Entry) → found-in image (Found.At e) ≡ o → old-as.At (e .at) (getD image (e .at + 2) 0) ≡ old-of o
 old-is image e o q = ap (old-as.At (e .at)) (sym (getD-drop (e .at) image 2 0)) ∙ ap old-of q
 
-pub old-named : (image : Image) (s : Survey) (p : Place) (old : Old) (name content : List ℕ) → Settled image s → old ≡ old-of (first-such (has-name name) (keep is-file (reading-of image s .entries)))
+pub old-named : (image : Image) (s : Survey) (p : Place) (old : Old) (name content : List ℕ) → Settled image s
+    → old ≡ old-of (first-such (has-name name) (keep is-file (reading-of image s .entries)))
     → put-steps p (entry-of-old old) name content ≡ put-steps p (file-named name (reading-of image s .entries)) name content
 unfolding file-named
 old-named image s p old name content w e =
     let es = reading-of image s .entries in
-    ap (λ (o : Old). put-steps p (entry-of-old o) name content) (e ∙ ap (λ (l : List Entry). old-of (first-such (has-name name) l)) (sym (files-are es (w .quiet))))
+    ap (λ (o : Old). put-steps p (entry-of-old o) name content)
+        (e ∙ ap (λ (l : List Entry). old-of (first-such (has-name name) l)) (sym (files-are es (w .quiet))))
     ∙ put-old p (file-named name es) name content
 
 -- ---- the steps
 
-pub ready : (image : Image) (s : Survey) (n d asked : ℕ) → Settled image s → n ≤ 63 → fits (s .place) (size-of n d) ≡ true → asked ≡ 0 → Ready (s .place) (length image) n d asked
+pub ready : (image : Image) (s : Survey) (n d asked : ℕ) → Settled image s → n ≤ 63 → fits (s .place) (size-of n d) ≡ true → asked ≡ 0
+    → Ready (s .place) (length image) n d asked
 ready image s n d asked w l f z =
     record {
       sound = w .sound;
@@ -86,11 +90,15 @@ module _ (image : Image) (k : ℕ) (name content : List ℕ) where
   unfolding put-plan carry-out
   put-name h g = rw (put-plan, h, g, carry-out)
 
-  pub put-on : good-length (length image) ≡ true → name-ok name ≡ true → carry-out image k (onward (settled-reading image) (put-into name content)) ≡ put image name content k
+  pub put-on : good-length (length image) ≡ true → name-ok name ≡ true
+      → carry-out image k (onward (settled-reading image) (put-into name content)) ≡ put image name content k
   unfolding put-plan
   put-on h g = rw (put-plan, h, g)
 
-  pub put-room : (r : Reading) (t : Bool) → t ≡ room (r .place) (size-of (length name) (length content)) (largest-with name (size-of (length name) (length content)) (r .entries))
-      → carry-out image k (checked t 28 (give (doing (put-steps (r .place) (file-named name (r .entries)) name content) 0 0 0))) ≡ carry-out image k (put-into name content r)
+  pub put-room : (r : Reading) (t : Bool)
+      → t ≡ room (r .place) (size-of (length name) (length content)) (largest-with name (size-of (length name) (length content)) (r .entries))
+      → carry-out image k (checked t 28 (give (doing (put-steps (r .place) (file-named name (r .entries)) name content) 0 0 0))) ≡ carry-out image k
+          (put-into name content r)
   unfolding put-into
-  put-room r t e = ap (λ (b : Bool). carry-out image k (checked b 28 (give (doing (put-steps (r .place) (file-named name (r .entries)) name content) 0 0 0)))) e
+  put-room r t e =
+      ap (λ (b : Bool). carry-out image k (checked b 28 (give (doing (put-steps (r .place) (file-named name (r .entries)) name content) 0 0 0)))) e

@@ -23,7 +23,8 @@ use Rattle.lilota.specs.Settled.{Settled}
 -- what is done with the file that was found
 module _ (image : Image) (k : ℕ) (s : Survey) (name : List ℕ) (w : Settled image s) (f : Found)
     (q : found-in image f ≡ first-such (has-name name) (keep is-file (reading-of image s .entries))) where
-  pub found-file : (o : Option Entry) → found-in image f ≡ o → carry-out image k (found removing o) ≡ carry-out image k (file-of name removing (reading-of image s))
+  pub found-file : (o : Option Entry) → found-in image f ≡ o
+      → carry-out image k (found removing o) ≡ carry-out image k (file-of name removing (reading-of image s))
   found-file o e = ap (λ (x : Option Entry). carry-out image k (found removing x)) (sym e ∙ named-file image s (w .quiet) f name q)
 
 module _ (image : Image) (k : ℕ) (name : List ℕ) where
@@ -35,6 +36,7 @@ module _ (image : Image) (k : ℕ) (name : List ℕ) where
   unfolding remove-plan file-plan carry-out
   remove-name h g = rw (remove-plan, file-plan, h, g, carry-out)
 
-  pub remove-on : good-length (length image) ≡ true → name-ok name ≡ true → carry-out image k (onward (settled-reading image) (file-of name removing)) ≡ remove image name k
+  pub remove-on : good-length (length image) ≡ true → name-ok name ≡ true
+      → carry-out image k (onward (settled-reading image) (file-of name removing)) ≡ remove image name k
   unfolding remove-plan file-plan
   remove-on h g = rw (remove-plan, file-plan, h, g)

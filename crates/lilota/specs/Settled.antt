@@ -100,7 +100,8 @@ module _ (image : Image) (r : Reading) (n : 0 < length image) where
       let p = passed (settled image (g .value)) 16 (g .value) r (g .on) in
       read-place (g .from ∙ ap give (p .1))
 
-pub settled-of : (image : Image) (s : Survey) → good-length (length image) ≡ true → give (reading-of image s) ≡ settled-reading image → Surveyed image s
+pub settled-of : (image : Image) (s : Survey) → good-length (length image) ≡ true → give (reading-of image s) ≡ settled-reading image
+    → Surveyed image s
     → any (superseded (reading-of image s .entries)) (reading-of image s .entries) ≡ false → Settled image s
 settled-of image s g e v q =
     let n = good (length image) g in

@@ -32,7 +32,8 @@ swept-numbers (Swept.Refused n) = refusal n
 abbrev pub moved-numbers : ℕ → ℕ → ℕ → Numbers
 moved-numbers n moves steps = record { answer = n; first = moves; second = 0; third = 0; steps = steps }
 
-pub moved-as : (w : Swept) (n i k : ℕ) (t : Image) (o : Outcome) → n ≡ swept-numbers w .answer → i ≡ swept-numbers w .first → k ≡ swept-numbers w .steps
+pub moved-as : (w : Swept) (n i k : ℕ) (t : Image) (o : Outcome) → n ≡ swept-numbers w .answer → i ≡ swept-numbers w .first
+    → k ≡ swept-numbers w .steps
     → outcome (swept-numbers w) t ≡ o → outcome (moved-numbers n i k) t ≡ o
 moved-as (Swept.Done a b) n i k t o p q r e = rw (p, q, r) e
 moved-as (Swept.Cut a b) n i k t o p q r e = rw (p, q, r) e
@@ -44,7 +45,8 @@ pub record Readied (image : Image) (s : Survey) : Type 0 where
   pub same : reading-of image s ≡ reading-from image (s .place .head)
   pub count : s .tally .records ≡ length (reading-of image s .entries)
 
-pub readied : (image : Image) (s : Survey) → good-length (length image) ≡ true → give (reading-of image s) ≡ settled-reading image → Surveyed image s → Readied image s
+pub readied : (image : Image) (s : Survey) → good-length (length image) ≡ true → give (reading-of image s) ≡ settled-reading image → Surveyed image s
+    → Readied image s
 readied image s n e v =
     let h = settled-headed image (reading-of image s) n e in
     record { headed = h .0; same = h .1; count = count-is (v .tallied) }
@@ -86,8 +88,10 @@ module _ (image : Image) (k : ℕ) where
   sweep-on h = rw (sweep-plan, h)
 
   -- 28, or the moves
-  pub sweep-room : (s : Survey) (t : Bool) → Readied image s → t ≡ no-room (reading-from image (s .place .head)) (reading-from image (s .place .head) .entries)
-      → carry-out image k (checked (not t) 28 (give (sweeping (moves (min 5 (s .tally .records)) image (reading-from image (s .place .head)))))) ≡ carry-out image k (sweep-of image (reading-of image s))
+  pub sweep-room : (s : Survey) (t : Bool) → Readied image s
+      → t ≡ no-room (reading-from image (s .place .head)) (reading-from image (s .place .head) .entries)
+      → carry-out image k (checked (not t) 28 (give (sweeping (moves (min 5 (s .tally .records)) image (reading-from image (s .place .head)))))) ≡
+          carry-out image k (sweep-of image (reading-of image s))
   unfolding sweep-of
   sweep-room s t w e =
       let r : Reading = reading-from image (s .place .head) in

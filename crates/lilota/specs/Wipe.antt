@@ -56,7 +56,8 @@ map-append [] b = refl
 map-append (x ∷ a) b = ap (λ (l : List Step). erase x ∷ l) (map-append a b)
 
 module _ {s t : Image} {m q : Meter} {at : ℕ} (w : Erasing s m at t q) where
-  pub erasing-step : {u : Image} {r : Meter} → length s % 4096 ≡ 0 → at < length s → length u ≡ length t → Did t q (erase at ∷ []) u r → Erasing s m (at + 4096) u r
+  pub erasing-step : {u : Image} {r : Meter} → length s % 4096 ≡ 0 → at < length s → length u ≡ length t → Did t q (erase at ∷ []) u r
+      → Erasing s m (at + 4096) u r
   erasing-step {u} {r} n l k d = go (w .fuel) (w .enough) (w .split) where
     go : (f : ℕ) → length s ≤ at + f → sectors 0 (length s) ≡ w .done ++ sectors-by f at (length s) → Erasing s m (at + 4096) u r
     go zero e p = absurd (omega arith)
@@ -68,7 +69,9 @@ module _ {s t : Image} {m q : Meter} {at : ℕ} (w : Erasing s m at t q) where
           enough = omega arith;
           inside = i;
           whole = omega (arith, w .whole);
-          split = p ∙ ap (λ (l : List ℕ). w .done ++ l) (sectors-step f at (length s) i) ∙ sym (append-assoc (w .done) (at ∷ []) (sectors-by f (at + 4096) (length s)));
+          split =
+              p ∙ ap (λ (l : List ℕ). w .done ++ l) (sectors-step f at (length s) i)
+                  ∙ sym (append-assoc (w .done) (at ∷ []) (sectors-by f (at + 4096) (length s)));
           did = rw (map-append (w .done) (at ∷ [])) (did-both (w .did) d);
           few = omega (arith, length-append (w .done) (at ∷ []), w .few);
           same = k ∙ w .same;
@@ -89,7 +92,8 @@ pub format-bad : (s : Image) (k : ℕ) → good-length (length s) ≡ false → 
 unfolding format-plan carry-out
 format-bad s k h = rw (format-plan, h, carry-out)
 
-module _ (s t : Image) (k : ℕ) (r : Meter) (m : Meter) (z : m .asked ≡ 0) (a : m .allowance ≡ k) (h : good-length (length s) ≡ true) (d : Did s m (format-steps (length s)) t r) where
+module _ (s t : Image) (k : ℕ) (r : Meter) (m : Meter) (z : m .asked ≡ 0) (a : m .allowance ≡ k) (h : good-length (length s) ≡ true)
+    (d : Did s m (format-steps (length s)) t r) where
   left : t ≡ run s (take k (format-steps (length s)))
   left =
       let e : m .allowance - m .asked ≡ k = omega arith in
@@ -102,10 +106,22 @@ module _ (s t : Image) (k : ℕ) (r : Meter) (m : Meter) (z : m .asked ≡ 0) (a
   unfolding format-plan carry-out numbers-of
   format-done l =
       let e : leb (length (format-steps (length s))) k ≡ true = le-leb (length (format-steps (length s))) k (omega (arith, asked, d .same)) in
-      rw (format-plan, h, carry-out, numbers-of, e) (ap₂ (λ (n : ℕ) (i : Image). outcome (record { answer = 0; first = 0; second = 0; third = 0; steps = n }) i) asked left)
+      rw (format-plan, h, carry-out, numbers-of, e) (ap₂ (λ (n : ℕ) (i : Image). outcome (record {
+        answer = 0;
+        first = 0;
+        second = 0;
+        third = 0;
+        steps = n;
+      }) i) asked left)
 
   pub format-cut : r .allowance < r .asked → outcome (record { answer = 4; first = 0; second = 0; third = 0; steps = r .allowance }) t ≡ format s k
   unfolding format-plan carry-out numbers-of
   format-cut l =
       let e : leb (length (format-steps (length s))) k ≡ false = lt-leb (length (format-steps (length s))) k (omega (arith, asked, d .same)) in
-      rw (format-plan, h, carry-out, numbers-of, e) (ap₂ (λ (n : ℕ) (i : Image). outcome (record { answer = 4; first = 0; second = 0; third = 0; steps = n }) i) (d .same ∙ a) left)
+      rw (format-plan, h, carry-out, numbers-of, e) (ap₂ (λ (n : ℕ) (i : Image). outcome (record {
+        answer = 4;
+        first = 0;
+        second = 0;
+        third = 0;
+        steps = n;
+      }) i) (d .same ∙ a) left)

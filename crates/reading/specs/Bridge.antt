@@ -29,13 +29,15 @@ cut a n m s h = rw (sym (part-window a m s (omega arith))) (take-take n (m - a) 
 
 pub rec-part : (m n d : ℕ) (s : List ℕ) → size-of n d ≤ m → rec-of (take m s) n d ≡ rec-of s n d
 rec-part m n d s h =
-    rw (getD-take m s 0 0 (omega arith), getD-take m s 2 0 (omega arith), cut 8 n m s (omega arith), drop-drop (up8 (n + 1)) 8 (take m s), cut (8 + up8 (n + 1)) d m s (omega arith), drop-drop (up8 (n + 1)) 8 s)
+    rw (getD-take m s 0 0 (omega arith), getD-take m s 2 0 (omega arith), cut 8 n m s (omega arith), drop-drop (up8 (n + 1)) 8 (take m s), cut
+        (8 + up8 (n + 1)) d m s (omega arith), drop-drop (up8 (n + 1)) 8 s)
 
 -- ---- the definitions' chain, step by step
 
 module _ (k : ℕ) (held : Bool) (at : ℕ) (s : List ℕ) where
   chain-record : (n d : ℕ) → allowed held (next s) ≡ Next.Record n d
-      → chain (suc k) held at s ≡ add (record { at = at; it = rec-of s n d }) (chain k (is-unfinished (status-of s)) (at + size-of n d) (drop (size-of n d) s))
+      → chain (suc k) held at s ≡ add (record { at = at; it = rec-of s n d })
+          (chain k (is-unfinished (status-of s)) (at + size-of n d) (drop (size-of n d) s))
   unfolding chain
   chain-record n d e = rw (e, chain)
 
@@ -73,7 +75,8 @@ module _ (image : List ℕ) where
         | false ↦ record { entries = ch .entries; ending = stops room turned (ch .tail) (ch .last) }
       ]
 
-  finish-add : (room : ℕ) (turned : Bool) (e : Entry) (ch : Chain) (t : Bool) → goes-on room (ch .last) ≡ t → finish room turned (add e ch) ≡ ahead e (finish room turned ch)
+  finish-add : (room : ℕ) (turned : Bool) (e : Entry) (ch : Chain) (t : Bool) → goes-on room (ch .last) ≡ t
+      → finish room turned (add e ch) ≡ ahead e (finish room turned ch)
   unfolding finish
   finish-add room turned e ch true h = rw (finish, h)
   finish-add room turned e ch false h = rw (finish, h)
@@ -104,15 +107,18 @@ module _ (image : List ℕ) where
     go true q = rw (finish, q) (rest-turn c (ap (goes-on (c .room)) e ∙ q))
     go false q =
         rw (finish, q)
-        (rest-step image c ∙ ap (λ (r : Step). followed image r (rest image)) (advance-here image c (ap (goes-on (c .room)) e ∙ q) ∙ ap (settle image c) e) ∙ z)
+        (rest-step image c ∙ ap (λ (r : Step). followed image r (rest image))
+            (advance-here image c (ap (goes-on (c .room)) e ∙ q) ∙ ap (settle image c) e) ∙ z)
 
-  torn-done : (c : Cursor) (t : Bool) → ltb 0 (c .room) ≡ t → followed image (torn-end (c .room) (c .turned) (c .at)) (rest image) ≡ done (torn-end (c .room) (c .turned) (c .at))
+  torn-done : (c : Cursor) (t : Bool) → ltb 0 (c .room) ≡ t
+      → followed image (torn-end (c .room) (c .turned) (c .at)) (rest image) ≡ done (torn-end (c .room) (c .turned) (c .at))
   unfolding torn-end
   torn-done c true e = rw (torn-end, e)
   torn-done c false e = rw (torn-end, e)
 
   -- a record, and the chain behind it
-  linked : (k : ℕ) (c : Cursor) (n d : ℕ) → c .at ≤ c .end → look image c ≡ Next.Record n d → allowed (c .held) (next (window image c)) ≡ Next.Record n d
+  linked : (k : ℕ) (c : Cursor) (n d : ℕ) → c .at ≤ c .end → look image c ≡ Next.Record n d
+      → allowed (c .held) (next (window image c)) ≡ Next.Record n d
       → Chained k (past c (size-of n d) (unfinished-at image (c .at))) → Chained (suc k) c
   linked k c n d o e f ih =
       let z : ℕ = size-of n d in
@@ -121,12 +127,17 @@ module _ (image : List ℕ) where
       let l : z ≤ c .end - c .at = subst (λ (x : Next). Fits x (c .end - c .at)) e (look-inside image c) in
       let p : w ≡ take (c .end - c .at) (drop (c .at) image) = sym (part-window (c .at) (c .end) image o) in
       let st : status-of w ≡ status-of (drop (c .at) image) = ap status-of p ∙ getD-take (c .end - c .at) (drop (c .at) image) 2 0 (omega arith) in
-      let r : rec-of w n d ≡ rec-of (drop (c .at) image) n d = ap (λ (l : List ℕ). rec-of l n d) p ∙ rec-part (c .end - c .at) n d (drop (c .at) image) l in
+      let r : rec-of w n d ≡ rec-of (drop (c .at) image) n d = ap (λ (l : List ℕ). rec-of l n d) p
+          ∙ rec-part (c .end - c .at) n d (drop (c .at) image) l in
+      
       let q : window image u ≡ drop z w = sym (drop-drop z (c .at) (take (c .end) image)) in
-      let a : advance image c ≡ Step.Record (record { at = c .at; n = n; d = d }) u = advance-here image c (ap (goes-on (c .room)) e) ∙ ap (settle image c) e in
+      let a : advance image c ≡ Step.Record (record { at = c .at; n = n; d = d }) u = advance-here image c (ap (goes-on (c .room)) e)
+          ∙ ap (settle image c) e in
+      
       let tail : Chain = chain k (is-unfinished (status-of w)) (c .at + z) (drop z w) in
       rest-step image c ∙ ap (λ (x : Step). followed image x (rest image)) a
-      ∙ ap (ahead (entry-of image (record { at = c .at; n = n; d = d }))) (ih ∙ ap₂ (λ (h : Bool) (l : List ℕ). finish (c .room) (c .turned) (chain k h (c .at + z) l)) (ap is-unfinished (sym st)) q)
+      ∙ ap (ahead (entry-of image (record { at = c .at; n = n; d = d })))
+          (ih ∙ ap₂ (λ (h : Bool) (l : List ℕ). finish (c .room) (c .turned) (chain k h (c .at + z) l)) (ap is-unfinished (sym st)) q)
       ∙ sym (rw (chain-record k (c .held) (c .at) w n d f)
       (finish-add (c .room) (c .turned) (record { at = c .at; it = rec-of w n d }) tail _ refl
       ∙ ap (λ (it : _). ahead (record { at = c .at; it = it }) (finish (c .room) (c .turned) tail)) r))
@@ -135,8 +146,10 @@ module _ (image : List ℕ) where
   unfolding look
   chained zero c o h = absurd (not-suc-le-zero h)
   chained (suc k) c o h = go (look image c) refl (λ n d b f. chained k (past c (size-of n d) b) (omega arith) (omega arith)) where
-    go : (x : Next) → look image c ≡ x → ((n d : ℕ) (b : Bool) → size-of n d ≤ c .end - c .at → Chained k (past c (size-of n d) b)) → Chained (suc k) c
-    go (Next.Record n d) e ih = linked k c n d o e e (ih n d (unfinished-at image (c .at)) (subst (λ (x : Next). Fits x (c .end - c .at)) e (look-inside image c)))
+    go : (x : Next) → look image c ≡ x → ((n d : ℕ) (b : Bool) → size-of n d ≤ c .end - c .at → Chained k (past c (size-of n d) b))
+        → Chained (suc k) c
+    go (Next.Record n d) e ih =
+        linked k c n d o e e (ih n d (unfinished-at image (c .at)) (subst (λ (x : Next). Fits x (c .end - c .at)) e (look-inside image c)))
     go Next.Wrap e ih = stopped c Next.Wrap k e (chain-wrap k (c .held) (c .at) (window image c) e) refl
     go Next.TornWrap e ih = stopped c Next.TornWrap k e (chain-torn-wrap k (c .held) (c .at) (window image c) e) (torn-done c _ refl)
     go Next.Clear e ih = stopped c Next.Clear k e (chain-clear k (c .held) (c .at) (window image c) e) refl
@@ -176,16 +189,21 @@ module _ (image : List ℕ) where
         ∙ ap (λ (s : List ℕ). finish (floor h) false (chain (suc (length image)) false h (drop h s))) (take-length image)
 
     -- what follows the turn
-    after-turn : (held : Bool) → rest image (turn (floor h) held) ≡ record { entries = from-zero image h held .entries; ending = stops 0 true (from-zero image h held .tail) (from-zero image h held .last) }
+    after-turn : (held : Bool) → rest image (turn (floor h) held) ≡ record {
+      entries = from-zero image h held .entries;
+      ending = stops 0 true (from-zero image h held .tail) (from-zero image h held .last);
+    }
     after-turn held = chained (suc (length image)) (turn (floor h) held) (omega arith) (omega arith) ∙ finish-last true (from-zero image h held)
 
-    turned-is : (c : Chain) → read-of (length image) h (joint (c .entries) (rest image (turn (floor h) (c .held)))) ≡ turned (length image) h c (from-zero image h (c .held))
+    turned-is : (c : Chain) → read-of (length image) h (joint (c .entries) (rest image (turn (floor h) (c .held)))) ≡ turned (length image) h c
+        (from-zero image h (c .held))
     turned-is c =
         let d : Chain = from-zero image h (c .held) in
         ap (λ (r : Run). read-of (length image) h (joint (c .entries) r)) (after-turn (c .held))
         ∙ shown-last (length image) h (d .tail) true (c .entries ++ d .entries) (d .last)
 
-    joined-is : (c : Chain) (x : Next) → c .last ≡ x → 0 < floor h → read-of (length image) h (finish (floor h) false c) ≡ joined (length image) h c (from-zero image h (c .held))
+    joined-is : (c : Chain) (x : Next) → c .last ≡ x → 0 < floor h
+        → read-of (length image) h (finish (floor h) false c) ≡ joined (length image) h c (from-zero image h (c .held))
     unfolding joined finish torn-end
     joined-is c (Next.Record n d) e p = rw (joined, finish, e) (rw e)
     joined-is c Next.Wrap e p = rw (joined, finish, e, lt-ltb 0 (floor h) p) (turned-is c)

@@ -27,7 +27,8 @@ part-window (suc a) (suc e) (x ∷ s) h =
 
 -- ---- what stands at a cursor
 
-pub look-is : (image : List ℕ) (c : Cursor) (x y : Next) → c .at ≤ c .end → y ≡ next (take (c .end - c .at) (drop (c .at) image)) → x ≡ allowed (c .held) y → x ≡ look image c
+pub look-is : (image : List ℕ) (c : Cursor) (x y : Next) → c .at ≤ c .end → y ≡ next (take (c .end - c .at) (drop (c .at) image))
+    → x ≡ allowed (c .held) y → x ≡ look image c
 unfolding look
 look-is image c x y h e f = f ∙ ap (allowed (c .held)) (e ∙ ap next (part-window (c .at) (c .end) image h))
 
@@ -78,7 +79,8 @@ module _ (image : List ℕ) where
   -- ---- the two ways of a step
 
   module _ (c : Cursor) where
-    pub advance-on : goes-on (c .room) (look image c) ≡ true → advance image c ≡ settle image (turn (c .room) (c .held)) (look image (turn (c .room) (c .held)))
+    pub advance-on : goes-on (c .room) (look image c) ≡ true
+        → advance image c ≡ settle image (turn (c .room) (c .held)) (look image (turn (c .room) (c .held)))
     unfolding advance
     advance-on h = rw (h, advance)
 
@@ -87,7 +89,8 @@ module _ (image : List ℕ) where
     advance-here h = rw (h, advance)
 
     module _ (x : Next) (b : Bool) (s : Sound image c) (ex : x ≡ look image c) (eb : b ≡ goes-on (c .room) x) where
-      pub advanced-on : (t : Cursor) (y : Next) (r : Step) → b ≡ true → t ≡ turn (c .room) (c .held) → y ≡ look image t → r ≡ settle image t y → Within y (t .end - t .at)
+      pub advanced-on : (t : Cursor) (y : Next) (r : Step) → b ≡ true → t ≡ turn (c .room) (c .held) → y ≡ look image t → r ≡ settle image t y
+          → Within y (t .end - t .at)
           → (r ≡ advance image c) × Inside image c r
       advanced-on t y r h et ey er w =
           let u : Cursor = turn (c .room) (c .held) in

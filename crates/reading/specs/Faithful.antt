@@ -48,7 +48,8 @@ module _ (image : List ℕ) where
       rw (advance-on image c e) (settle-kept u (look image u) (sound-turn image c s) (look-inside image u))
   advance-kept c false s e = rw (advance-here image c e) (settle-kept c (look image c) s (look-inside image c))
 
-  by-step : (r : Step) (f : Cursor → Run) → Kept r → ((d : Cursor) → Sound image d → Each (Stands image) (f d .entries)) → Each (Stands image) (followed image r f .entries)
+  by-step : (r : Step) (f : Cursor → Run) → Kept r → ((d : Cursor) → Sound image d → Each (Stands image) (f d .entries))
+      → Each (Stands image) (followed image r f .entries)
   by-step (Step.Record e next) f k h = (ap (entry-of image) (spot-is image e (k .0)), h next (k .1))
   by-step (Step.End t w) f k h = tt
   by-step (Step.TornWrap t) f k h = tt

@@ -28,7 +28,8 @@ module _ (image : List ℕ) (e : Spot) (w : Whole image e) where
 
   pub content-length-is : length (content-of (entry-of image e)) ≡ e .d
   content-length-is =
-      length-take-le (e .d) (drop (up8 (e .n + 1)) (drop 8 (drop (e .at) image))) (rw (length-drop, length-drop, length-drop) (omega (arith, w .fits)))
+      length-take-le (e .d) (drop (up8 (e .n + 1)) (drop 8 (drop (e .at) image)))
+          (rw (length-drop, length-drop, length-drop) (omega (arith, w .fits)))
 
   pub spot-is : spot-of (entry-of image e) ≡ e
   spot-is = ap₂ (λ (n d : ℕ). record { at = e .at; n = n; d = d }) name-length-is content-length-is
@@ -40,7 +41,8 @@ pub record Turned (image : List ℕ) (c : Cursor) (e : Spot) (next : Cursor) : T
   pub split : rest image c ≡ ahead (entry-of image e) (rest image next)
   pub whole : Whole image e
 
-pub turned : (image : List ℕ) (c : Cursor) (r : Step) (e : Spot) (next : Cursor) → r ≡ advance image c → Inside image c r → r ≡ Step.Record e next → Turned image c e next
+pub turned : (image : List ℕ) (c : Cursor) (r : Step) (e : Spot) (next : Cursor) → r ≡ advance image c → Inside image c r → r ≡ Step.Record e next
+    → Turned image c e next
 turned image c r e next p w q =
     let o : Onward image c e next = rw q at w in
     record { onward = o; split = rw (rest-step image c, sym p ∙ q); whole = record { fits = o .fits } }

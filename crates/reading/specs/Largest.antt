@@ -34,13 +34,15 @@ module _ (name : List ℕ) (x : Entry) (m : ℕ) where
   -- the rest goes on from the larger of the two
   larger-first : (xs : List Entry) → largest m (others name (x ∷ xs)) ≡ largest (largest m (others name (x ∷ []))) (others name xs)
   larger-first xs = go (is-file x) (has-name name x) refl refl where
-    go : (t u : Bool) → is-file x ≡ t → has-name name x ≡ u → largest m (others name (x ∷ xs)) ≡ largest (largest m (others name (x ∷ []))) (others name xs)
+    go : (t u : Bool) → is-file x ≡ t → has-name name x ≡ u
+        → largest m (others name (x ∷ xs)) ≡ largest (largest m (others name (x ∷ []))) (others name xs)
     go true true h g = rw (h, keep, g)
     go true false h g = rw (h, keep, g)
     go false u h g = rw (h, keep)
 
 -- a file of another name counts by its size
-pub larger-by : (name image : List ℕ) (e : Spot) (m s : ℕ) → Whole image e → s ≡ size-of (e .n) (e .d) → is-file (entry-of image e) ≡ true → has-name name (entry-of image e) ≡ false
+pub larger-by : (name image : List ℕ) (e : Spot) (m s : ℕ) → Whole image e → s ≡ size-of (e .n) (e .d) → is-file (entry-of image e) ≡ true
+    → has-name name (entry-of image e) ≡ false
     → max m s ≡ largest m (others name (entry-of image e ∷ []))
 larger-by name image e m s w q h g =
     ap (max m) (q ∙ sym (ap₂ size-of (name-length-is image e w) (content-length-is image e w))) ∙ larger-other name (entry-of image e) m h g
@@ -54,7 +56,8 @@ module _ (name : List ℕ) {image : List ℕ} {start c : Cursor} {m : ℕ} (w : 
   pub largest-over : (r : Step) → r ≡ advance image c → Not-record r → m ≡ largest 0 (others name (rest image start .entries))
   largest-over r e z = fold-end (largest-of name) image start 0 c m w r e z
 
-  pub largest-onward : {e : Spot} {next : Cursor} → Turned image c e next → (k : ℕ) → k ≡ largest m (others name (entry-of image e ∷ [])) → Folded (largest-of name) image start 0 next k
+  pub largest-onward : {e : Spot} {next : Cursor} → Turned image c e next → (k : ℕ) → k ≡ largest m (others name (entry-of image e ∷ []))
+      → Folded (largest-of name) image start 0 next k
   largest-onward {e} {next} t k h =
       fold-step (largest-of name) image start 0 c m w e next t k
       (larger-first name (entry-of image e) m (rest image next .entries) ∙ ap (λ (j : ℕ). largest j (others name (rest image next .entries))) (sym h))

@@ -100,7 +100,8 @@ module _ (es : List Entry) where
 
   all-legal : (xs : List Entry) → all name-fine xs ≡ true → all (name-legal es) xs ≡ true
   all-legal [] h = refl
-  all-legal (x ∷ xs) h = all-both (name-legal es) x xs (legal-one x (all-first name-fine x xs _ refl h)) (all-legal xs (all-rest name-fine x xs _ refl h))
+  all-legal (x ∷ xs) h =
+      all-both (name-legal es) x xs (legal-one x (all-first name-fine x xs _ refl h)) (all-legal xs (all-rest name-fine x xs _ refl h))
 
   pub names-are : all name-fine es ≡ names-ok es
   unfolding names-ok
@@ -120,7 +121,8 @@ module _ (es : List Entry) where
   keep-live : (xs : List Entry) → any (superseded es) xs ≡ false → keep (live es) xs ≡ keep is-file xs
   keep-live [] h = refl
   keep-live (x ∷ xs) h = go (superseded es x) (is-file x) refl refl (keep-live xs) where
-    go : (s t : Bool) → superseded es x ≡ s → is-file x ≡ t → (any (superseded es) xs ≡ false → keep (live es) xs ≡ keep is-file xs) → keep (live es) (x ∷ xs) ≡ keep is-file (x ∷ xs)
+    go : (s t : Bool) → superseded es x ≡ s → is-file x ≡ t → (any (superseded es) xs ≡ false → keep (live es) xs ≡ keep is-file xs)
+        → keep (live es) (x ∷ xs) ≡ keep is-file (x ∷ xs)
     go true t p q ih = wrong (sym (rw (p, any) at h))
     go false true p q ih = let l : live es x ≡ true = live-one x p ∙ q in rw (keep, l, q) (ap (λ (k : List Entry). x ∷ k) (ih (rw (p, any) at h)))
     go false false p q ih = let l : live es x ≡ false = live-one x p ∙ q in rw (keep, l, q) (ih (rw (p, any) at h))

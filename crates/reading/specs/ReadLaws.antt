@@ -25,7 +25,8 @@ use Rattle.reading.specs.Read.{first-cursor, Surveyed}
 pub first-sound : (image : List ℕ) (h : ℕ) → h ≤ length image → length image ≤ 2 ^ 24 → Sound image (first-cursor image h)
 first-sound image h l s = record { ordered = l; inside = omega arith; room = omega arith; small = s }
 
-module _ (image : List ℕ) (h : ℕ) (l : h ≤ length image) (c : Cursor) (p : Pass) (e : c ≡ first-cursor image h) (q : p ≡ passed none-yet (rest image c)) where
+module _ (image : List ℕ) (h : ℕ) (l : h ≤ length image) (c : Cursor) (p : Pass) (e : c ≡ first-cursor image h)
+    (q : p ≡ passed none-yet (rest image c)) where
   -- the reading, from how the chain ends
   pub read-as : (s : Step) → p .end ≡ s → shown image (length image) h (rest image (first-cursor image h) .entries) s ≡ reading-from image h
   read-as s d =
@@ -33,7 +34,8 @@ module _ (image : List ℕ) (h : ℕ) (l : h ≤ length image) (c : Cursor) (p :
       (sym d ∙ ap (λ (x : Pass). x .end) q ∙ ap (λ (k : Cursor). rest image k .ending) e)
       ∙ reading-is image h l
 
-  pub surveyed : (s : Survey) → length image ≤ 2 ^ 24 → Spots image (p .tally) → s .tally ≡ p .tally → s .place .head ≡ h → s .place .tail ≤ length image → s .place .length ≡ length image → Surveyed image s
+  pub surveyed : (s : Survey) → length image ≤ 2 ^ 24 → Spots image (p .tally) → s .tally ≡ p .tally → s .place .head ≡ h
+      → s .place .tail ≤ length image → s .place .length ≡ length image → Surveyed image s
   surveyed s small spots t a b n =
       record {
         tallied =
@@ -58,6 +60,7 @@ pub settled-none : (image : List ℕ) (n : ℕ) → refuse n ≡ reading image �
 unfolding settled-reading
 settled-none image n e = ap (λ (a : Answer Reading). onward a (if-settled image)) e
 
-pub settled-by : (image : List ℕ) (r : Reading) (t : Bool) → give r ≡ reading image → settled image r ≡ t → checked t 16 (give r) ≡ settled-reading image
+pub settled-by : (image : List ℕ) (r : Reading) (t : Bool) → give r ≡ reading image → settled image r ≡ t
+    → checked t 16 (give r) ≡ settled-reading image
 unfolding settled-reading if-settled
 settled-by image r t e s = ap (λ (b : Bool). checked b 16 (give r)) (sym s) ∙ ap (λ (a : Answer Reading). onward a (if-settled image)) e

@@ -167,7 +167,8 @@ unfoldable pub rest : List ℕ → Cursor → Run
 rest image c = rest-by (suc (left c)) image c
 
 -- a fuel that is enough is as good as any other
-followed-same : (image : List ℕ) (c : Cursor) (r : Step) (f g : Cursor → Run) → Less c r → ((d : Cursor) → left d < left c → f d ≡ g d) → followed image r f ≡ followed image r g
+followed-same : (image : List ℕ) (c : Cursor) (r : Step) (f g : Cursor → Run) → Less c r → ((d : Cursor) → left d < left c → f d ≡ g d)
+    → followed image r f ≡ followed image r g
 followed-same image c (Step.Record x next) f g h e = rw (e next h)
 followed-same image c (Step.End t w) f g h e = refl
 followed-same image c (Step.TornWrap t) f g h e = refl
@@ -178,10 +179,12 @@ unfolding rest-by
 enough zero j image c h g = absurd (not-suc-le-zero h)
 enough (suc k) zero image c h g = absurd (not-suc-le-zero g)
 enough (suc k) (suc j) image c h g =
-    followed-same image c (advance image c) (rest-by k image) (rest-by j image) (advance-less image c) (λ d l. enough k j image d (omega arith) (omega arith))
+    followed-same image c (advance image c) (rest-by k image) (rest-by j image) (advance-less image c)
+        (λ d l. enough k j image d (omega arith) (omega arith))
 
 -- THE law of every loop over the chain
 pub rest-step : (image : List ℕ) (c : Cursor) → rest image c ≡ followed image (advance image c) (rest image)
 unfolding rest-by rest
 rest-step image c =
-    followed-same image c (advance image c) (rest-by (left c) image) (rest image) (advance-less image c) (λ d l. enough (left c) (suc (left d)) image d l (omega arith))
+    followed-same image c (advance image c) (rest-by (left c) image) (rest image) (advance-less image c)
+        (λ d l. enough (left c) (suc (left d)) image d l (omega arith))

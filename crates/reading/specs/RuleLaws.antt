@@ -54,7 +54,8 @@ module _ {image : List ℕ} {start : Cursor} {t : Tally} (w : Tallied image star
   stands = faithful image start (w .sound)
 
   pub count-is : t .records ≡ length (rest image start .entries)
-  count-is = ap (λ (u : Tally). u .records) (w .same) ∙ tally-records none-yet (rest image start .entries) ∙ zero-add (length (rest image start .entries))
+  count-is =
+      ap (λ (u : Tally). u .records) (w .same) ∙ tally-records none-yet (rest image start .entries) ∙ zero-add (length (rest image start .entries))
 
   pub fine-is : t .fine ≡ names-ok (rest image start .entries)
   fine-is = ap (λ (u : Tally). u .fine) (w .same) ∙ tally-fine none-yet (rest image start .entries) ∙ names-are (rest image start .entries)
@@ -68,13 +69,16 @@ module _ {image : List ℕ} {start : Cursor} {t : Tally} (w : Tallied image star
   pub marks-none : t .records < 2 → true ≡ marks-ok (rest image start .entries)
   marks-none h = marks-few (rest image start .entries) (omega (arith, count-is))
 
-  marks-all : 2 ≤ t .records → (not (t .further) && second-ok (rest image start .entries) (entry-of image (t .first)) (entry-of image (t .second))) ≡ marks-ok (rest image start .entries)
+  marks-all : 2 ≤ t .records
+      → (not (t .further) && second-ok (rest image start .entries) (entry-of image (t .first)) (entry-of image (t .second))) ≡ marks-ok
+      (rest image start .entries)
   marks-all h = marks-are image (rest image start .entries) t (w .same) stands (omega (arith, count-is))
 
   pub marks-further : 2 ≤ t .records → t .further ≡ true → false ≡ marks-ok (rest image start .entries)
   marks-further h e = rw e at (marks-all h)
 
-  pub marks-second : 2 ≤ t .records → t .further ≡ false → second-ok (rest image start .entries) (entry-of image (t .first)) (entry-of image (t .second)) ≡ marks-ok (rest image start .entries)
+  pub marks-second : 2 ≤ t .records → t .further ≡ false
+      → second-ok (rest image start .entries) (entry-of image (t .first)) (entry-of image (t .second)) ≡ marks-ok (rest image start .entries)
   marks-second h e = rw e at (marks-all h)
 
   pub second-none : t .records < 2 → false ≡ second-marked (rest image start .entries)
@@ -90,7 +94,8 @@ module _ {image : List ℕ} {start : Cursor} {t : Tally} (w : Tallied image star
     go [] q f l = absurd (omega arith)
     go (x ∷ []) q f l = absurd (omega arith)
     go (x ∷ (y ∷ es)) q f l =
-        ap (λ (u : Tally). marked (entry-of image (u .second))) q ∙ ap (λ (s : Spot). marked (entry-of image s)) (second-is x y es) ∙ ap marked (f .1 .0)
+        ap (λ (u : Tally). marked (entry-of image (u .second))) q ∙ ap (λ (s : Spot). marked (entry-of image s)) (second-is x y es)
+            ∙ ap marked (f .1 .0)
 
   pub open-is : t .held ≡ last-open (rest image start .entries)
   open-is = ap (λ (u : Tally). u .held) (w .same) ∙ go (rest image start .entries) where
@@ -118,7 +123,8 @@ module _ (image : List ℕ) (r : Reading) (e : whole (r .ending) ≡ true) where
   unfolding legal
   legal-marks a b c = rw (legal, e, a, b, c)
 
-  pub legal-free : (k x : Bool) → names-ok (r .entries) ≡ true → single (r .entries) ≡ true → marks-ok (r .entries) ≡ true → k ≡ head-clean (r .entries) → x ≡ free-by k image (r .place)
+  pub legal-free : (k x : Bool) → names-ok (r .entries) ≡ true → single (r .entries) ≡ true → marks-ok (r .entries) ≡ true
+      → k ≡ head-clean (r .entries) → x ≡ free-by k image (r .place)
       → x ≡ legal image r
   unfolding legal
   legal-free k x a b c d f = rw (legal, e, a, b, c) (f ∙ free-is image r k (sym d))

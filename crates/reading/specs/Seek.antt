@@ -71,13 +71,16 @@ count-start p {image} {start} s = record { fold = fold-start (count-of p) image 
 
 module _ (p : Entry → Bool) {image : List ℕ} {start c : Cursor} {m : ℕ} (w : Counted p image start c m) where
   pub count-over : (r : Step) → r ≡ advance image c → Not-record r → m ≡ length (keep p (rest image start .entries))
-  count-over r e z = sym (add-zero m) ∙ fold-end (count-of p) image start 0 c m (w .fold) r e z ∙ zero-add (length (keep p (rest image start .entries)))
+  count-over r e z =
+      sym (add-zero m) ∙ fold-end (count-of p) image start 0 c m (w .fold) r e z ∙ zero-add (length (keep p (rest image start .entries)))
 
   module _ {e : Spot} {next : Cursor} (t : Turned image c e next) where
     pub count-one : p (entry-of image e) ≡ true → Counted p image start next (m + 1)
     count-one h =
         record {
-          fold = fold-step (count-of p) image start 0 c m (w .fold) e next t (m + 1) (rw (keep-hit p (entry-of image e) (rest image next .entries) h) (omega arith));
+          fold =
+              fold-step (count-of p) image start 0 c m (w .fold) e next t (m + 1)
+                  (rw (keep-hit p (entry-of image e) (rest image next .entries) h) (omega arith));
           few = omega (arith, w .few, t .onward .less);
         }
 
@@ -130,7 +133,8 @@ module _ (p q : Entry → Bool) {image : List ℕ} {start c : Cursor} (w : Folde
     kept : q (entry-of image e) ≡ true → keep q (entry-of image e ∷ rest image next .entries) ≡ entry-of image e ∷ keep q (rest image next .entries)
     kept h = keep-hit q (entry-of image e) (rest image next .entries) h
 
-    pub first-found : q (entry-of image e) ≡ true → p (entry-of image e) ≡ true → some (entry-of image e) ≡ first-such p (keep q (rest image start .entries))
+    pub first-found : q (entry-of image e) ≡ true → p (entry-of image e) ≡ true
+        → some (entry-of image e) ≡ first-such p (keep q (rest image start .entries))
     first-found h g =
         fold-stop (first-of p q) image start tt c tt w e next t (some (entry-of image e))
         (ap (first-such p) (kept h) ∙ first-hit p (entry-of image e) (keep q (rest image next .entries)) g)
@@ -141,14 +145,16 @@ module _ (p q : Entry → Bool) {image : List ℕ} {start c : Cursor} (w : Folde
         (ap (first-such p) (kept h) ∙ first-miss p (entry-of image e) (keep q (rest image next .entries)) g)
 
     pub first-skip : q (entry-of image e) ≡ false → Folded (first-of p q) image start tt next tt
-    first-skip h = fold-step (first-of p q) image start tt c tt w e next t tt (ap (first-such p) (keep-miss q (entry-of image e) (rest image next .entries) h))
+    first-skip h =
+        fold-step (first-of p q) image start tt c tt w e next t tt (ap (first-such p) (keep-miss q (entry-of image e) (rest image next .entries) h))
 
 -- ---- the one with an index, of those kept
 
 abbrev pub nth-of : (Entry → Bool) → ℕ → Run → Option Entry
 nth-of q i r = getElem? (keep q (r .entries)) i
 
-nth-less : (q : Entry → Bool) (x : Entry) (xs : List Entry) (i : ℕ) → q x ≡ true → (i ≡ 0 → ⊥) → getElem? (keep q (x ∷ xs)) i ≡ getElem? (keep q xs) (i - 1)
+nth-less : (q : Entry → Bool) (x : Entry) (xs : List Entry) (i : ℕ) → q x ≡ true → (i ≡ 0 → ⊥)
+    → getElem? (keep q (x ∷ xs)) i ≡ getElem? (keep q xs) (i - 1)
 nth-less q x xs zero h z = absurd (z refl)
 nth-less q x xs (suc i) h z = let k : suc i - 1 ≡ i = omega arith in rw (keep-hit q x xs h, k)
 
@@ -159,7 +165,8 @@ module _ (q : Entry → Bool) {image : List ℕ} {start c : Cursor} {i₀ i : �
   module _ {e : Spot} {next : Cursor} (t : Turned image c e next) where
     pub nth-found : q (entry-of image e) ≡ true → i ≡ 0 → some (entry-of image e) ≡ getElem? (keep q (rest image start .entries)) i₀
     nth-found h z =
-        fold-stop (nth-of q) image start i₀ c i w e next t (some (entry-of image e)) (rw (keep-hit q (entry-of image e) (rest image next .entries) h, z))
+        fold-stop (nth-of q) image start i₀ c i w e next t (some (entry-of image e))
+            (rw (keep-hit q (entry-of image e) (rest image next .entries) h, z))
 
     pub nth-onward : q (entry-of image e) ≡ true → (i ≡ 0 → ⊥) → Folded (nth-of q) image start i₀ next (i - 1)
     nth-onward h z = fold-step (nth-of q) image start i₀ c i w e next t (i - 1) (nth-less q (entry-of image e) (rest image next .entries) i h z)

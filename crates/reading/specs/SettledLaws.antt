@@ -53,7 +53,8 @@ module _ (w : Work) where
   busy-1 e =
       let h : ℕ = w .reading .place .head in
       rw (e, repair-1)
-      (after-busy w h (erase-steps (w .image) (w .reading .place) ++ (program h 0x00 ∷ [])) (right-filled (erase-steps (w .image) (w .reading .place)) (program h 0x00 ∷ []) refl))
+      (after-busy w h (erase-steps (w .image) (w .reading .place) ++ (program h 0x00 ∷ []))
+          (right-filled (erase-steps (w .image) (w .reading .place)) (program h 0x00 ∷ []) refl))
 
   idle-1 : head-clean (w .reading .entries) ≡ false → repair-1 w ≡ w
   unfolding repair-1
@@ -75,7 +76,8 @@ close-filled N x y =
 
 module _ (w : Work) where
   module _ (x y : Entry) (es : List Entry) where
-    two-busy : (a b : Bool) → is-clean (y .it .low) ≡ a → is-start (y .it .low) ≡ b → marked y ≡ true → empty (repair-2 w (x ∷ (y ∷ es)) .steps) ≡ false
+    two-busy : (a b : Bool) → is-clean (y .it .low) ≡ a → is-start (y .it .low) ≡ b → marked y ≡ true
+        → empty (repair-2 w (x ∷ (y ∷ es)) .steps) ≡ false
     unfolding repair-2
     two-busy true b p q m =
         rw (p, repair-2) (after-busy w (y .at) (close-steps (w .reading .place .length) x y) (close-filled (w .reading .place .length) x y))
@@ -88,7 +90,8 @@ module _ (w : Work) where
     two-idle a true p q m = let e : true ≡ false = rw q at m in absurd (let z : _≡_ {A = ℕ} 0 1 = cc in omega arith)
     two-idle true false p q m = let e : true ≡ false = rw (p, q) at m in absurd (let z : _≡_ {A = ℕ} 0 1 = cc in omega arith)
 
-    two-grows : (a b : Bool) → is-clean (y .it .low) ≡ a → is-start (y .it .low) ≡ b → empty (w .steps) ≡ false → empty (repair-2 w (x ∷ (y ∷ es)) .steps) ≡ false
+    two-grows : (a b : Bool) → is-clean (y .it .low) ≡ a → is-start (y .it .low) ≡ b → empty (w .steps) ≡ false
+        → empty (repair-2 w (x ∷ (y ∷ es)) .steps) ≡ false
     unfolding repair-2
     two-grows true b p q e = rw (p, repair-2) (after-grows w (y .at) (close-steps (w .reading .place .length) x y) e)
     two-grows false true p q e = rw (p, q, repair-2) (after-grows w (y .at) (program (x .at + 1) 0x00 ∷ []) e)
@@ -124,7 +127,8 @@ wrap-torn Ending.Tail = false
 wrap-torn (Ending.TornWrap a) = true
 wrap-torn Ending.Broken = false
 
-void-idle : (image : Image) (e : Entry) (a b : Bool) → is-erased (e .it .status) ≡ a → is-reserved (e .it .status) ≡ b → empty (void-steps image e) ≡ not (is-unfinished (e .it .status))
+void-idle : (image : Image) (e : Entry) (a b : Bool) → is-erased (e .it .status) ≡ a → is-reserved (e .it .status) ≡ b
+    → empty (void-steps image e) ≡ not (is-unfinished (e .it .status))
 unfolding void-steps is-unfinished
 void-idle image e true b p q = rw (void-steps, p)
 void-idle image e false true p q =
@@ -146,7 +150,8 @@ torn-idle Ending.Tail = refl
 torn-idle (Ending.TornWrap a) = refl
 torn-idle Ending.Broken = refl
 
-nothing-last : (image : Image) (es : List Entry) (x : Ending) → empty (last-steps image es ++ torn-wrap-steps x) ≡ (not (last-open es) && not (wrap-torn x))
+nothing-last : (image : Image) (es : List Entry) (x : Ending)
+    → empty (last-steps image es ++ torn-wrap-steps x) ≡ (not (last-open es) && not (wrap-torn x))
 nothing-last image es x = rw (empty-both (last-steps image es) (torn-wrap-steps x), open-idle image es, torn-idle x)
 
 module _ (w : Work) where
@@ -195,14 +200,18 @@ module _ (w : Work) where
 -- what a settled reading shows
 unfoldable pub calm : Reading → Bool
 calm r =
-    not (head-clean (r .entries)) && (not (second-marked (r .entries)) && ((not (last-open (r .entries)) && not (wrap-torn (r .ending))) && not (any (superseded (r .entries)) (r .entries))))
+    not (head-clean (r .entries)) &&
+        (not (second-marked (r .entries)) &&
+        ((not (last-open (r .entries)) && not (wrap-torn (r .ending))) && not (any (superseded (r .entries)) (r .entries))))
 
 module _ (image : Image) (r : Reading) where
-  by-tests : (a b c : Bool) → head-clean (r .entries) ≡ a → second-marked (r .entries) ≡ b → (not (last-open (r .entries)) && not (wrap-torn (r .ending))) ≡ c → settled image r ≡ calm r
+  by-tests : (a b c : Bool) → head-clean (r .entries) ≡ a → second-marked (r .entries) ≡ b
+      → (not (last-open (r .entries)) && not (wrap-torn (r .ending))) ≡ c → settled image r ≡ calm r
   unfolding settled mended calm
   by-tests true b c p q s =
       let w : Work = begin image r in
-      grows-4 (repair-3 (repair-2-on (repair-1 w))) (grows-3 (repair-2-on (repair-1 w)) (grows-2 (repair-1 w) (repair-1 w .reading .entries) (busy-1 w p)))
+      grows-4 (repair-3 (repair-2-on (repair-1 w)))
+          (grows-3 (repair-2-on (repair-1 w)) (grows-2 (repair-1 w) (repair-1 w .reading .entries) (busy-1 w p)))
       ∙ rw (calm, p)
   by-tests false true c p q s =
       let w : Work = begin image r in

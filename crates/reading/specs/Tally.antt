@@ -100,7 +100,8 @@ module _ {image : List ℕ} where
         last = v;
       }
 
-  pub passing-step : {start c next : Cursor} {e : Spot} {t u : Tally} → Passing image start c t → Turned image c e next → u ≡ noted t (entry-of image e) → Passing image start next u
+  pub passing-step : {start c next : Cursor} {e : Spot} {t u : Tally} → Passing image start c t → Turned image c e next
+      → u ≡ noted t (entry-of image e) → Passing image start next u
   passing-step {start} {c} {next} {e} {t} {u} p w q =
       rw q
       record {
@@ -110,8 +111,18 @@ module _ {image : List ℕ} where
       }
 
   -- the tally as the code makes it
-  pub noted-is : (t : Tally) (e : Spot) (one two : Spot) (fine further held : Bool) → Whole image e → one ≡ cond (eqb (t .records) 0) e (t .first) → two ≡ cond (leb (t .records) 1) e (t .second)
-      → fine ≡ (t .fine && name-fine (entry-of image e)) → further ≡ (t .further || (ltb 1 (t .records) && marked (entry-of image e))) → held ≡ unfinished-at image (e .at)
-      → record { records = t .records + 1; first = one; second = two; last = e; fine = fine; further = further; held = held } ≡ noted t (entry-of image e)
+  pub noted-is : (t : Tally) (e : Spot) (one two : Spot) (fine further held : Bool) → Whole image e → one ≡ cond (eqb (t .records) 0) e (t .first)
+      → two ≡ cond (leb (t .records) 1) e (t .second)
+      → fine ≡ (t .fine && name-fine (entry-of image e)) → further ≡ (t .further || (ltb 1 (t .records) && marked (entry-of image e)))
+          → held ≡ unfinished-at image (e .at)
+      → record {
+        records = t .records + 1;
+        first = one;
+        second = two;
+        last = e;
+        fine = fine;
+        further = further;
+        held = held;
+      } ≡ noted t (entry-of image e)
   unfolding noted
   noted-is t e one two fine further held w a b c d h = rw (a, b, c, d, h, spot-is image e w)

@@ -100,7 +100,8 @@ pub clean-few : (es : List Entry) → length es ≡ 0 → false ≡ head-clean e
 clean-few [] h = refl
 clean-few (x ∷ es) h = absurd (omega arith)
 
-pub clean-is : (image : List ℕ) (es : List Entry) (t : Tally) → t ≡ tally none-yet es → Each (Stands image) es → (length es ≡ 0 → ⊥) → is-clean (entry-of image (t .first) .it .low) ≡ head-clean es
+pub clean-is : (image : List ℕ) (es : List Entry) (t : Tally) → t ≡ tally none-yet es → Each (Stands image) es → (length es ≡ 0 → ⊥)
+    → is-clean (entry-of image (t .first) .it .low) ≡ head-clean es
 clean-is image [] t q f h = absurd (h refl)
 clean-is image (x ∷ es) t q f h =
     ap (λ (u : Tally). is-clean (entry-of image (u .first) .it .low)) q

@@ -47,7 +47,9 @@ module _ {s t : Image} {h k : ℕ} {m q : Meter} (w : Mends s h m t k q) where
               count = d .count;
               head = sym (ap (λ (x : Reading). x .place .head) r ∙ f .head);
               tail = sym (ap (λ (x : Reading). x .place .tail) r);
-              files = e ∙ sym (ap (λ (x : Reading). length (files (x .entries))) r ∙ ap (λ (i : ℕ). length (files (rest t (first-cursor t i) .entries))) (f .head));
+              files =
+                  e ∙ sym (ap (λ (x : Reading). length (files (x .entries))) r
+                      ∙ ap (λ (i : ℕ). length (files (rest t (first-cursor t i) .entries))) (f .head));
             };
         cut = w .mending .cut;
       }

@@ -39,7 +39,8 @@ pick-first : (t : Bool) (e : Entry) (es : List Entry) → map delete-step (pick 
 pick-first true e es = refl
 pick-first false e es = refl
 
-any-replace : (p : Entry → Bool) (before : List Entry) (e f : Entry) (es : List Entry) → p e ≡ p f → any p (before ++ (e ∷ es)) ≡ any p (before ++ (f ∷ es))
+any-replace : (p : Entry → Bool) (before : List Entry) (e f : Entry) (es : List Entry) → p e ≡ p f
+    → any p (before ++ (e ∷ es)) ≡ any p (before ++ (f ∷ es))
 any-replace p [] e f es h = ap (λ (t : Bool). elim t [ true ↦ true | false ↦ any p es ]) h
 any-replace p (x ∷ before) e f es h = ap (λ (b : Bool). elim (p x) [ true ↦ true | false ↦ b ]) (any-replace p before e f es h)
 
@@ -66,7 +67,8 @@ pub record Still (t u : Image) (start : Cursor) (before : List Entry) (e : Spot)
   pub named : (x : Entry) → has-named 0xFC (rest u start .entries) x ≡ has-named 0xFC (rest t start .entries) x
   pub path : Path u start (before ++ (entry-of u e ∷ [])) behind
 
-pub rest-here : (image : Image) (c : Cursor) (e : Spot) (behind : Cursor) → advance image c ≡ Chain-step.Record e behind → rest image c .entries ≡ entry-of image e ∷ rest image behind .entries
+pub rest-here : (image : Image) (c : Cursor) (e : Spot) (behind : Cursor) → advance image c ≡ Chain-step.Record e behind
+    → rest image c .entries ≡ entry-of image e ∷ rest image behind .entries
 rest-here image c e behind h = ap (λ (r : Run). r .entries) (rest-step image c ∙ ap (λ (x : Chain-step). followed image x (rest image)) h)
 
 module _ (t : Image) (start c : Cursor) (before : List Entry) (e : Spot) (behind : Cursor)
@@ -103,8 +105,10 @@ module _ (t : Image) (start c : Cursor) (before : List Entry) (e : Spot) (behind
         let q : e .at ≡ 0 = w .1 .place in
         let f = stood-fits t e behind (turn (c .room) (c .held)) (w .1) in
         ap (λ (i : ℕ). advance (set t (i + 2) 0) c) q
-        ∙ (there-again t (set t (0 + 2) 0) c e behind (w .0) (window-kept t (0 + 2) 0 c (tidy-c .ordered) (inl (omega (arith, tidy-c .apart, f)))) (w .1)
-        (look-dropped t (turn (c .room) (c .held)) (e .n) (e .d) (w .1 .what) (omega arith) (ap (λ (k : ℕ). getD t (k + 2) 0) (sym q) ∙ old)) (finished 0 q)))
+        ∙ (there-again t (set t (0 + 2) 0) c e behind (w .0) (window-kept t (0 + 2) 0 c (tidy-c .ordered) (inl (omega (arith, tidy-c .apart, f))))
+            (w .1)
+        (look-dropped t (turn (c .room) (c .held)) (e .n) (e .d) (w .1 .what) (omega arith) (ap (λ (k : ℕ). getD t (k + 2) 0) (sym q) ∙ old))
+            (finished 0 q)))
         (way t e behind c h)
 
     behind-passed : Passed behind (e .at + 2)
@@ -135,7 +139,8 @@ module _ (t : Image) (start c : Cursor) (before : List Entry) (e : Spot) (behind
         let no : named-as 0xFC x (entry-of v e) ≡ named-as 0xFC x (entry-of t e) =
         ap (λ (b : Bool). b && same-name x (entry-of v e)) (unnamed 0xFC (entry-of v e) (λ q. omega (arith, status-now)))
         ∙ sym (ap (λ (b : Bool). b && same-name x (entry-of t e)) (unnamed 0xFC (entry-of t e) (λ q. omega (arith, status-was)))) in
-        ap (any (named-as 0xFC x)) new ∙ any-replace (named-as 0xFC x) before (entry-of v e) (entry-of t e) (rest t behind .entries) no ∙ sym (ap (any (named-as 0xFC x)) was)
+        ap (any (named-as 0xFC x)) new ∙ any-replace (named-as 0xFC x) before (entry-of v e) (entry-of t e) (rest t behind .entries) no
+            ∙ sym (ap (any (named-as 0xFC x)) was)
 
     still-dropped : Still t (set t (e .at + 2) 0) start before e behind
     still-dropped =
@@ -166,10 +171,12 @@ module _ {s t : Image} {start c : Cursor} {m q : Meter} (w : Dropping s start m 
       → Did t q (map delete-step (keep (superseded (rest t start .entries)) (entry-of t e ∷ []))) u r → Dropping s start m u behind r
   dropping-on {u} {r} e behind h k d =
       let p = superseded (rest s start .entries) in
-      let f : map delete-step (keep p (rest t c .entries)) ≡ map delete-step (keep (superseded (rest t start .entries)) (entry-of t e ∷ [])) ++ map delete-step (keep p (rest u behind .entries)) =
+      let f : map delete-step (keep p (rest t c .entries)) ≡ map delete-step (keep (superseded (rest t start .entries)) (entry-of t e ∷ [])) ++ map
+          delete-step (keep p (rest u behind .entries)) =
       ap (λ (l : List Entry). map delete-step (keep p l)) (rest-here t c e behind h)
       ∙ pick-first (p (entry-of t e)) (entry-of t e) (keep p (rest t behind .entries))
-      ∙ ap₂ (λ (b : Bool) (l : List Entry). map delete-step (pick b (entry-of t e) []) ++ map delete-step (keep p l)) (sym (judged (entry-of t e))) (sym (k .later)) in
+      ∙ ap₂ (λ (b : Bool) (l : List Entry). map delete-step (pick b (entry-of t e) []) ++ map delete-step (keep p l)) (sym (judged (entry-of t e)))
+          (sym (k .later)) in
       record {
         left = toward-more (w .left) f d;
         same = λ x. k .named x ∙ w .same x;
@@ -177,7 +184,8 @@ module _ {s t : Image} {start c : Cursor} {m q : Meter} (w : Dropping s start m 
         path = k .path;
       }
 
-  pub dropping-more : {u : Image} {r : Meter} (e : Spot) (behind : Cursor) → Tidy start → advance t c ≡ Chain-step.Record e behind → e .at + size-of (e .n) (e .d) ≤ length t
+  pub dropping-more : {u : Image} {r : Meter} (e : Spot) (behind : Cursor) → Tidy start → advance t c ≡ Chain-step.Record e behind
+      → e .at + size-of (e .n) (e .d) ≤ length t
       → Did t q (map delete-step (keep (superseded (rest t start .entries)) (entry-of t e ∷ []))) u r → Dropping s start m u behind r
   dropping-more {u} {r} e behind tidy h fits d = dropping-on e behind h (go _ refl) d where
     still : u ≡ t → Still t u start (w .before) e behind
@@ -189,13 +197,15 @@ module _ {s t : Image} {start c : Cursor} {m q : Meter} (w : Dropping s start m 
     go : (b : Bool) → superseded (rest t start .entries) (entry-of t e) ≡ b → Still t u start (w .before) e behind
     go true g =
         ⊎-elim
-        (λ (k : u ≡ set t (e .at + 2) 0). rw k (still-dropped t start c (w .before) e behind (w .path) tidy h fits (old-status t (rest t start .entries) e g)))
+        (λ (k : u ≡ set t (e .at + 2) 0). rw k
+            (still-dropped t start c (w .before) e behind (w .path) tidy h fits (old-status t (rest t start .entries) e g)))
         still
         (did-one (done true g))
     go false g = still (done false g .bytes ∙ ap (run t) (take-nil (q .allowance - q .asked)))
 
   pub dropping-end : (r : Chain-step) → r ≡ advance t c → Not-record r → Did s m (drop-steps (rest s start .entries)) t q
-  dropping-end r e z = toward-end (w .left) (ap (λ (x : Run). map delete-step (keep (superseded (rest s start .entries)) (x .entries))) (rest-done t c r e z))
+  dropping-end r e z =
+      toward-end (w .left) (ap (λ (x : Run). map delete-step (keep (superseded (rest s start .entries)) (x .entries))) (rest-done t c r e z))
 
 -- ---- from the head on
 
@@ -213,7 +223,8 @@ shown-entries s h es (Chain-step.Broken t w) = refl
 
 pub entries-of : (s : Image) (h : ℕ) → h ≤ length s → rest s (first-cursor s h) .entries ≡ reading-from s h .entries
 entries-of s h l =
-    sym (shown-entries s h (rest s (first-cursor s h) .entries) (rest s (first-cursor s h) .ending)) ∙ ap (λ (r : Reading). r .entries) (reading-is s h l)
+    sym (shown-entries s h (rest s (first-cursor s h) .entries) (rest s (first-cursor s h) .ending))
+        ∙ ap (λ (r : Reading). r .entries) (reading-is s h l)
 
 -- ---- one record, as the code finds it
 

@@ -98,7 +98,8 @@ module _ (image : List ℕ) where
   onward-ends c d (Step.TornWrap a) u o = o
   onward-ends c d (Step.Broken a w) u o = λ q. (u (o q .0) .0, omega (arith, u (o q .0) .1, o q .1))
 
-  by-step : (k : ℕ) (c : Cursor) (r : Step) → left c < suc k → Less c r → Ends image c r → ((d : Cursor) → left d < k → Closes image d (rest image d .ending))
+  by-step : (k : ℕ) (c : Cursor) (r : Step) → left c < suc k → Less c r → Ends image c r
+      → ((d : Cursor) → left d < k → Closes image d (rest image d .ending))
       → Closes image c (followed image r (rest image) .ending)
   by-step k c (Step.Record e next) h l o ih = onward-ends c next (rest image next .ending) o (ih next (omega arith))
   by-step k c (Step.End t w) h l o ih = o

@@ -43,7 +43,8 @@ module _ (s t : Image) (low : ℕ) (same : drop low t ≡ drop low s) where
   judged-by (suc k) a b h = go (leb (a + 4096) b) refl (judged-by k (a + 4096) b (omega arith)) where
     go : (c : Bool) → leb (a + 4096) b ≡ c → keep (dirty t) (sectors-by k (a + 4096) b) ≡ keep (dirty s) (sectors-by k (a + 4096) b)
         → keep (dirty t) (sectors-by (suc k) a b) ≡ keep (dirty s) (sectors-by (suc k) a b)
-    go true e ih = rw (sectors-by, e) (ap₂ (λ (c : Bool) (l : List ℕ). elim c [ true ↦ a ∷ l | false ↦ l ]) (dirty-same s t a (later-on low a s t h same)) ih)
+    go true e ih =
+        rw (sectors-by, e) (ap₂ (λ (c : Bool) (l : List ℕ). elim c [ true ↦ a ∷ l | false ↦ l ]) (dirty-same s t a (later-on low a s t h same)) ih)
     go false e ih = rw (sectors-by, e)
 
   judged : (a b : ℕ) → low ≤ a → keep (dirty t) (sectors a b) ≡ keep (dirty s) (sectors a b)
@@ -65,7 +66,9 @@ module _ (s : Image) (p : Place) where
       → Did t q (map erase (keep (dirty t) (sectors (ceiling (p .tail)) (p .length)))) u r → Did s m (erase-steps s p) u r
   run-unturned {t} e h k f g =
       let a : ℕ = ceiling (p .tail) in
-      let j : keep (dirty t) (sectors a (p .length)) ≡ keep (dirty s) (sectors a (p .length)) = judged s t (floor (p .head)) k a (p .length) (omega arith) in
+      let j : keep (dirty t) (sectors a (p .length)) ≡ keep (dirty s) (sectors a (p .length)) = judged s t (floor (p .head)) k a (p .length)
+          (omega arith) in
+      
       rw (run-both e, keep-both (dirty s) (sectors 0 (floor (p .head))) (sectors a (p .length))) (did-both f (rw j at g))
 
 -- ---- the head
@@ -85,7 +88,9 @@ module _ {s : Image} {h : ℕ} {v : Survey} (w : Seen s h v) where
     unfolding is-clean
     head-other e = steps-as false (sym (head-low (w .surveyed .tallied) n) ∙ ne-eqb (entry-of s (v .tally .first) .it .low) 0xA0 e)
 
-    pub head-cleaned : {t u : Image} {m q r : Meter} → entry-of s (v .tally .first) .it .low ≡ 0xA0 → Did s m (erase-steps s (v .place)) t q → Did t q (program h 0x00 ∷ []) u r
+    pub head-cleaned : {t u : Image} {m q r : Meter} → entry-of s (v .tally .first) .it .low ≡ 0xA0 → Did s m (erase-steps s (v .place)) t q
+        → Did t q (program h 0x00 ∷ []) u r
         → Did s m (steps-1 s (reading-from s h)) u r
     unfolding is-clean
-    head-cleaned e f g = rw (steps-as true (sym (head-low (w .surveyed .tallied) n) ∙ eq-eqb (entry-of s (v .tally .first) .it .low) 0xA0 e)) (did-both f g)
+    head-cleaned e f g =
+        rw (steps-as true (sym (head-low (w .surveyed .tallied) n) ∙ eq-eqb (entry-of s (v .tally .first) .it .low) 0xA0 e)) (did-both f g)

@@ -22,7 +22,8 @@ never e f = absurd (let z : _≡_ {A = ℕ} 0 1 = cc in omega arith)
 
 -- ---- the name's end
 
-name-kept : (k : ℕ) (held : Bool) (s t : List ℕ) (n : ℕ) → name-length k held s ≡ n → n < k → n < length t → ((i : ℕ) → i ≤ n → getD t i 0 ≡ getD s i 0)
+name-kept : (k : ℕ) (held : Bool) (s t : List ℕ) (n : ℕ) → name-length k held s ≡ n → n < k → n < length t
+    → ((i : ℕ) → i ≤ n → getD t i 0 ≡ getD s i 0)
     → name-length k held t ≡ n
 unfolding name-length
 name-kept zero held s t n e h l f = absurd (not-suc-le-zero h)
@@ -48,7 +49,8 @@ pub record Sized (s : List ℕ) (n' d' n d : ℕ) : Type 0 where
   pub short : n < 64
   pub fits : size-of n d ≤ length s
 
-sized-is : (s : List ℕ) (n' d' n d : ℕ) (t u : Bool) → ltb n' 64 ≡ t → long (size-of n' d') s ≡ u → sized s n' d' ≡ Next.Record n d → Sized s n' d' n d
+sized-is : (s : List ℕ) (n' d' n d : ℕ) (t u : Bool) → ltb n' 64 ≡ t → long (size-of n' d') s ≡ u → sized s n' d' ≡ Next.Record n d
+    → Sized s n' d' n d
 unfolding sized
 sized-is s n' d' n d true true e f h =
     let q : Next.Record n' d' ≡ Next.Record n d = rw (sized, e, f) at h in
@@ -71,13 +73,15 @@ module _ (s t : List ℕ) (n d : ℕ) (len : length t ≡ length s) (same : (i :
       name-kept 64 held (drop 8 s) (drop 8 t) n (w .name) (w .short) (rw length-drop (omega (arith, w .fits)))
       (λ i l. getD-drop 8 t i 0 ∙ same (8 + i) (omega arith) (omega arith) ∙ sym (getD-drop 8 s i 0)) in
       let b : data-len-of t ≡ d =
-      omega (arith, w .data-len, same 4 (omega arith) (omega arith), same 5 (omega arith) (omega arith), same 6 (omega arith) (omega arith), same 7 (omega arith) (omega arith)) in
+      omega (arith, w .data-len, same 4 (omega arith) (omega arith), same 5 (omega arith) (omega arith), same 6 (omega arith) (omega arith), same 7
+          (omega arith) (omega arith)) in
       ap₂ (sized t) a b ∙ sized-as t n d (w .short) (omega (arith, w .fits))
 
   torn-kept : (u v : Bool) → long 16 s ≡ u → is-name-begun (getD s 8 0) ≡ v → torn-at s ≡ Next.Record n d → torn-at t ≡ Next.Record n d
   unfolding torn-at
   torn-kept true true e f h =
-      rw (torn-at, long-le 16 t (omega (arith, long-true 16 s e)), ap is-name-begun (same 8 (omega arith) (omega arith)) ∙ f) (rw (torn-at, e, f) at h)
+      rw (torn-at, long-le 16 t (omega (arith, long-true 16 s e)), ap is-name-begun (same 8 (omega arith) (omega arith)) ∙ f)
+          (rw (torn-at, e, f) at h)
   torn-kept true false e f h = never (rw (torn-at, e, f)) h
   torn-kept false v e f h = never (rw (torn-at, e)) h
 
@@ -112,7 +116,8 @@ module _ (s t : List ℕ) (n d : ℕ) (len : length t ≡ length s) (same : (i :
       let l : 8 ≤ length s = long-true 8 s f in
       rw (next, long-le 1 t (omega arith), long-le 8 t (omega arith)) (ap (λ (x : Kind). next-at x t) k ∙ at-kept (kind-of s) (rw (next, e, f) at h))
 
-  pub next-kept : kind (low-of t) (high-of t) (status-of t) (spare-of t) ≡ kind (low-of s) (high-of s) (status-of s) (spare-of s) → next s ≡ Next.Record n d → next t ≡ Next.Record n d
+  pub next-kept : kind (low-of t) (high-of t) (status-of t) (spare-of t) ≡ kind (low-of s) (high-of s) (status-of s) (spare-of s)
+      → next s ≡ Next.Record n d → next t ≡ Next.Record n d
   next-kept k h = next-by _ _ refl refl k h
 
 -- F8 and 00 are both a finished record's

@@ -75,7 +75,8 @@ module _ (s : Image) (e : Spot) where
 
 -- ---- the last record, by the tally
 
-last-is : (s : Image) (t : Tally) (e : Entry) (es : List Entry) → Each (Stands s) (e ∷ es) → last-steps s (e ∷ es) ≡ void-steps s (entry-of s (tally t (e ∷ es) .last))
+last-is : (s : Image) (t : Tally) (e : Entry) (es : List Entry) → Each (Stands s) (e ∷ es)
+    → last-steps s (e ∷ es) ≡ void-steps s (entry-of s (tally t (e ∷ es) .last))
 unfolding last-steps noted
 last-is s t e [] f = ap (void-steps s) (sym (f .0))
 last-is s t e (g ∷ es) f = last-is s (noted t e) g es (f .1)
@@ -85,7 +86,8 @@ unfolding last-steps
 no-last s [] h = refl
 no-last s (e ∷ es) h = absurd (omega arith)
 
-some-last : (s : Image) (es : List Entry) → (length es ≡ 0 → ⊥) → Each (Stands s) es → last-steps s es ≡ void-steps s (entry-of s (tally none-yet es .last))
+some-last : (s : Image) (es : List Entry) → (length es ≡ 0 → ⊥) → Each (Stands s) es
+    → last-steps s es ≡ void-steps s (entry-of s (tally none-yet es .last))
 some-last s [] h f = absurd (h refl)
 some-last s (e ∷ es) h f = last-is s none-yet e es f
 
@@ -95,7 +97,8 @@ module _ {s : Image} {c : Cursor} {t : Tally} (w : Tallied s c t) where
 
   pub last-counted : (t .records ≡ 0 → ⊥) → last-steps s (rest s c .entries) ≡ void-steps s (entry-of s (t .last))
   last-counted h =
-      some-last s (rest s c .entries) (λ q. h (count-is w ∙ q)) (faithful s c (w .sound)) ∙ ap (λ (u : Tally). void-steps s (entry-of s (u .last))) (sym (w .same))
+      some-last s (rest s c .entries) (λ q. h (count-is w ∙ q)) (faithful s c (w .sound))
+          ∙ ap (λ (u : Tally). void-steps s (entry-of s (u .last))) (sym (w .same))
 
 -- ---- the whole repair
 

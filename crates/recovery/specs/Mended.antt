@@ -39,10 +39,14 @@ module _ (image : Image) (h : ℕ) where
 
   module _ (l : h ≤ length image) where
     pub place-head : reading-from image h .place .head ≡ h
-    place-head = ap (λ (r : Reading). r .place .head) (sym (reading-is image h l)) ∙ shown-head (rest image (first-cursor image h) .entries) (rest image (first-cursor image h) .ending)
+    place-head =
+        ap (λ (r : Reading). r .place .head) (sym (reading-is image h l))
+            ∙ shown-head (rest image (first-cursor image h) .entries) (rest image (first-cursor image h) .ending)
 
     pub place-length : reading-from image h .place .length ≡ length image
-    place-length = ap (λ (r : Reading). r .place .length) (sym (reading-is image h l)) ∙ shown-length (rest image (first-cursor image h) .entries) (rest image (first-cursor image h) .ending)
+    place-length =
+        ap (λ (r : Reading). r .place .length) (sym (reading-is image h l))
+            ∙ shown-length (rest image (first-cursor image h) .entries) (rest image (first-cursor image h) .ending)
 
 -- ---- repair 2 moves the head only with a step
 
@@ -56,7 +60,8 @@ close-filled N x y =
     right-filled (clean-steps (length (content-of x)) (data-at x) (content-of x)) (vacate-steps x y (vacated N x y))
     (right-filled (map erase (vacated N x y)) (program (y .at) 0x00 ∷ forget-steps x (vacated N x y)) refl)
 
-pair-moves : (N h : ℕ) (x y : Entry) (t u : Bool) → is-clean (y .it .low) ≡ t → is-start (y .it .low) ≡ u → (empty (pair-steps N x y) ≡ false) ⊎ (pair-head h y ≡ h)
+pair-moves : (N h : ℕ) (x y : Entry) (t u : Bool) → is-clean (y .it .low) ≡ t → is-start (y .it .low) ≡ u
+    → (empty (pair-steps N x y) ≡ false) ⊎ (pair-head h y ≡ h)
 unfolding pair-steps pair-head
 pair-moves N h x y true u e f = inl (rw (pair-steps, e) (close-filled N x y))
 pair-moves N h x y false true e f = inl (rw (pair-steps, e, f))
@@ -101,7 +106,9 @@ module _ {s t : Image} {m r : Meter} {w : Work} {h : ℕ} (v : Mending s m w t h
 
   module _ (l : r .allowance < r .asked) (j : ℕ) where
     pub skipped-2 : Mending s m (repair-2-on w) t j r
-    skipped-2 = rw (repair-2-is w h (w .reading .entries)) (mending-stop v (steps-2 (w .reading .place .length) (w .reading .entries)) (head-2 h (w .reading .entries)) j l)
+    skipped-2 =
+        rw (repair-2-is w h (w .reading .entries))
+            (mending-stop v (steps-2 (w .reading .place .length) (w .reading .entries)) (head-2 h (w .reading .entries)) j l)
 
     pub skipped-3 : Mending s m (repair-3 w) t j r
     skipped-3 = rw (repair-3-is w) (mending-stop v (steps-3 (w .image) (w .reading)) (w .reading .place .head) j l)
@@ -114,6 +121,7 @@ module _ {s t : Image} {m r : Meter} {w : Work} {h : ℕ} (v : Mending s m w t h
 pub record Mends (s : Image) (h : ℕ) (m : Meter) (t : Image) (k : ℕ) (r : Meter) : Type 0 where
   pub mending : Mending s m (mended s (reading-from s h)) t k r
 
-pub all-four : {s t : Image} {h k : ℕ} {m r : Meter} → Mending s m (repair-4 (repair-3 (repair-2-on (repair-1 (begin s (reading-from s h)))))) t k r → Mends s h m t k r
+pub all-four : {s t : Image} {h k : ℕ} {m r : Meter} → Mending s m (repair-4 (repair-3 (repair-2-on (repair-1 (begin s (reading-from s h)))))) t k r
+    → Mends s h m t k r
 unfolding mended
 all-four v = record { mending = v }

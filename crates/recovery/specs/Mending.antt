@@ -63,7 +63,9 @@ module _ {s t : Image} {m r : Meter} {w : Work} {h : ℕ} (v : Mending s m w t h
   mending-more {u} {q} (x ∷ ss) k l d o =
       let all : Did s m (w .steps) t r = record { bytes = v .bytes; count = v .done l .count; same = v .same } in
       let both : Did s m (w .steps ++ (x ∷ ss)) u q = did-both all d in
-      let left : q .asked ≤ q .allowance → run (w .image) (x ∷ ss) ≡ u = λ b. ap (λ (i : Image). run i (x ∷ ss)) (v .done l .image) ∙ sym (did-all d b) in
+      let left : q .asked ≤ q .allowance → run (w .image) (x ∷ ss) ≡ u = λ b. ap (λ (i : Image). run i (x ∷ ss)) (v .done l .image)
+          ∙ sym (did-all d b) in
+      
       record {
         bytes = both .bytes;
         same = both .same;
@@ -76,7 +78,9 @@ module _ {s t : Image} {m r : Meter} {w : Work} {h : ℕ} (v : Mending s m w t h
   mending-stop ss k j l =
       let c : m .allowance < m .asked + length (w .steps) = v .cut l in
       record {
-        bytes = v .bytes ∙ ap (run s) (sym (ap (take (m .allowance - m .asked)) (after-steps w ss k) ∙ take-append-le (m .allowance - m .asked) (w .steps) ss (omega arith)));
+        bytes =
+            v .bytes ∙ ap (run s) (sym
+                (ap (take (m .allowance - m .asked)) (after-steps w ss k) ∙ take-append-le (m .allowance - m .asked) (w .steps) ss (omega arith)));
         same = v .same;
         done = λ b. absurd (omega arith);
         cut = λ b. omega (arith, ap length (after-steps w ss k) ∙ length-append (w .steps) ss);

@@ -64,14 +64,16 @@ module _ {s : Image} {h : ℕ} {v : Survey} (w : Seen s h v) where
   entries-are = sym (ap (λ (r : Reading). r .entries) (w .same))
 
   handed-by : {m r : Meter} {t : Image} (ss : List Step) (head : ℕ) → Did s m ss t r
-      → (steps-2 (length s) (rest s (first-cursor s (v .place .head)) .entries) ≡ ss) × (head-2 h (rest s (first-cursor s (v .place .head)) .entries) ≡ head)
+      → (steps-2 (length s) (rest s (first-cursor s (v .place .head)) .entries) ≡ ss)
+          × (head-2 h (rest s (first-cursor s (v .place .head)) .entries) ≡ head)
       → Handed s h m t head r
   handed-by ss head d e =
       record { did = rw (ap (steps-2 (length s)) entries-are ∙ e .0) d; handed = sym (ap (head-2 h) entries-are ∙ e .1) }
 
   pub handed-few : {m : Meter} → v .tally .records < 2 → Handed s h m s h m
   handed-few {m} l =
-      handed-by [] h (did-none s m) (few (length s) h (rest s (first-cursor s (v .place .head)) .entries) (omega (arith, count-is (w .surveyed .tallied))))
+      handed-by [] h (did-none s m)
+          (few (length s) h (rest s (first-cursor s (v .place .head)) .entries) (omega (arith, count-is (w .surveyed .tallied))))
 
   module _ (l : 2 ≤ v .tally .records) where
     x : Entry
@@ -87,19 +89,24 @@ module _ {s : Image} {h : ℕ} {v : Survey} (w : Seen s h v) where
         two s (length s) h (rest s (first-cursor s (v .place .head)) .entries) (v .tally) (w .surveyed .tallied .same)
         (faithful s (first-cursor s (v .place .head)) (w .surveyed .tallied .sound)) (omega (arith, count-is (w .surveyed .tallied)))
 
-    handed-pair : {m r : Meter} {t : Image} (ss : List Step) (head : ℕ) → Did s m ss t r → (pair-steps (length s) x y ≡ ss) × (pair-head h y ≡ head) → Handed s h m t head r
+    handed-pair : {m r : Meter} {t : Image} (ss : List Step) (head : ℕ) → Did s m ss t r → (pair-steps (length s) x y ≡ ss) × (pair-head h y ≡ head)
+        → Handed s h m t head r
     handed-pair ss head d e = handed-by ss head d (both .0 ∙ e .0, both .1 ∙ e .1)
 
     pub handed-clean : {m r : Meter} {t : Image} → entry-of s (v .tally .second) .it .low ≡ 0xA0
-        → Did s m (close-steps (length s) (entry-of s (v .tally .first)) (entry-of s (v .tally .second))) t r → Handed s h m t (v .tally .second .at) r
+        → Did s m (close-steps (length s) (entry-of s (v .tally .first)) (entry-of s (v .tally .second))) t r
+            → Handed s h m t (v .tally .second .at) r
     unfolding x y is-clean
     handed-clean e d = handed-pair _ _ d (pair-by (length s) h x y true _ (eq-eqb (y .it .low) 0xA0 e) refl)
 
     pub handed-start : {m r : Meter} {t : Image} → entry-of s (v .tally .second) .it .low ≡ 0x00
         → Did s m (program (v .tally .first .at + 1) 0x00 ∷ []) t r → Handed s h m t (v .tally .second .at) r
     unfolding x y is-clean is-start
-    handed-start e d = handed-pair _ _ d (pair-by (length s) h x y false true (ne-eqb (y .it .low) 0xA0 (λ q. omega arith)) (eq-eqb (y .it .low) 0x00 e))
+    handed-start e d =
+        handed-pair _ _ d (pair-by (length s) h x y false true (ne-eqb (y .it .low) 0xA0 (λ q. omega arith)) (eq-eqb (y .it .low) 0x00 e))
 
-    pub handed-plain : {m : Meter} → (entry-of s (v .tally .second) .it .low ≡ 0xA0 → ⊥) → (entry-of s (v .tally .second) .it .low ≡ 0x00 → ⊥) → Handed s h m s h m
+    pub handed-plain : {m : Meter} → (entry-of s (v .tally .second) .it .low ≡ 0xA0 → ⊥) → (entry-of s (v .tally .second) .it .low ≡ 0x00 → ⊥)
+        → Handed s h m s h m
     unfolding x y is-clean is-start
-    handed-plain {m} e f = handed-pair [] h (did-none s m) (pair-by (length s) h x y false false (ne-eqb (y .it .low) 0xA0 e) (ne-eqb (y .it .low) 0x00 f))
+    handed-plain {m} e f =
+        handed-pair [] h (did-none s m) (pair-by (length s) h x y false false (ne-eqb (y .it .low) 0xA0 e) (ne-eqb (y .it .low) 0x00 f))

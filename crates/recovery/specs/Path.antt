@@ -22,7 +22,8 @@ use Rattle.recovery.specs.Trail.{Stood, way, stood-fits, Tidy, Ahead, Of
 
 pub data Path (image : Image) : Cursor → List Entry → Cursor → Type 0 where
   here : {c : Cursor} → Path image c [] c
-  there : {c behind d : Cursor} {es : List Entry} (e : Spot) → advance image c ≡ Step.Record e behind → Path image behind es d → Path image c (entry-of image e ∷ es) d
+  there : {c behind d : Cursor} {es : List Entry} (e : Spot) → advance image c ≡ Step.Record e behind → Path image behind es d
+      → Path image c (entry-of image e ∷ es) d
 
 pub path-snoc : {image : Image} {c d behind : Cursor} {es : List Entry} (e : Spot) → Path image c es d → advance image d ≡ Step.Record e behind
     → Path image c (es ++ (entry-of image e ∷ [])) behind
@@ -32,7 +33,8 @@ path-snoc e (there f g p) h = there f g (path-snoc e p h)
 pub rest-path : {image : Image} {c d : Cursor} {es : List Entry} → Path image c es d → rest image c .entries ≡ es ++ rest image d .entries
 rest-path here = refl
 rest-path {image} {c} (there e h p) =
-    ap (λ (r : Run). r .entries) (rest-step image c ∙ ap (λ (x : Step). followed image x (rest image)) h) ∙ ap (λ (l : List Entry). entry-of image e ∷ l) (rest-path p)
+    ap (λ (r : Run). r .entries) (rest-step image c ∙ ap (λ (x : Step). followed image x (rest image)) h)
+        ∙ ap (λ (l : List Entry). entry-of image e ∷ l) (rest-path p)
 
 pub path-tidy : {image : Image} {c d : Cursor} {es : List Entry} → Path image c es d → Tidy c → Tidy d
 path-tidy here t = t
@@ -53,7 +55,8 @@ module _ (s : Image) (a b : ℕ) where
     low-there : Stood s (turn (c .room) (c .held)) (look s (turn (c .room) (c .held))) e behind → (size-of (e .n) (e .d) ≤ a) × (a < c .room)
     low-there w =
         ⊎-elim
-        (λ (p : (behind .at ≤ a) × (a < behind .end)). (omega (arith, ap (λ (z : Cursor). z .at) (w .moved)), omega (arith, ap (λ (z : Cursor). z .end) (w .moved))))
+        (λ (p : (behind .at ≤ a) × (a < behind .end)).
+            (omega (arith, ap (λ (z : Cursor). z .at) (w .moved)), omega (arith, ap (λ (z : Cursor). z .end) (w .moved))))
         (λ (p : a < behind .room). absurd (omega (arith, ap (λ (z : Cursor). z .room) (w .moved))))
         o
 
@@ -74,7 +77,8 @@ module _ (s : Image) (a b : ℕ) where
     pub passed-kept : entry-of (set s a b) e ≡ entry-of s e
     passed-kept =
         ⊎-elim
-        (λ w. entry-kept s a b e (⊎-elim (λ (u : a < c .at). inl (omega (arith, w .1 .place))) (λ (u : c .at + size-of (e .n) (e .d) ≤ a). inr (omega (arith, w .1 .place))) (off-here (w .1))))
+        (λ w. entry-kept s a b e (⊎-elim (λ (u : a < c .at). inl (omega (arith, w .1 .place)))
+            (λ (u : c .at + size-of (e .n) (e .d) ≤ a). inr (omega (arith, w .1 .place))) (off-here (w .1))))
         (λ w. entry-kept s a b e (inr (omega (arith, w .1 .place, low-there (w .1) .0))))
         (way s e behind c h)
 
@@ -128,13 +132,18 @@ module _ (s : Image) (a b : ℕ) where
         (λ w.
         let f = stood-fits s e behind c (w .1) in
         ⊎-elim
-        (λ (u : a < c .at). (rw (w .1 .moved) (record { before = inl (omega arith); low = p .low }), entry-kept s a b e (inl (omega (arith, w .1 .place)))))
+        (λ (u : a < c .at). (rw (w .1 .moved) (record {
+          before = inl (omega arith);
+          low = p .low;
+        }), entry-kept s a b e (inl (omega (arith, w .1 .place)))))
         (λ (u : c .at + (c .end - c .at) ≤ a).
-        (rw (w .1 .moved) (record { before = inr (omega (arith, t .ordered, f)); low = p .low }), entry-kept s a b e (inr (omega (arith, w .1 .place, f)))))
+        (rw (w .1 .moved) (record { before = inr (omega (arith, t .ordered, f)); low = p .low }), entry-kept s a b e
+            (inr (omega (arith, w .1 .place, f)))))
         (p .before))
         (λ w.
         let f = stood-fits s e behind (turn (c .room) (c .held)) (w .1) in
-        (rw (w .1 .moved) (record { before = inr (omega (arith, p .low, f)); low = omega arith }), entry-kept s a b e (inr (omega (arith, w .1 .place, p .low, f)))))
+        (rw (w .1 .moved) (record { before = inr (omega (arith, p .low, f)); low = omega arith }), entry-kept s a b e
+            (inr (omega (arith, w .1 .place, p .low, f)))))
         (way s e behind c h)
 
   by-step : (k : ℕ) (c : Cursor) (r : Step) → advance s c ≡ r → Tidy c → Passed c a → left c < suc k → Less c r

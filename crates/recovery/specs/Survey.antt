@@ -45,8 +45,10 @@ survey-of N h (Step.TornWrap a) t = told N h 0 true (Ending.TornWrap a) t
 survey-of N h (Step.Broken tail turned) t = told N h tail turned Ending.Broken t
 
 module _ (image : Image) (h : ℕ) (l : h ≤ length image) (small : length image ≤ 2 ^ 24) (c : Cursor) (p : Pass)
-    (e : c ≡ first-cursor image h) (q : p ≡ passed none-yet (rest image c)) (spots : Spots image (p .tally)) (inside : End-inside image (p .end)) where
-  by-end : (s : Step) → p .end ≡ s → End-inside image s → Closes image (first-cursor image h) s → Seen image h (survey-of (length image) h s (p .tally))
+    (e : c ≡ first-cursor image h) (q : p ≡ passed none-yet (rest image c)) (spots : Spots image (p .tally)) (inside : End-inside image (p .end))
+        where
+  by-end : (s : Step) → p .end ≡ s → End-inside image s → Closes image (first-cursor image h) s
+      → Seen image h (survey-of (length image) h s (p .tally))
   by-end (Step.Record x d) f i o = absurd o
   by-end (Step.End t w) f i o =
       record {

@@ -35,7 +35,8 @@ module _ (image : Image) (e : Spot) (behind : Cursor) where
   torn-other : (v : Cursor) (t : Bool) → ltb 0 (v .room) ≡ t → torn-end (v .room) (v .turned) (v .at) ≡ Step.Record e behind → ⊥
   unfolding torn-end
   torn-other v true f h = let q : Step.TornWrap (v .at) ≡ Step.Record e behind = rw (torn-end, f) at h in let z : _≡_ {A = ℕ} 0 1 = cc in omega arith
-  torn-other v false f h = let q : Step.Broken (v .at) (v .turned) ≡ Step.Record e behind = rw (torn-end, f) at h in let z : _≡_ {A = ℕ} 0 1 = cc in omega arith
+  torn-other v false f h =
+      let q : Step.Broken (v .at) (v .turned) ≡ Step.Record e behind = rw (torn-end, f) at h in let z : _≡_ {A = ℕ} 0 1 = cc in omega arith
 
   stood : (v : Cursor) (x : Next) → settle image v x ≡ Step.Record e behind → Stood image v x e behind
   stood v (Next.Record n d) h =
@@ -87,14 +88,18 @@ module _ (image : Image) (c : Cursor) (e : Spot) (behind : Cursor) (tidy : Tidy 
   pub tidy-next : Tidy behind
   tidy-next =
       ⊎-elim
-      (λ w. rw (w .1 .moved) (record { ordered = omega (arith, tidy .ordered, stood-fits image e behind c (w .1)); apart = omega (arith, tidy .apart) }))
+      (λ w. rw (w .1 .moved) (record {
+        ordered = omega (arith, tidy .ordered, stood-fits image e behind c (w .1));
+        apart = omega (arith, tidy .apart);
+      }))
       (λ w. rw (w .1 .moved) (record { ordered = omega (arith, stood-fits image e behind (turn (c .room) (c .held)) (w .1)); apart = omega arith }))
       (way image e behind c h)
 
   pub ahead-back : (a : ℕ) → Ahead behind a → Ahead c a
   ahead-back a o =
       ⊎-elim
-      (λ w. ⊎-elim (λ (p : (behind .at ≤ a) × (a < behind .end)). inl (omega (arith, ap (λ (z : Cursor). z .at) (w .1 .moved)), omega (arith, ap (λ (z : Cursor). z .end) (w .1 .moved))))
+      (λ w. ⊎-elim (λ (p : (behind .at ≤ a) × (a < behind .end)). inl
+          (omega (arith, ap (λ (z : Cursor). z .at) (w .1 .moved)), omega (arith, ap (λ (z : Cursor). z .end) (w .1 .moved))))
       (λ (p : a < behind .room). inr (omega (arith, ap (λ (z : Cursor). z .room) (w .1 .moved)))) o)
       (λ w. inr (⊎-elim (λ (p : (behind .at ≤ a) × (a < behind .end)). omega (arith, ap (λ (z : Cursor). z .end) (w .1 .moved)))
       (λ (p : a < behind .room). absurd (omega (arith, ap (λ (z : Cursor). z .room) (w .1 .moved)))) o))
@@ -122,7 +127,8 @@ module _ (s : Image) (a b : ℕ) where
   entry-kept e o =
       let z : ℕ = size-of (e .n) (e .d) in
       ap (λ (x : Rec). record { at = e .at; it = x })
-      (sym (rec-part z (e .n) (e .d) (drop (e .at) (set s a b)) (omega arith)) ∙ ap (λ (l : List ℕ). rec-of l (e .n) (e .d)) (part-kept (e .at) z o) ∙ rec-part z (e .n) (e .d) (drop (e .at) s) (omega arith))
+      (sym (rec-part z (e .n) (e .d) (drop (e .at) (set s a b)) (omega arith)) ∙ ap (λ (l : List ℕ). rec-of l (e .n) (e .d)) (part-kept (e .at) z o)
+          ∙ rec-part z (e .n) (e .d) (drop (e .at) s) (omega arith))
 
   pub unfinished-kept : (i : ℕ) → (i + 2 ≡ a → ⊥) → unfinished-at (set s a b) i ≡ unfinished-at s i
   unfinished-kept i h = ap is-unfinished (getD-drop i (set s a b) 2 0 ∙ getD-set-other s a (i + 2) b 0 h ∙ sym (getD-drop i s 2 0))
@@ -136,7 +142,8 @@ module _ (s : Image) (a b : ℕ) where
   window-long : (c : Cursor) → length (window (set s a b) c) ≡ length (window s c)
   window-long c = simp (length-drop, length-take, length-set)
 
-allowed-record : (held : Bool) (x : Next) (n d : ℕ) → allowed held x ≡ Next.Record n d → (x ≡ Next.Record n d) × ((y : Next) → y ≡ Next.Record n d → allowed held y ≡ Next.Record n d)
+allowed-record : (held : Bool) (x : Next) (n d : ℕ) → allowed held x ≡ Next.Record n d → (x ≡ Next.Record n d)
+    × ((y : Next) → y ≡ Next.Record n d → allowed held y ≡ Next.Record n d)
 allowed-record false x n d h = (h, λ y e. e)
 allowed-record true (Next.Record m l) n d h = absurd (let z : _≡_ {A = ℕ} 0 1 = cc in omega arith)
 allowed-record true Next.Wrap n d h = absurd (let z : _≡_ {A = ℕ} 0 1 = cc in omega arith)
@@ -154,8 +161,12 @@ module _ (s : Image) (c : Cursor) (n d : ℕ) (h : look s c ≡ Next.Record n d)
   unfolding look
   look-kept a b o =
       let p = allowed-record (c .held) (next (window s c)) n d h in
-      let off : (i : ℕ) → i < size-of n d → c .at + i ≡ a → ⊥ = λ i l q. ⊎-elim (λ (u : a < c .at). omega arith) (λ (u : c .at + size-of n d ≤ a). omega arith) o in
-      let same : (i : ℕ) → i < size-of n d → getD (window (set s a b) c) i 0 ≡ getD (window s c) i 0 = λ i l. byte-kept s a b c i (omega (arith, fits)) (off i l) in
+      let off : (i : ℕ) → i < size-of n d → c .at + i ≡ a
+          → ⊥ = λ i l q. ⊎-elim (λ (u : a < c .at). omega arith) (λ (u : c .at + size-of n d ≤ a). omega arith) o in
+      
+      let same : (i : ℕ) → i < size-of n d
+          → getD (window (set s a b) c) i 0 ≡ getD (window s c) i 0 = λ i l. byte-kept s a b c i (omega (arith, fits)) (off i l) in
+      
       p .1 (next (window (set s a b) c))
       (next-kept (window s c) (window (set s a b) c) n d (window-long s a b c) (λ i g l. same i l)
       (rw (same 0 (omega arith), same 1 (omega arith), same 2 (omega arith), same 3 (omega arith))) (p .0))
@@ -167,7 +178,9 @@ module _ (s : Image) (c : Cursor) (n d : ℕ) (h : look s c ≡ Next.Record n d)
       let a : ℕ = c .at + 2 in
       let t : Image = set s a 0 in
       let p = allowed-record (c .held) (next (window s c)) n d h in
-      let same : (i : ℕ) → i < size-of n d → (i ≡ 2 → ⊥) → getD (window t c) i 0 ≡ getD (window s c) i 0 = λ i g o. byte-kept s a 0 c i (omega (arith, fits)) (λ q. o (omega arith)) in
+      let same : (i : ℕ) → i < size-of n d → (i ≡ 2 → ⊥)
+          → getD (window t c) i 0 ≡ getD (window s c) i 0 = λ i g o. byte-kept s a 0 c i (omega (arith, fits)) (λ q. o (omega arith)) in
+      
       let now : status-of (window t c) ≡ 0 =
       getD-drop (c .at) (take (c .end) t) 2 0 ∙ getD-take (c .end) t a 0 (omega (arith, fits)) ∙ getD-set-same s a 0 0 l in
       let was : status-of (window s c) ≡ 0xF8 = getD-drop (c .at) (take (c .end) s) 2 0 ∙ getD-take (c .end) s a 0 (omega (arith, fits)) ∙ f in
@@ -178,13 +191,16 @@ module _ (s : Image) (c : Cursor) (n d : ℕ) (h : look s c ≡ Next.Record n d)
 
 -- ---- the step is the same
 
-resettled : (s t : Image) (v : Cursor) (x : Next) (e : Spot) (behind : Cursor) → Stood s v x e behind → look t v ≡ Next.Record (e .n) (e .d) → unfinished-at t (v .at) ≡ unfinished-at s (v .at)
+resettled : (s t : Image) (v : Cursor) (x : Next) (e : Spot) (behind : Cursor) → Stood s v x e behind → look t v ≡ Next.Record (e .n) (e .d)
+    → unfinished-at t (v .at) ≡ unfinished-at s (v .at)
     → settle t v (look t v) ≡ Step.Record e behind
 resettled s t v x e behind w l u =
     ap (settle t v) l
-    ∙ ap₂ Step.Record (ap (λ (i : ℕ). record { at = i; n = e .n; d = e .d }) (sym (w .place))) (ap (past v (size-of (e .n) (e .d))) u ∙ sym (w .moved))
+    ∙ ap₂ Step.Record (ap (λ (i : ℕ). record { at = i; n = e .n; d = e .d }) (sym (w .place)))
+        (ap (past v (size-of (e .n) (e .d))) u ∙ sym (w .moved))
 
-pub here-again : (s t : Image) (c : Cursor) (e : Spot) (behind : Cursor) → Stood s c (look s c) e behind → look t c ≡ Next.Record (e .n) (e .d) → unfinished-at t (c .at) ≡ unfinished-at s (c .at)
+pub here-again : (s t : Image) (c : Cursor) (e : Spot) (behind : Cursor) → Stood s c (look s c) e behind → look t c ≡ Next.Record (e .n) (e .d)
+    → unfinished-at t (c .at) ≡ unfinished-at s (c .at)
     → advance t c ≡ Step.Record e behind
 here-again s t c e behind w l u = advance-here t c (ap (goes-on (c .room)) l) ∙ resettled s t c (look s c) e behind w l u
 

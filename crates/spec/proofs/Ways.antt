@@ -40,7 +40,8 @@ pub after-as : (p : Place) (s a : ℕ) (t : Bool) → fits-at-tail p s ≡ t →
 unfolding place-after
 after-as p s a t e ea = ap₂ (λ (n : ℕ) (b : Bool). with-tail p (n + s) (p .turned || not b)) ea e
 
-placed-as : (p : Place) (s a : ℕ) (k : Bool) (q : Place) → fits p s ≡ true → address p s ≡ a → with-marker p s ≡ k → place-after p s ≡ q → placed p s ≡ At a k q
+placed-as : (p : Place) (s a : ℕ) (k : Bool) (q : Place) → fits p s ≡ true → address p s ≡ a → with-marker p s ≡ k → place-after p s ≡ q
+    → placed p s ≡ At a k q
 unfolding placed
 placed-as p s a k q e ea ek eq = rw (e, placed) (cc)
 

@@ -84,7 +84,8 @@ module _ (room : ℕ) (s : List ℕ) where
   at-plain Kind.Clear p = absurd p
   at-plain Kind.Bad p = refl
 
-  next-plain : (u : Bool) → Plain (kind (low-of s) (high-of s) (status-of s) (spare-of s)) → long 1 s ≡ true → long 8 s ≡ u → goes-on room (next s) ≡ false
+  next-plain : (u : Bool) → Plain (kind (low-of s) (high-of s) (status-of s) (spare-of s)) → long 1 s ≡ true → long 8 s ≡ u
+      → goes-on room (next s) ≡ false
   unfolding next
   next-plain true p e f = rw (next, e, f) (at-plain (kind (low-of s) (high-of s) (status-of s) (spare-of s)) p)
   next-plain false p e f = rw (next, e, f)
@@ -103,7 +104,8 @@ module _ (image : Image) (h : ℕ) (l : h < length image) (b : Low (getD image h
       let s : List ℕ = drop h image in
       let e : low-of s ≡ getD image h 0 = getD-drop h image 0 0 ∙ ap (λ (i : ℕ). getD image i 0) (add-zero h) in
       ap (λ (t : List ℕ). goes-on (floor h) (next (drop h t))) (take-length image)
-      ∙ next-plain (floor h) s _ (low-plain (high-of s) (status-of s) (spare-of s) (low-of s) (rw e b)) (one-long s (rw length-drop (omega arith))) refl
+      ∙ next-plain (floor h) s _ (low-plain (high-of s) (status-of s) (spare-of s) (low-of s) (rw e b)) (one-long s (rw length-drop (omega arith)))
+          refl
 
   from-here : (d : Cursor) → From image (first-cursor image h) d → d ≡ first-cursor image h
   from-here d here = refl
@@ -138,4 +140,5 @@ module _ (image : Image) (h : ℕ) (l : h < length image) (b : Low (getD image h
       go k (turned g) e = inr (omega (arith, first-at, room-left (c .room) (look image c) g, ap (λ (v : Cursor). v .room) past-first))
 
     pub second-even : h % 8 ≡ 0 → (y : Spot) (d : Cursor) → Reached image c y d → y .at % 8 ≡ 0
-    second-even e y d q = ap (λ (i : ℕ). i % 8) (q .at) ∙ from-on image (length image) h (h + size-of (x .n) (x .d)) c (q .seen) (q .from) (past-on-way e) .even
+    second-even e y d q =
+        ap (λ (i : ℕ). i % 8) (q .at) ∙ from-on image (length image) h (h + size-of (x .n) (x .d)) c (q .seen) (q .from) (past-on-way e) .even

@@ -71,7 +71,8 @@ close-low s N x y h =
 -- ---- how the code comes to it
 
 module _ {s : Image} {h : ℕ} (w : Led s h) (m : Meter) where
-  none-handed : (es : List Entry) → reading-from s h .entries ≡ es → hand-head h es ≡ h → ((N : ℕ) → hand-steps N es ≡ []) → Handed s h m s (record { head = h; meter = m })
+  none-handed : (es : List Entry) → reading-from s h .entries ≡ es → hand-head h es ≡ h → ((N : ℕ) → hand-steps N es ≡ [])
+      → Handed s h m s (record { head = h; meter = m })
   unfolding handing heading
   none-handed es e b f =
       record {
@@ -81,7 +82,8 @@ module _ {s : Image} {h : ℕ} (w : Led s h) (m : Meter) where
         few = omega arith;
       }
 
-  pub hand-none : {k : Cursor} (q : chain.Step) → k ≡ first-cursor s h → q ≡ advance s k → Not-record q → Handed s h m s (record { head = h; meter = m })
+  pub hand-none : {k : Cursor} (q : chain.Step) → k ≡ first-cursor s h → q ≡ advance s k → Not-record q
+      → Handed s h m s (record { head = h; meter = m })
   hand-none q f e z =
       none-handed [] (entries-are s h w ∙ ap (λ (r : Run). r .entries) (rest-done s (first-cursor s h) q (e ∙ ap (advance s) f) z)) refl (λ N. refl)
 
@@ -111,7 +113,8 @@ module _ {s : Image} {h : ℕ} (w : Led s h) (m : Meter) where
       same-close {v} l g =
           let a : ℕ = x .at + 8 + up8 (x .n + 1) in
           close-is v x y (record { fits = omega (arith, t .turned .whole .fits) })
-          ∙ ap₂ (λ (own : List ℕ) (N : ℕ). clean-steps (x .d) a own ++ leave-steps (x .at) (y .at) (sectors (floor (x .at)) (end-before N (y .at)))) (same-data g) l
+          ∙ ap₂ (λ (own : List ℕ) (N : ℕ). clean-steps (x .d) a own ++ leave-steps (x .at) (y .at) (sectors (floor (x .at)) (end-before N (y .at))))
+              (same-data g) l
           ∙ sym (close-is s x y (t .turned .whole))
 
       handing-is : handing s h ≡ program (y .at) 0xA0 ∷ close-steps (length s) (entry-of s x) (entry-of s y)
@@ -128,14 +131,19 @@ module _ {s : Image} {h : ℕ} (w : Led s h) (m : Meter) where
       hand-two {v} {z} {a} {q} l k g i b =
           let did : Did s m (handing s h) z q = rw handing-is (did-both g (rw (same-close l g) at i)) in
           let low : q .asked ≤ q .allowance → getD z (y .at) 0 ≡ 0 = λ n.
-          let j : z ≡ run (run s (program (y .at) 0xA0 ∷ [])) (close-steps (length s) (entry-of s x) (entry-of s y)) = did-all did n ∙ ap (run s) handing-is in
-          ap (λ (i : Image). getD i (y .at) 0) j ∙ close-low (run s (program (y .at) 0xA0 ∷ [])) (length s) (entry-of s x) (entry-of s y) (omega (arith, ap length j, u .turned .whole .fits)) in
+          let j : z ≡ run (run s (program (y .at) 0xA0 ∷ [])) (close-steps (length s) (entry-of s x) (entry-of s y)) = did-all did n
+              ∙ ap (run s) handing-is in
+          
+          ap (λ (i : Image). getD i (y .at) 0) j
+              ∙ close-low (run s (program (y .at) 0xA0 ∷ [])) (length s) (entry-of s x) (entry-of s y)
+              (omega (arith, ap length j, u .turned .whole .fits)) in
           record {
             did = did;
             head = sym heading-is;
             led = λ n.
                 record {
-                  even = second-even s h (w .inside) (w .low) x c (reached s (first-cursor s h) x c (t .step)) (w .even) y d (reached s c y d (u .step));
+                  even =
+                      second-even s h (w .inside) (w .low) x c (reached s (first-cursor s h) x c (t .step)) (w .even) y d (reached s c y d (u .step));
                   inside = omega (arith, u .turned .whole .fits);
                   low = inl (low n);
                   eights = rw k (w .eights);

@@ -84,14 +84,17 @@ module _ {s : Image} {p : Place} (w : Headed s p) where
   pub plan-none : {k : Cursor} (q : chain.Step) → k ≡ first-cursor s (p .head) → q ≡ advance s k → Not-record q → Stops s (p .head) false
   plan-none {k} q f e z =
       let r : Reading = reading-from s (p .head) in
-      let none : r .entries ≡ [] = entries-are s (p .head) (w .led) ∙ ap (λ (v : Run). v .entries) (rest-done s (first-cursor s (p .head)) q (e ∙ ap (advance s) f) z) in
+      let none : r .entries ≡ [] = entries-are s (p .head) (w .led)
+          ∙ ap (λ (v : Run). v .entries) (rest-done s (first-cursor s (p .head)) q (e ∙ ap (advance s) f) z) in
+      
       record { stop = stuck-empty r (r .entries) refl none; room = ap (no-room r) none ∙ room-empty r }
 
   module _ {x : Spot} {c : Cursor} (t : Found s (first-cursor s (p .head)) x c) where
     listed : reading-from s (p .head) .entries ≡ entry-of s x ∷ rest s c .entries
     listed = entries-are s (p .head) (w .led) ∙ ap (λ (r : Run). r .entries) (t .turned .split)
 
-    living : (b : Bool) → b ≡ live (rest s (first-cursor s (p .head)) .entries) (entry-of s x) → live (entry-of s x ∷ rest s c .entries) (entry-of s x) ≡ b
+    living : (b : Bool) → b ≡ live (rest s (first-cursor s (p .head)) .entries) (entry-of s x)
+        → live (entry-of s x ∷ rest s c .entries) (entry-of s x) ≡ b
     living b e = sym (e ∙ ap (λ (r : Run). live (r .entries) (entry-of s x)) (t .turned .split))
 
     size-is : size (entry-of s x) ≡ size-of (x .n) (x .d)
@@ -107,19 +110,24 @@ module _ {s : Image} {p : Place} (w : Headed s p) where
       pub plan-full : {z : ℕ} {a : Placed} → b ≡ true → z ≡ size-of (x .n) (x .d) → a ≡ placed p z → a ≡ placed-as.Full → Stops s (p .head) true
       plan-full l g i j =
           let r : Reading = reading-from s (p .head) in
-          let no : fits (r .place) (size (entry-of s x)) ≡ false = fitting false (placed-full p (size-of (x .n) (x .d)) (ap (placed p) (sym g) ∙ sym i ∙ j)) in
+          let no : fits (r .place) (size (entry-of s x)) ≡ false = fitting false
+              (placed-full p (size-of (x .n) (x .d)) (ap (placed p) (sym g) ∙ sym i ∙ j)) in
+          
           record {
             stop = stuck-live r (entry-of s x) (rest s c .entries) false listed (living b e ∙ l) no;
             room = ap (no-room r) listed ∙ room-live r (entry-of s x) (rest s c .entries) false (living b e ∙ l) no;
           }
 
-      pub plan-copy : {y : ℕ} {v : Placed} {a : ℕ} {i : Bool} {o : Place} → b ≡ true → y ≡ size-of (x .n) (x .d) → v ≡ placed p y → v ≡ placed-as.At a i o → Copies s p (x .n) (x .d)
+      pub plan-copy : {y : ℕ} {v : Placed} {a : ℕ} {i : Bool} {o : Place} → b ≡ true → y ≡ size-of (x .n) (x .d) → v ≡ placed p y
+          → v ≡ placed-as.At a i o → Copies s p (x .n) (x .d)
       unfolding copying
       plan-copy {y} {v} {a} {i} {o} l g j k =
           let r : Reading = reading-from s (p .head) in
           let z : ℕ = size-of (x .n) (x .d) in
           let at : x .at ≡ p .head = head-at s (p .head) (w .led) t in
-          let stand : Standing (length s) (p .head) (p .head + z) p = subst (Standing (length s) (p .head) (p .head + z)) (sym (w .same)) (stands-past s (p .head) (w .led) t) in
+          let stand : Standing (length s) (p .head) (p .head + z) p = subst (Standing (length s) (p .head) (p .head + z)) (sym (w .same))
+              (stands-past s (p .head) (w .led) t) in
+          
           let taken : fits p z ≡ true = placed-parts p z a i o (ap (placed p) (sym g) ∙ sym j ∙ k) .0 in
           record {
             on = stuck-live r (entry-of s x) (rest s c .entries) true listed (living b e ∙ l) (fitting true taken);
@@ -147,19 +155,24 @@ module _ {s : Image} {p : Place} (w : Headed s p) where
           let two : r .entries ≡ entry-of s x ∷ (entry-of s y ∷ rest s d .entries) = listed ∙ ap (λ (es : List Entry). entry-of s x ∷ es) behind in
           let dead : live (entry-of s x ∷ (entry-of s y ∷ rest s d .entries)) (entry-of s x) ≡ false =
           sym (ap (λ (es : List Entry). live (entry-of s x ∷ es) (entry-of s x)) behind) ∙ living b e ∙ l in
-          (stuck-not r (entry-of s x) (entry-of s y) (rest s d .entries) two dead, copy-dead r (entry-of s x) (entry-of s y ∷ rest s d .entries) two dead)
+          (stuck-not r (entry-of s x) (entry-of s y) (rest s d .entries) two dead, copy-dead r (entry-of s x) (entry-of s y ∷ rest s d .entries) two
+              dead)
 
 -- ---- step (a)
 
 module _ {s : Image} {p : Place} (w : Headed s p) where
   pub sound : Sound p
   sound =
-      let o : Standing (length s) (p .head) (p .head) p = subst (Standing (length s) (p .head) (p .head)) (sym (w .same)) (stands s (p .head) (w .led)) in
+      let o : Standing (length s) (p .head) (p .head) p = subst (Standing (length s) (p .head) (p .head)) (sym (w .same))
+          (stands s (p .head) (w .led)) in
+      
       record { inside = omega (arith, w .led .inside, o .whole); short = omega (arith, w .led .small, o .whole) }
 
   pub ready : {n d : ℕ} (k : ℕ) → Copies s p n d → k ≤ 2 ^ 31 → Ready p (length s) n d k
   ready k c l =
-      let o : Standing (length s) (p .head) (p .head) p = subst (Standing (length s) (p .head) (p .head)) (sym (w .same)) (stands s (p .head) (w .led)) in
+      let o : Standing (length s) (p .head) (p .head) p = subst (Standing (length s) (p .head) (p .head)) (sym (w .same))
+          (stands s (p .head) (w .led)) in
+      
       record {
         sound = sound;
         whole = o .whole;
@@ -184,5 +197,6 @@ module _ {s : Image} {p : Place} (w : Headed s p) where
           copy-keeps-low p (entry-of s x) refl (rw z (c .ends)) (rw z (c .taken)) f,
         )
 
-  pub not-copied : {m : Meter} → copying s (p .head) ≡ [] → Did s m (copying s (p .head)) s m × (m .asked ≤ m .asked + length s + 14) × (getD s (p .head) 0 ≡ getD s (p .head) 0)
+  pub not-copied : {m : Meter} → copying s (p .head) ≡ [] → Did s m (copying s (p .head)) s m × (m .asked ≤ m .asked + length s + 14)
+      × (getD s (p .head) 0 ≡ getD s (p .head) 0)
   not-copied {m} e = (rw e (did-none s m), omega arith, refl)

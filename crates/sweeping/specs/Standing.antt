@@ -36,7 +36,8 @@ pub record Found (s : Image) (c : Cursor) (x : Spot) (next : Cursor) : Type 0 wh
   pub turned : Turned s c x next
   pub step : advance s c ≡ Step.Record x next
 
-pub found : {s : Image} {c k : Cursor} {r : Step} {x : Spot} {next : Cursor} → k ≡ c → r ≡ advance s k → Inside s k r → r ≡ Step.Record x next → Found s c x next
+pub found : {s : Image} {c k : Cursor} {r : Step} {x : Spot} {next : Cursor} → k ≡ c → r ≡ advance s k → Inside s k r → r ≡ Step.Record x next
+    → Found s c x next
 found {s} {c} {k} {r} {x} {next} q e i f =
     record { turned = subst (λ (v : Cursor). Turned s v x next) q (turned s k r x next e i f); step = ap (advance s) (sym q) ∙ sym e ∙ f }
 
@@ -75,16 +76,20 @@ module _ (image : Image) (h : ℕ) (w : Led image h) where
   pub entries-are : reading-from image h .entries ≡ rest image (first-cursor image h) .entries
   entries-are =
       let r : Run = rest image (first-cursor image h) in
-      ap (λ (x : Reading). x .entries) (sym (reading-is image h (omega (arith, w .inside)))) ∙ shown-entries image (length image) h (r .entries) (r .ending)
+      ap (λ (x : Reading). x .entries) (sym (reading-is image h (omega (arith, w .inside))))
+          ∙ shown-entries image (length image) h (r .entries) (r .ending)
 
-  stands-by : (lo : ℕ) → Ends-on (length image) h lo (rest image (first-cursor image h) .ending) → Standing (length image) h lo (reading-from image h .place)
+  stands-by : (lo : ℕ) → Ends-on (length image) h lo (rest image (first-cursor image h) .ending)
+      → Standing (length image) h lo (reading-from image h .place)
   stands-by lo l =
       let r : Run = rest image (first-cursor image h) in
       rw (← reading-is image h (omega (arith, w .inside))) (shown-stands (length image) h lo image (r .entries) (r .ending) l)
 
   pub stands : Standing (length image) h h (reading-from image h .place)
   stands =
-      let o : On (length image) h h (first-cursor image h) = record { even = w .even; up = λ z. (omega arith, omega (arith, w .inside), refl, refl); round = λ z. never (sym z) } in
+      let o : On (length image) h h (first-cursor image h) = record
+          { even = w .even; up = λ z. (omega arith, omega (arith, w .inside), refl, refl); round = λ z. never (sym z) } in
+      
       stands-by h (ends-on image (length image) h h (first-cursor image h) o)
 
   -- with the first record known, before the turn the tail is behind it
@@ -95,5 +100,7 @@ module _ (image : Image) (h : ℕ) (w : Led image h) where
     pub stands-past : Standing (length image) h (h + size-of (x .n) (x .d)) (reading-from image h .place)
     stands-past =
         let lo : ℕ = h + size-of (x .n) (x .d) in
-        let o : On (length image) h lo c = past-on-way image h (w .inside) (w .low) x c (reached image (first-cursor image h) x c (t .step)) (w .even) in
+        let o : On (length image) h lo c = past-on-way image h (w .inside) (w .low) x c (reached image (first-cursor image h) x c (t .step)) (w .even)
+            in
+        
         stands-by lo (rw (t .turned .split) (ends-on image (length image) h lo c o))

@@ -29,7 +29,9 @@ module _ (w : Work) (h : ℕ) (e : w .reading ≡ reading-from (w .image) h) whe
   after-on [] = ap₂ (λ (r : Reading) (l : List Step). record { image = w .image; reading = r; steps = l }) e (sym (append-nil (w .steps)))
   after-on (s ∷ ss) = refl
 
-  hand-on : (es : List Entry) → hand-over w es ≡ reread w (hand-steps (w .reading .place .length) es) (run (w .image) (hand-steps (w .reading .place .length) es)) (hand-head h es)
+  hand-on : (es : List Entry)
+      → hand-over w es ≡ reread w (hand-steps (w .reading .place .length) es) (run (w .image) (hand-steps (w .reading .place .length) es))
+      (hand-head h es)
   unfolding hand-over after
   hand-on [] = after-on []
   hand-on (x ∷ []) = after-on []
@@ -68,6 +70,7 @@ module _ (s : Image) (r : Reading) where
   moves-stuck zero e = refl
   moves-stuck (suc k) e = rw (e, moves)
 
-  pub moves-next : (k : ℕ) → stuck r ≡ false → moves (suc k) s r ≡ move (begin s r) .steps ∷ moves k (move (begin s r) .image) (move (begin s r) .reading)
+  pub moves-next : (k : ℕ) → stuck r ≡ false
+      → moves (suc k) s r ≡ move (begin s r) .steps ∷ moves k (move (begin s r) .image) (move (begin s r) .reading)
   unfolding moves
   moves-next k e = rw (e, moves)

@@ -61,7 +61,8 @@ module _ (r : Reading) where
     pub stuck-not : (y : Entry) (es : List Entry) → r .entries ≡ x ∷ (y ∷ es) → live (x ∷ (y ∷ es)) x ≡ false → stuck r ≡ false
     stuck-not y es e l = goes-on (ap at-end e ∙ two-on y es) ∙ ap (no-room r) e ∙ room-dead (y ∷ es) l
 
-    pub copy-live : (es : List Entry) → r .entries ≡ x ∷ es → live (x ∷ es) x ≡ true → copy-steps r (r .entries) ≡ put-steps (r .place) (some x) (name-of x) (content-of x)
+    pub copy-live : (es : List Entry) → r .entries ≡ x ∷ es → live (x ∷ es) x ≡ true
+        → copy-steps r (r .entries) ≡ put-steps (r .place) (some x) (name-of x) (content-of x)
     unfolding copy-steps
     copy-live es e l = rw (e, copy-steps, l)
 

@@ -40,7 +40,8 @@ Turned-as s h m t (Turn.Cut q) = Cut-as s h m t q
 Turned-as s h m t (Turn.On p q) = On-as s h m t p q
 
 -- the place that a survey saw of what a finished move left
-pub on-seen : {s t : Image} {h : ℕ} {m : Meter} {r : Moved} {v : Survey} → stuck (reading-from s h) ≡ false → Moved-as s h m t r → r .meter .asked ≤ r .meter .allowance → Seen t (r .head) v
+pub on-seen : {s t : Image} {h : ℕ} {m : Meter} {r : Moved} {v : Survey} → stuck (reading-from s h) ≡ false → Moved-as s h m t r
+    → r .meter .asked ≤ r .meter .allowance → Seen t (r .head) v
     → On-as s h m t (v .place) (r .meter)
 on-seen {s} {t} {h} {m} {r} {v} on w l seen =
     let left : Left s h t (v .place .head) = subst (Left s h t) (sym (seen .head)) (w .left l) in
@@ -60,7 +61,8 @@ on-seen {s} {t} {h} {m} {r} {v} on w l seen =
 -- ---- the loop: whatever makes the moves that are left makes them all
 
 pub record Sweeping (s : Image) (m : Meter) (k h : ℕ) (t : Image) (q : Meter) (left : ℕ) (p : Place) (n : ℕ) : Type 0 where
-  pub onward : (u : Image) (i : ℕ) (r : Meter) → Moves t q (moves left t (reading-from t (p .head))) u i r → Moves s m (moves k s (reading-from s h)) u (n + i) r
+  pub onward : (u : Image) (i : ℕ) (r : Meter) → Moves t q (moves left t (reading-from t (p .head))) u i r
+      → Moves s m (moves k s (reading-from s h)) u (n + i) r
   pub headed : Headed t p
   pub few : q .asked + left * 2 ^ 26 ≤ 2 ^ 30
 
@@ -85,11 +87,14 @@ module _ {s : Image} {m : Meter} {k h : ℕ} {t : Image} {q : Meter} {left : ℕ
 
     pub sweeping-cut : {u : Image} {r : Meter} → Cut-as t (p .head) q u r → Moves s m (moves k s (reading-from s h)) u n r
     sweeping-cut {u} {r} c =
-        rw (add-zero n) at (w .onward u 0 r (rw (next-is (c .on)) (moves-cut (moves i (moving t (p .head) .image) (moving t (p .head) .reading)) (c .begun) (c .over))))
+        rw (add-zero n) at (w .onward u 0 r
+            (rw (next-is (c .on)) (moves-cut (moves i (moving t (p .head) .image) (moving t (p .head) .reading)) (c .begun) (c .over))))
 
     pub sweeping-more : {u : Image} {r : Meter} {v : Place} → On-as t (p .head) q u v r → Sweeping s m k h u r i v (n + 1)
     sweeping-more {u} {r} {v} c =
-        let e : moves i (moving t (p .head) .image) (moving t (p .head) .reading) ≡ moves i u (reading-from u (v .head)) = ap₂ (moves i) (c .left .image) (c .left .reading) in
+        let e : moves i (moving t (p .head) .image) (moving t (p .head) .reading) ≡ moves i u (reading-from u (v .head)) = ap₂ (moves i)
+            (c .left .image) (c .left .reading) in
+        
         record {
           onward = λ x j y g.
               let o : n + suc j ≡ n + 1 + j = omega arith in

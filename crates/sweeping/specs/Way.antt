@@ -129,7 +129,8 @@ module _ (image : Image) (N h lo : ℕ) where
         round = λ z. omega (arith, r .at, p .round (sym (r .turned) ∙ z) .0);
       }
 
-  by-step : (k : ℕ) (c : Cursor) (r : Step) → left c < suc k → Less c r → Way image c r → On N h lo c → ((d : Cursor) → left d < k → On N h lo d → Ends-on N h lo (rest image d .ending))
+  by-step : (k : ℕ) (c : Cursor) (r : Step) → left c < suc k → Less c r → Way image c r → On N h lo c
+      → ((d : Cursor) → left d < k → On N h lo d → Ends-on N h lo (rest image d .ending))
       → Ends-on N h lo (followed image r (rest image) .ending)
   by-step k c (Step.Record e next) l s w o ih = ih next (omega arith) (past-on c e next o w)
   by-step k c (Step.End t u) l s w o ih = lands c t u o w

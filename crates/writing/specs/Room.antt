@@ -16,11 +16,13 @@ use Rattle.spec.specs.Placed.{placed, Sound}
 
 -- ---- the three parts of an answer
 
-fits-of : (t : Bool) (a : ℕ) (k : Bool) (q : Place) (x : ℕ) (l : Bool) (r : Place) → elim t [ true ↦ At a k q | false ↦ Full ] ≡ At x l r → (t ≡ true) × (a ≡ x) × (k ≡ l) × (q ≡ r)
+fits-of : (t : Bool) (a : ℕ) (k : Bool) (q : Place) (x : ℕ) (l : Bool) (r : Place) → elim t [ true ↦ At a k q | false ↦ Full ] ≡ At x l r → (t ≡ true)
+    × (a ≡ x) × (k ≡ l) × (q ≡ r)
 fits-of true a k q x l r e = (refl, cc, cc, cc)
 fits-of false a k q x l r e = let z : _≡_ {A = ℕ} 0 1 = cc in absurd (omega arith)
 
-pub placed-parts : (p : Place) (s a : ℕ) (k : Bool) (q : Place) → placed p s ≡ At a k q → (fits p s ≡ true) × (address p s ≡ a) × (with-marker p s ≡ k) × (place-after p s ≡ q)
+pub placed-parts : (p : Place) (s a : ℕ) (k : Bool) (q : Place) → placed p s ≡ At a k q → (fits p s ≡ true) × (address p s ≡ a)
+    × (with-marker p s ≡ k) × (place-after p s ≡ q)
 unfolding placed
 placed-parts p s a k q e = fits-of (fits p s) (address p s) (with-marker p s) (place-after p s) a k q e
 
@@ -85,7 +87,8 @@ room-stop p s ss e = rw (placed-full p s e, fits-all)
 nowhere : (p : Place) (s : ℕ) → Sound p → p .length < s → fits p s ≡ false
 unfolding fits fits-at-tail
 nowhere p s h l =
-    rw (lt-leb (p .tail + s) (limit p) (omega (arith, limit-inside p h)), lt-leb s (floor (p .head)) (omega (arith, h .inside)), fits, fits-at-tail) (and-false (not (p .turned)))
+    rw (lt-leb (p .tail + s) (limit p) (omega (arith, limit-inside p h)), lt-leb s (floor (p .head)) (omega (arith, h .inside)), fits, fits-at-tail)
+        (and-false (not (p .turned)))
 
 pub too-long : (p : Place) (s : ℕ) (ss : List ℕ) → Sound p → p .length < s → fits-all p (s ∷ ss) ≡ false
 unfolding fits-all

@@ -19,7 +19,8 @@ starts-by zero zero a b f l h = refl
 starts-by zero (suc k) a b f l h = rw (lt-leb (a + 4096) b (omega arith), sectors-by)
 starts-by (suc i) zero a b f l h = absurd (omega arith)
 starts-by (suc i) (suc k) a b f l h =
-    rw (le-leb (a + 4096) b (omega arith), sectors-by) (ap (λ (r : List ℕ). a ∷ r) (starts-by i k (a + 4096) b (omega arith) (omega arith) (omega arith)))
+    rw (le-leb (a + 4096) b (omega arith), sectors-by)
+        (ap (λ (r : List ℕ). a ∷ r) (starts-by i k (a + 4096) b (omega arith) (omega arith) (omega arith)))
 
 pub starts-all : (a b : ℕ) → a ≤ b → sectors a b ≡ starts ((b - a) / 4096) a
 starts-all a b h = starts-by ((b - a) / 4096) b a b (omega arith) (omega arith) (omega arith)

@@ -15,7 +15,8 @@ length-bytes a [] = refl
 length-bytes a (x ∷ w) = ap suc (length-bytes (a + 1) w)
 
 -- a loop that writes w: one byte more
-pub bytes-more : (a : ℕ) (w : List ℕ) (i : ℕ) → i < length w → bytes-at a (take (i + 1) w) ≡ bytes-at a (take i w) ++ (program (a + i) (getD w i 0) ∷ [])
+pub bytes-more : (a : ℕ) (w : List ℕ) (i : ℕ) → i < length w
+    → bytes-at a (take (i + 1) w) ≡ bytes-at a (take i w) ++ (program (a + i) (getD w i 0) ∷ [])
 bytes-more a [] i h = absurd (omega arith)
 bytes-more a (x ∷ w) zero h = rw add-zero
 bytes-more a (x ∷ w) (suc i) h =

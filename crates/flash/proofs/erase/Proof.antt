@@ -20,7 +20,13 @@ counted-requires : tie.Need-counted-requires Inv-loop μ-loop
 counted-requires c κs = search needs
 
 returns : tie.Need-returns Inv-loop μ-loop
-returns c = let a = c .before .before .before .before .args in record { bytes = one-out (a .image .now) (a .m .allowance - a .m .asked) (erase (a .at)) (omega arith); count = c .counted .ensures .0; same = c .counted .ensures .1 }
+returns c =
+    let a = c .before .before .before .before .args in
+    record {
+      bytes = one-out (a .image .now) (a .m .allowance - a .m .asked) (erase (a .at)) (omega arith);
+      count = c .counted .ensures .0;
+      same = c .counted .ensures .1;
+    }
 
 loop-holds : tie.Need-loop-holds Inv-loop μ-loop
 loop-holds c =
@@ -31,7 +37,9 @@ add-image : tie.Need-add-image Inv-loop μ-loop
 add-image c = search needs
 
 slice-write-image : tie.Need-slice-write-image Inv-loop μ-loop
-slice-write-image c = let a = c .before .before .before .before .before .args in omega (arith, ap length (c .before .loop .inv .1) ∙ length-erased (a .image .now) (a .at) (c .before .loop .i) (omega arith))
+slice-write-image c =
+    let a = c .before .before .before .before .before .args in
+    omega (arith, ap length (c .before .loop .inv .1) ∙ length-erased (a .image .now) (a .at) (c .before .loop .i) (omega arith))
 
 add-i : tie.Need-add-i Inv-loop μ-loop
 add-i c = search needs
@@ -42,13 +50,16 @@ loop-less c = search needs
 loop-again : tie.Need-loop-again Inv-loop μ-loop
 loop-again c =
     let a = c .before .before .before .before .before .args in
-    (omega arith, ap (λ l. set l (a .at + c .before .loop .i) 255) (c .before .loop .inv .1) ∙ erased-more (a .image .now) (a .at) (c .before .loop .i) (omega arith))
+    (omega arith, ap (λ l. set l (a .at + c .before .loop .i) 255) (c .before .loop .inv .1)
+        ∙ erased-more (a .image .now) (a .at) (c .before .loop .i) (omega arith))
 
 counted-requires-2 : tie.Need-counted-requires-2 Inv-loop μ-loop
 counted-requires-2 c κs = search needs
 
 same-length : tie.Need-same-length Inv-loop μ-loop
-same-length c = let a = c .before .before .before .before .before .before .args in ap length (c .before .before .loop .inv .1) ∙ length-erased (a .image .now) (a .at) (c .before .before .loop .i) (omega arith)
+same-length c =
+    let a = c .before .before .before .before .before .before .args in
+    ap length (c .before .before .loop .inv .1) ∙ length-erased (a .image .now) (a .at) (c .before .before .loop .i) (omega arith)
 
 returns-2 : tie.Need-returns-2 Inv-loop μ-loop
 returns-2 c =

@@ -21,7 +21,8 @@ shared-slice-read-if1 : tie.Need-shared-slice-read-if1 Inv-loop μ-loop
 shared-slice-read-if1 c = search needs
 
 returns : tie.Need-returns Inv-loop μ-loop
-returns c = omega (arith, run-stop (c .before .before .before .before .args .part .now) (c .before .before .before .loop .i) (omega arith) (c .if1 .taken))
+returns c =
+    omega (arith, run-stop (c .before .before .before .before .args .part .now) (c .before .before .before .loop .i) (omega arith) (c .if1 .taken))
 
 add-i : tie.Need-add-i Inv-loop μ-loop
 add-i c = search needs
@@ -30,7 +31,8 @@ loop-less : tie.Need-loop-less Inv-loop μ-loop
 loop-less c = search needs
 
 loop-again : tie.Need-loop-again Inv-loop μ-loop
-loop-again c = omega (arith, run-on (c .before .before .before .before .args .part .now) (c .before .before .before .loop .i) (omega arith) (c .if1 .left))
+loop-again c =
+    omega (arith, run-on (c .before .before .before .before .args .part .now) (c .before .before .before .loop .i) (omega arith) (c .if1 .left))
 
 returns-2 : tie.Need-returns-2 Inv-loop μ-loop
 returns-2 c = omega (arith, run-over (c .before .before .args .part .now) (c .before .loop .i) (omega arith))

@@ -17,13 +17,25 @@ same-length : tie.Need-same-length
 same-length c = search needs
 
 returns : tie.Need-returns
-returns c = let a = c .before .before .before .before .args in record { bytes = one-in (a .image .now) (a .m .allowance - a .m .asked) (program (a .at) (a .byte)) (omega arith); count = c .counted .ensures .0; same = c .counted .ensures .1 }
+returns c =
+    let a = c .before .before .before .before .args in
+    record {
+      bytes = one-in (a .image .now) (a .m .allowance - a .m .asked) (program (a .at) (a .byte)) (omega arith);
+      count = c .counted .ensures .0;
+      same = c .counted .ensures .1;
+    }
 
 counted-requires-2 : tie.Need-counted-requires-2
 counted-requires-2 c κs = search needs
 
 returns-2 : tie.Need-returns-2
-returns-2 c = let a = c .before .before .before .before .args in record { bytes = one-out (a .image .now) (a .m .allowance - a .m .asked) (program (a .at) (a .byte)) (omega arith); count = c .counted2 .ensures .0; same = c .counted2 .ensures .1 }
+returns-2 c =
+    let a = c .before .before .before .before .args in
+    record {
+      bytes = one-out (a .image .now) (a .m .allowance - a .m .asked) (program (a .at) (a .byte)) (omega arith);
+      count = c .counted2 .ensures .0;
+      same = c .counted2 .ensures .1;
+    }
 
 pub program-spec : {M : Type 1} → statement M
 program-spec =

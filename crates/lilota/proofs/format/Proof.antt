@@ -17,16 +17,24 @@ same-length c = search needs
 
 returns : tie.Need-returns
 returns c =
-    let a = c .before .before .before .before .before .before .before .before .before .args in
-    format-done (a .image .now) _ (a .allowance) (c .before .before .before .before .wipe .result) _ refl refl (flag (c .before .before .before .before .before .before .before .good-length .ensures) (c .before .before .before .before .before .before .if1 .taken)) (c .before .before .before .before .wipe .ensures) (c .if2 .taken)
+    let c4 = c .before .before .before .before in
+    let c6 = c4 .before .before in
+    let c7 = c6 .before in
+    let a = c7 .before .before .args in
+    format-done (a .image .now) _ (a .allowance) (c4 .wipe .result) _ refl refl (flag (c7 .good-length .ensures) (c6 .if1 .taken)) (c4 .wipe .ensures)
+        (c .if2 .taken)
 
 same-length-2 : tie.Need-same-length-2
 same-length-2 c = search needs
 
 returns-2 : tie.Need-returns-2
 returns-2 c =
-    let a = c .before .before .before .before .before .before .before .before .before .args in
-    format-cut (a .image .now) _ (a .allowance) (c .before .before .before .before .wipe .result) _ refl refl (flag (c .before .before .before .before .before .before .before .good-length .ensures) (c .before .before .before .before .before .before .if1 .taken)) (c .before .before .before .before .wipe .ensures) (c .if2 .left)
+    let c4 = c .before .before .before .before in
+    let c6 = c4 .before .before in
+    let c7 = c6 .before in
+    let a = c7 .before .before .args in
+    format-cut (a .image .now) _ (a .allowance) (c4 .wipe .result) _ refl refl (flag (c7 .good-length .ensures) (c6 .if1 .taken)) (c4 .wipe .ensures)
+        (c .if2 .left)
 
 returns-3 : tie.Need-returns-3
 returns-3 c =

@@ -21,7 +21,10 @@ part-result-end : tie.Need-part-result-end
 part-result-end c = search needs
 
 returns : tie.Need-returns
-returns c = part-is (c .before .before .before .before .before .args .image .now) (held-at (c .before .before .get-place .result)) _ (c .before .before .get-place .ensures .0)
+returns c =
+    let c2 = c .before .before in
+    let c5 = c2 .before .before .before in
+    part-is (c5 .args .image .now) (held-at (c2 .get-place .result)) _ (c2 .get-place .ensures .0)
 
 pub get-spec : {M : Type 1} → statement M
 get-spec =

@@ -17,15 +17,18 @@ get-in-requires c κs = flag (c .before .before .before .good-length .ensures) (
 
 returns : tie.Need-returns
 returns c =
-    let a = c .before .before .before .before .before .before .before .args in (
-      c .get-in .ensures .0 ∙ get-on (a .image .now) (a .name .now) (flag (c .before .before .before .before .good-length .ensures) (c .before .before .before .if1 .taken)) (flag (c .before .before .name-ok .ensures) (c .before .if2 .taken)),
+    let c4 = c .before .before .before .before in
+    let a = c4 .before .before .before .args in (
+      c .get-in .ensures .0 ∙ get-on (a .image .now) (a .name .now) (flag (c4 .good-length .ensures) (c .before .before .before .if1 .taken))
+          (flag (c .before .before .name-ok .ensures) (c .before .if2 .taken)),
       c .get-in .ensures .1,
     )
 
 returns-2 : tie.Need-returns-2
 returns-2 c =
     let a = c .before .before .before .before .before .before .args in
-    (get-name (a .image .now) (a .name .now) (flag (c .before .before .before .good-length .ensures) (c .before .before .if1 .taken)) (flag (c .before .name-ok .ensures) (c .if2 .left)), omega arith)
+    (get-name (a .image .now) (a .name .now) (flag (c .before .before .before .good-length .ensures) (c .before .before .if1 .taken))
+        (flag (c .before .name-ok .ensures) (c .if2 .left)), omega arith)
 
 returns-3 : tie.Need-returns-3
 returns-3 c =

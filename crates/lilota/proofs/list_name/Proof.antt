@@ -21,7 +21,10 @@ part-result-end : tie.Need-part-result-end
 part-result-end c = search needs
 
 returns : tie.Need-returns
-returns c = part-is (c .before .before .before .before .args .image .now) (listed-at (c .before .before .list-place .result)) _ (c .before .before .list-place .ensures .0)
+returns c =
+    let c2 = c .before .before in
+    let c4 = c2 .before .before in
+    part-is (c4 .args .image .now) (listed-at (c2 .list-place .result)) _ (c2 .list-place .ensures .0)
 
 pub list-name-spec : {M : Type 1} → statement M
 list-name-spec =

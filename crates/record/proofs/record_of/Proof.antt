@@ -32,7 +32,8 @@ returns-2 c =
     let s = a .part .now in
     let n = c .before .before .before .before .name-len .result in
     let d = c .before .before .before .data-len .result in (
-      sized-as (a .held) s _ n d (c .before .before .before .before .name-len .ensures .0) refl (c .before .before .before .data-len .ensures .0) (sized-is s n d (omega arith) (omega arith)),
+      sized-as (a .held) s _ n d (c .before .before .before .before .name-len .ensures .0) refl (c .before .before .before .data-len .ensures .0)
+          (sized-is s n d (omega arith) (omega arith)),
       (omega arith, omega arith, omega arith),
     )
 
@@ -42,7 +43,8 @@ returns-3 c =
     let s = a .part .now in
     let n = c .before .before .before .before .name-len .result in
     let d = c .before .before .before .data-len .result in
-    (sized-as (a .held) s _ n d (c .before .before .before .before .name-len .ensures .0) refl (c .before .before .before .data-len .ensures .0) (sized-short s n d (omega arith) (omega arith)), tt)
+    (sized-as (a .held) s _ n d (c .before .before .before .before .name-len .ensures .0) refl (c .before .before .before .data-len .ensures .0)
+        (sized-short s n d (omega arith) (omega arith)), tt)
 
 returns-4 : tie.Need-returns-4
 returns-4 c =

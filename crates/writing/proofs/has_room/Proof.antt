@@ -16,7 +16,9 @@ enum-told : tie.Need-enum-told
 enum-told c = search needs
 
 returns : tie.Need-returns
-returns c = let a = c .before .before .before .args in sym (room-stop (a .place) (a .size) (a .largest ∷ a .largest ∷ []) (sym (c .before .before .after .ensures) ∙ c .enum-told .given .1))
+returns c =
+    let a = c .before .before .before .args in
+    sym (room-stop (a .place) (a .size) (a .largest ∷ a .largest ∷ []) (sym (c .before .before .after .ensures) ∙ c .enum-told .given .1))
 
 after-requires-2 : tie.Need-after-requires-2
 after-requires-2 c κs = search needs
@@ -28,9 +30,12 @@ enum-told-2 : tie.Need-enum-told-2
 enum-told-2 c = search needs
 
 returns-2 : tie.Need-returns-2
-returns-2 c = let a = c .before .before .before .before .before .before .before .args in
-    let first = c .before .before .before .before .first .given .0 .1 .1 .0 in
-    sym (room-on (a .place) (a .size) (a .largest ∷ a .largest ∷ []) _ _ first (sym (c .before .before .before .before .before .before .after .ensures) ∙ c .before .before .before .before .first .given .1)
+returns-2 c =
+    let c4 = c .before .before .before .before in
+    let c6 = c4 .before .before in
+    let a = c6 .before .args in
+    let first = c4 .first .given .0 .1 .1 .0 in
+    sym (room-on (a .place) (a .size) (a .largest ∷ a .largest ∷ []) _ _ first (sym (c6 .after .ensures) ∙ c4 .first .given .1)
     ∙ room-stop first (a .largest) (a .largest ∷ []) (sym (c .before .before .after2 .ensures) ∙ c .enum-told2 .given .1))
 
 after-requires-3 : tie.Need-after-requires-3
@@ -43,19 +48,29 @@ enum-told-4 : tie.Need-enum-told-4
 enum-told-4 c = search needs
 
 returns-3 : tie.Need-returns-3
-returns-3 c = let a = c .before .before .before .before .before .before .before .before .before .before .before .args in
-    let first = c .before .before .before .before .before .before .before .before .first .given .0 .1 .1 .0 in
-    let second = c .before .before .before .before .second .given .0 .1 .1 .0 in
-    sym (room-on (a .place) (a .size) (a .largest ∷ a .largest ∷ []) _ _ first (sym (c .before .before .before .before .before .before .before .before .before .before .after .ensures) ∙ c .before .before .before .before .before .before .before .before .first .given .1)
-    ∙ room-on first (a .largest) (a .largest ∷ []) _ _ second (sym (c .before .before .before .before .before .before .after2 .ensures) ∙ c .before .before .before .before .second .given .1)
+returns-3 c =
+    let c4 = c .before .before .before .before in
+    let c6 = c4 .before .before in
+    let c8 = c6 .before .before in
+    let c10 = c8 .before .before in
+    let a = c10 .before .args in
+    let first = c8 .first .given .0 .1 .1 .0 in
+    let second = c4 .second .given .0 .1 .1 .0 in
+    sym (room-on (a .place) (a .size) (a .largest ∷ a .largest ∷ []) _ _ first (sym (c10 .after .ensures) ∙ c8 .first .given .1)
+    ∙ room-on first (a .largest) (a .largest ∷ []) _ _ second (sym (c6 .after2 .ensures) ∙ c4 .second .given .1)
     ∙ room-stop second (a .largest) [] (sym (c .before .before .after3 .ensures) ∙ c .enum-told4 .given .1))
 
 returns-4 : tie.Need-returns-4
-returns-4 c = let a = c .before .before .before .before .before .before .before .before .before .before .before .args in
-    let first = c .before .before .before .before .before .before .before .before .first .given .0 .1 .1 .0 in
-    let second = c .before .before .before .before .second .given .0 .1 .1 .0 in
-    sym (room-on (a .place) (a .size) (a .largest ∷ a .largest ∷ []) _ _ first (sym (c .before .before .before .before .before .before .before .before .before .before .after .ensures) ∙ c .before .before .before .before .before .before .before .before .first .given .1)
-    ∙ room-on first (a .largest) (a .largest ∷ []) _ _ second (sym (c .before .before .before .before .before .before .after2 .ensures) ∙ c .before .before .before .before .second .given .1)
+returns-4 c =
+    let c4 = c .before .before .before .before in
+    let c6 = c4 .before .before in
+    let c8 = c6 .before .before in
+    let c10 = c8 .before .before in
+    let a = c10 .before .args in
+    let first = c8 .first .given .0 .1 .1 .0 in
+    let second = c4 .second .given .0 .1 .1 .0 in
+    sym (room-on (a .place) (a .size) (a .largest ∷ a .largest ∷ []) _ _ first (sym (c10 .after .ensures) ∙ c8 .first .given .1)
+    ∙ room-on first (a .largest) (a .largest ∷ []) _ _ second (sym (c6 .after2 .ensures) ∙ c4 .second .given .1)
     ∙ room-on second (a .largest) [] _ _ _ (sym (c .before .before .after3 .ensures) ∙ c .enum-told3 .given .1) ∙ room-end _)
 
 pub has-room-spec : {M : Type 1} → statement M

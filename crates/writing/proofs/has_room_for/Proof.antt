@@ -10,7 +10,9 @@ use Rattle.writing.proofs.has_room_for.Statement.{statement}
 use Rattle.writing.proofs.has_room_for.Tie as tie
 
 returns : tie.Need-returns
-returns c = let a = c .before .before .args in let s = size-of (a .n) (a .d) in let l = max s (a .others) in sym (too-long (a .place) s (l ∷ l ∷ []) (c .before .before .pre .0) (omega arith))
+returns c =
+    let a = c .before .before .args in
+    let s = size-of (a .n) (a .d) in let l = max s (a .others) in sym (too-long (a .place) s (l ∷ l ∷ []) (c .before .before .pre .0) (omega arith))
 
 size-requires : tie.Need-size-requires
 size-requires c κs = search needs
@@ -22,7 +24,9 @@ has-room-requires : tie.Need-has-room-requires
 has-room-requires c κs = search needs
 
 returns-2 : tie.Need-returns-2
-returns-2 c = let a = c .before .before .before .before .before .args in rw (c .before .max-of .ensures, c .before .before .size .ensures) at (c .has-room .ensures)
+returns-2 c =
+    let a = c .before .before .before .before .before .args in
+    rw (c .before .max-of .ensures, c .before .before .size .ensures) at (c .has-room .ensures)
 
 pub has-room-for-spec : {M : Type 1} → statement M
 has-room-for-spec =

@@ -17,7 +17,10 @@ returns : tie.Need-returns
 returns c = let a = c .before .before .before .args in rw (c .enum-told .given .1) (did-none (a .image .now) (a .m))
 
 set-status-requires : tie.Need-set-status-requires
-set-status-requires c κs = let l = rw (c .before .before .before .before .old .given .1) at (c .before .before .before .before .before .before .before .pre .0) in omega arith
+set-status-requires c κs =
+    let c4 = c .before .before .before .before in
+    let c7 = c4 .before .before .before in
+    let l = rw (c4 .old .given .1) at (c7 .pre .0) in omega arith
 
 same-length : tie.Need-same-length
 same-length c = search needs
@@ -25,8 +28,10 @@ same-length c = search needs
 returns-2 : tie.Need-returns-2
 unfolding is-committed
 returns-2 c =
-    let st = c .before .before .before .before .before .before .before .old .given .0 .1 .0 in
-    rw (c .before .before .before .before .before .before .before .old .given .1, eq-eqb st 0xFC (c .before .before .before .before .if1 .taken)) (c .before .before .set-status .ensures)
+    let c4 = c .before .before .before .before in
+    let c7 = c4 .before .before .before in
+    let st = c7 .old .given .0 .1 .0 in
+    rw (c7 .old .given .1, eq-eqb st 0xFC (c4 .if1 .taken)) (c .before .before .set-status .ensures)
 
 returns-3 : tie.Need-returns-3
 unfolding is-committed

@@ -16,7 +16,9 @@ same-length : tie.Need-same-length
 same-length c = search needs
 
 returns : tie.Need-returns
-returns c = numbered-as (c .before .before .before .before .format .result) _ _ _ _ (c .answer .ensures) (c .before .steps .ensures) (c .before .before .before .before .format .ensures)
+returns c =
+    let c4 = c .before .before .before .before in
+    numbered-as (c4 .format .result) _ _ _ _ (c .answer .ensures) (c .before .steps .ensures) (c4 .format .ensures)
 
 pub lilota-format-spec : {M : Type 1} → statement M
 lilota-format-spec = tie.close (tie.spec format-requires steps-requires answer-requires same-length returns)

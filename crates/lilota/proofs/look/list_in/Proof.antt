@@ -17,7 +17,9 @@ enum-known-x : tie.Need-enum-known-x
 enum-known-x c = search needs
 
 list-of-requires : tie.Need-list-of-requires
-list-of-requires c κs = (rw (c .before .x .given .1) at (c .before .before .before .read-settled .ensures .1), rw (c .before .x .given .1) at (c .before .before .before .read-settled .ensures .2))
+list-of-requires c κs =
+    let c3 = c .before .before .before in
+    (rw (c .before .x .given .1) at (c3 .read-settled .ensures .1), rw (c .before .x .given .1) at (c3 .read-settled .ensures .2))
 
 enum-known-x-2 : tie.Need-enum-known-x-2
 enum-known-x-2 c = search needs
@@ -26,13 +28,16 @@ returns : tie.Need-returns
 returns c =
     let g = c .before .before .before .before .before .before .args in
     let s = g .image .now in
-    (c .list-of .ensures .0 ∙ ap (λ (a : Answer Reading). carry-out s 0 (onward a (list-of (g .index)))) (sym (ap (answered s) (c .before .before .x .given .1)) ∙ c .before .before .before .before .read-settled .ensures .0), c .list-of .ensures .1)
+    (c .list-of .ensures .0 ∙ ap (λ (a : Answer Reading). carry-out s 0 (onward a (list-of (g .index))))
+        (sym (ap (answered s) (c .before .before .x .given .1)) ∙ c .before .before .before .before .read-settled .ensures .0),
+        c .list-of .ensures .1)
 
 returns-2 : tie.Need-returns-2
 returns-2 c =
     let g = c .before .before .before .before .before .args in
     let s = g .image .now in
-    (refused-is s _ ∙ ap (λ (a : Answer Reading). carry-out s 0 (onward a (list-of (g .index)))) (sym (ap (answered s) (c .before .x2 .given .1)) ∙ c .before .before .before .read-settled .ensures .0), omega arith)
+    (refused-is s _ ∙ ap (λ (a : Answer Reading). carry-out s 0 (onward a (list-of (g .index))))
+        (sym (ap (answered s) (c .before .x2 .given .1)) ∙ c .before .before .before .read-settled .ensures .0), omega arith)
 
 pub list-in-spec : {M : Type 1} → statement M
 list-in-spec =

@@ -17,8 +17,10 @@ same-length c = search needs
 
 returns : tie.Need-returns
 returns c =
-    let a = c .before .before .before .before .before .before .before .args in
-    let whole = flag (c .before .before .before .before .before .good-length .ensures) (c .before .before .before .before .if1 .taken) in
+    let c4 = c .before .before .before .before in
+    let c5 = c4 .before in
+    let a = c5 .before .before .args in
+    let whole = flag (c5 .good-length .ensures) (c4 .if1 .taken) in
     c .before .before .mount-read .ensures ∙ mount-on (a .image .now) (a .allowance) whole
 
 returns-2 : tie.Need-returns-2

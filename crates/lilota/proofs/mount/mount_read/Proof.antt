@@ -20,7 +20,8 @@ mount-from-requires c κs =
     let a = c .before .before .before .before .before .before .before .args in
     let x = c .before .before .x .given in
     let r = c .before .before .before .before .read .ensures in
-    legal-of (a .image .now) (x .0 .0) (c .before .before .before .before .before .before .before .pre) (sym (ap (answered (a .image .now)) (x .1)) ∙ r .0)
+    legal-of (a .image .now) (x .0 .0) (c .before .before .before .before .before .before .before .pre)
+        (sym (ap (answered (a .image .now)) (x .1)) ∙ r .0)
 
 enum-known-x-2 : tie.Need-enum-known-x-2
 enum-known-x-2 c = search needs
@@ -30,9 +31,10 @@ same-length c = search needs
 
 returns : tie.Need-returns
 returns c =
-    let a = c .before .before .before .before .before .before .before .before .before .before .args in
+    let c7 = c .before .before .before .before .before .before .before in
+    let a = c7 .before .before .before .args in
     let x = c .before .before .before .before .before .x .given in
-    let told = sym (ap (answered (a .image .now)) (x .1)) ∙ c .before .before .before .before .before .before .before .read .ensures .0 in
+    let told = sym (ap (answered (a .image .now)) (x .1)) ∙ c7 .read .ensures .0 in
     c .before .before .mount-from .ensures ∙ mount-good (a .image .now) (a .allowance) (x .0 .0) told
 
 same-length-2 : tie.Need-same-length-2

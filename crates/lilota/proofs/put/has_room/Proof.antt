@@ -20,10 +20,11 @@ has-room-for-requires c κs = search needs
 
 returns : tie.Need-returns
 returns c =
-    let a = c .before .before .before .before .before .before .args in
+    let c6 = c .before .before .before .before .before .before in
+    let a = c6 .args in
     let size = size-of (length (a .name .now)) (a .d) in
     let others = rw (c .before .before .first-cursor .ensures) at (c .before .largest-other .ensures) in
-    let most = ap (max size) others ∙ largest-is (a .name .now) size (reading-of (a .image .now) (a .s) .entries) (c .before .before .before .before .before .before .pre .0 .quiet) in
+    let most = ap (max size) others ∙ largest-is (a .name .now) size (reading-of (a .image .now) (a .s) .entries) (c6 .pre .0 .quiet) in
     c .has-room-for .ensures ∙ ap (λ (l : ℕ). room (a .s .place) size l) most
 
 pub has-room-spec : {M : Type 1} → statement M

@@ -16,7 +16,9 @@ same-length : tie.Need-same-length
 same-length c = search needs
 
 returns : tie.Need-returns
-returns c = numbered-as (c .before .before .before .before .put .result) _ _ _ _ (c .answer .ensures) (c .before .steps .ensures) (c .before .before .before .before .put .ensures)
+returns c =
+    let c4 = c .before .before .before .before in
+    numbered-as (c4 .put .result) _ _ _ _ (c .answer .ensures) (c .before .steps .ensures) (c4 .put .ensures)
 
 pub lilota-put-spec : {M : Type 1} → statement M
 lilota-put-spec =

@@ -17,24 +17,30 @@ enum-told : tie.Need-enum-told
 enum-told c = search needs
 
 returns : tie.Need-returns
-returns c = (ap old-of (sym (ap (found-in (c .before .before .before .before .before .args .image .now)) (c .enum-told .given .1)) ∙ c .before .before .file-named .ensures .0), tt)
+returns c =
+    (ap old-of (sym (ap (found-in (c .before .before .before .before .before .args .image .now)) (c .enum-told .given .1))
+        ∙ c .before .before .file-named .ensures .0), tt)
 
 add-a : tie.Need-add-a
 add-a c =
-    let w = rw (c .before .before .f .given .1) at (c .before .before .before .before .file-named .ensures .1) in
-    omega (arith, w .fits, c .before .before .before .before .before .before .before .pre .small)
+    let c4 = c .before .before .before .before in
+    let c7 = c4 .before .before .before in
+    let w = rw (c .before .before .f .given .1) at (c4 .file-named .ensures .1) in
+    omega (arith, w .fits, c7 .pre .small)
 
 shared-slice-read-t8 : tie.Need-shared-slice-read-t8
 shared-slice-read-t8 c =
-    let w = rw (c .before .before .before .f .given .1) at (c .before .before .before .before .before .file-named .ensures .1) in
+    let c5 = c .before .before .before .before .before in
+    let w = rw (c .before .before .before .f .given .1) at (c5 .file-named .ensures .1) in
     omega (arith, w .fits)
 
 returns-2 : tie.Need-returns-2
 returns-2 c =
-    let a = c .before .before .before .before .before .before .before .before .args in
+    let c5 = c .before .before .before .before .before in
+    let a = c5 .before .before .before .args in
     let f = c .before .before .before .f .given in
-    let w = rw (f .1) at (c .before .before .before .before .before .file-named .ensures .1) in
-    (old-is (a .image .now) (f .0 .0) _ (sym (ap (found-in (a .image .now)) (f .1)) ∙ c .before .before .before .before .before .file-named .ensures .0), omega (arith, w .fits))
+    let w = rw (f .1) at (c5 .file-named .ensures .1) in
+    (old-is (a .image .now) (f .0 .0) _ (sym (ap (found-in (a .image .now)) (f .1)) ∙ c5 .file-named .ensures .0), omega (arith, w .fits))
 
 pub old-file-spec : {M : Type 1} → statement M
 old-file-spec =

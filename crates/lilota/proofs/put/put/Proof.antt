@@ -12,16 +12,22 @@ name-ok-requires : tie.Need-name-ok-requires
 name-ok-requires c κs = search needs
 
 put-named-requires : tie.Need-put-named-requires
-put-named-requires c κs = (flag (c .before .before .before .before .good-length .ensures) (c .before .before .before .if1 .taken), flag (c .before .before .name-ok .ensures) (c .before .if2 .taken))
+put-named-requires c κs =
+    let c4 = c .before .before .before .before in
+    (flag (c4 .good-length .ensures) (c .before .before .before .if1 .taken), flag (c .before .before .name-ok .ensures) (c .before .if2 .taken))
 
 same-length : tie.Need-same-length
 same-length c = search needs
 
 returns : tie.Need-returns
 returns c =
-    let a = c .before .before .before .before .before .before .before .before .before .before .before .args in
-    let whole = flag (c .before .before .before .before .before .before .before .good-length .ensures) (c .before .before .before .before .before .before .if1 .taken) in
-    let named = flag (c .before .before .before .before .before .name-ok .ensures) (c .before .before .before .before .if2 .taken) in
+    let c4 = c .before .before .before .before in
+    let c5 = c4 .before in
+    let c6 = c5 .before in
+    let c7 = c6 .before in
+    let a = c7 .before .before .before .before .args in
+    let whole = flag (c7 .good-length .ensures) (c6 .if1 .taken) in
+    let named = flag (c5 .name-ok .ensures) (c4 .if2 .taken) in
     c .before .before .put-named .ensures ∙ put-on (a .image .now) (a .allowance) (a .name .now) (a .content .now) whole named
 
 returns-2 : tie.Need-returns-2

@@ -24,9 +24,12 @@ same-length c = search needs
 
 returns : tie.Need-returns
 returns c =
-    let a = c .before .before .before .before .before .before .before .before .before .before .before .args in
-    let roomy = sym (flag (c .before .before .before .before .before .before .has-room .ensures) (c .before .before .before .before .before .if1 .taken)) in
-    rw (c .ended .ensures) (carried (a .allowance) refl refl (c .before .before .before .replace .ensures) ∙ put-room (a .image .now) (a .allowance) (a .name .now) (a .content .now) (reading-of (a .image .now) (a .s)) true roomy)
+    let c5 = c .before .before .before .before .before in
+    let c6 = c5 .before in
+    let a = c6 .before .before .before .before .before .args in
+    let roomy = sym (flag (c6 .has-room .ensures) (c5 .if1 .taken)) in
+    rw (c .ended .ensures) (carried (a .allowance) refl refl (c .before .before .before .replace .ensures)
+        ∙ put-room (a .image .now) (a .allowance) (a .name .now) (a .content .now) (reading-of (a .image .now) (a .s)) true roomy)
 
 same-length-2 : tie.Need-same-length-2
 same-length-2 c = search needs
@@ -35,7 +38,8 @@ returns-2 : tie.Need-returns-2
 returns-2 c =
     let a = c .before .before .before .before .before .before .args in
     let full = sym (flag (c .before .has-room .ensures) (c .if1 .left)) in
-    refused (a .image .now) (a .allowance) 28 ∙ put-room (a .image .now) (a .allowance) (a .name .now) (a .content .now) (reading-of (a .image .now) (a .s)) false full
+    refused (a .image .now) (a .allowance) 28
+        ∙ put-room (a .image .now) (a .allowance) (a .name .now) (a .content .now) (reading-of (a .image .now) (a .s)) false full
 
 pub put-into-spec : {M : Type 1} → statement M
 put-into-spec =

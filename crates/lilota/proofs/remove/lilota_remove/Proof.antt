@@ -16,7 +16,9 @@ same-length : tie.Need-same-length
 same-length c = search needs
 
 returns : tie.Need-returns
-returns c = numbered-as (c .before .before .before .before .remove .result) _ _ _ _ (c .answer .ensures) (c .before .steps .ensures) (c .before .before .before .before .remove .ensures)
+returns c =
+    let c4 = c .before .before .before .before in
+    numbered-as (c4 .remove .result) _ _ _ _ (c .answer .ensures) (c .before .steps .ensures) (c4 .remove .ensures)
 
 pub lilota-remove-spec : {M : Type 1} → statement M
 lilota-remove-spec =

@@ -19,7 +19,9 @@ same-length : tie.Need-same-length
 same-length c = search needs
 
 returns : tie.Need-returns
-returns c = moved-as (c .before .before .before .before .before .sweep .result) _ _ _ _ _ (c .answer .ensures) (c .before .before .moves .ensures) (c .before .steps .ensures) (c .before .before .before .before .before .sweep .ensures)
+returns c =
+    let c5 = c .before .before .before .before .before in
+    moved-as (c5 .sweep .result) _ _ _ _ _ (c .answer .ensures) (c .before .before .moves .ensures) (c .before .steps .ensures) (c5 .sweep .ensures)
 
 pub lilota-sweep-spec : {M : Type 1} → statement M
 lilota-sweep-spec =

@@ -15,10 +15,15 @@ same-length : tie.Need-same-length
 same-length c = search needs
 
 returns : tie.Need-returns
-returns c = let a = c .before .before .before .before .before .before .before .args in c .before .before .sweep-whole .ensures ∙ sweep-on (a .image .now) (a .allowance) (flag (c .before .before .before .before .before .good-length .ensures) (c .before .before .before .before .if1 .taken))
+returns c =
+    let c4 = c .before .before .before .before in
+    let c5 = c4 .before in
+    let a = c5 .before .before .args in
+    c .before .before .sweep-whole .ensures ∙ sweep-on (a .image .now) (a .allowance) (flag (c5 .good-length .ensures) (c4 .if1 .taken))
 
 returns-2 : tie.Need-returns-2
-returns-2 c = let a = c .before .before .before .args in sweep-length (a .image .now) (a .allowance) (flag (c .before .good-length .ensures) (c .if1 .left))
+returns-2 c =
+    let a = c .before .before .before .args in sweep-length (a .image .now) (a .allowance) (flag (c .before .good-length .ensures) (c .if1 .left))
 
 pub sweep-spec : {M : Type 1} → statement M
 sweep-spec =

@@ -17,19 +17,26 @@ loop-holds c = erasing-start (c .before .args .image .now) (c .before .args .m)
 
 erase-requires : tie.Need-erase-requires Inv-loop μ-loop
 erase-requires c κs =
-    let p = c .before .before .before .before .pre in
-    omega (arith, c .before .before .loop .inv .inside, c .before .before .loop .inv .whole, c .before .before .loop .inv .same, erasing-count (c .before .before .loop .inv), p .0, p .1, p .2)
+    let c2 = c .before .before in
+    let p = c2 .before .before .pre in
+    omega (arith, c2 .loop .inv .inside, c2 .loop .inv .whole, c2 .loop .inv .same, erasing-count (c2 .loop .inv), p .0, p .1, p .2)
 
 add-at : tie.Need-add-at Inv-loop μ-loop
-add-at c = omega (arith, c .before .before .before .before .before .loop .inv .inside, c .before .before .before .before .before .before .before .pre .1)
+add-at c =
+    let c5 = c .before .before .before .before .before in
+    let c7 = c5 .before .before in
+    omega (arith, c5 .loop .inv .inside, c7 .pre .1)
 
 loop-less : tie.Need-loop-less Inv-loop μ-loop
 loop-less c = omega (arith, c .before .before .before .before .loop-test .taken, c .before .before .erase .kept)
 
 loop-again : tie.Need-loop-again Inv-loop μ-loop
 loop-again c =
-    let l = c .before .before .before .before .before .loop in
-    erasing-step (l .inv) (c .before .before .before .before .before .before .before .pre .0) (omega (arith, l .inv .same, c .before .before .before .before .loop-test .taken)) (c .before .before .erase .kept .0) (c .before .before .erase .ensures)
+    let c2 = c .before .before in
+    let c4 = c2 .before .before in
+    let c7 = c4 .before .before .before in
+    let l = c4 .before .loop in
+    erasing-step (l .inv) (c7 .pre .0) (omega (arith, l .inv .same, c4 .loop-test .taken)) (c2 .erase .kept .0) (c2 .erase .ensures)
 
 same-length : tie.Need-same-length Inv-loop μ-loop
 same-length c = c .before .loop .inv .same
@@ -37,7 +44,8 @@ same-length c = c .before .loop .inv .same
 returns : tie.Need-returns Inv-loop μ-loop
 returns c =
     let p = c .before .before .before .pre in
-    (erasing-end (c .before .loop .inv) (omega (arith, c .before .loop .inv .same, c .loop-test .left)), omega (arith, erasing-count (c .before .loop .inv), c .before .loop .inv .inside, p .1, p .2))
+    (erasing-end (c .before .loop .inv) (omega (arith, c .before .loop .inv .same, c .loop-test .left)), omega
+        (arith, erasing-count (c .before .loop .inv), c .before .loop .inv .inside, p .1, p .2))
 
 pub erase-all-spec : {M : Type 1} → statement M
 erase-all-spec =

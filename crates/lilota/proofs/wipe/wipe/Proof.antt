@@ -8,17 +8,23 @@ use Rattle.lilota.proofs.wipe.wipe.Statement.{statement}
 use Rattle.lilota.proofs.wipe.wipe.Tie as tie
 
 erase-all-requires : tie.Need-erase-all-requires
-erase-all-requires c κs = let g = good (length (c .before .before .args .image .now)) (c .before .before .pre .0) in (g .sectors, g .most, c .before .before .pre .1)
+erase-all-requires c κs =
+    let g = good (length (c .before .before .args .image .now)) (c .before .before .pre .0) in (g .sectors, g .most, c .before .before .pre .1)
 
 write-first-requires : tie.Need-write-first-requires
-write-first-requires c κs = let g = good (length (c .before .before .before .before .before .before .args .image .now)) (c .before .before .before .before .before .before .pre .0) in (omega (arith, g .two, c .before .before .before .erase-all .kept .0), c .before .before .before .erase-all .ensures .1)
+write-first-requires c κs =
+    let c3 = c .before .before .before in
+    let c6 = c3 .before .before .before in
+    let g = good (length (c6 .args .image .now)) (c6 .pre .0) in (omega (arith, g .two, c3 .erase-all .kept .0), c3 .erase-all .ensures .1)
 
 same-length : tie.Need-same-length
 same-length c = search needs
 
 returns : tie.Need-returns
 unfolding format-steps
-returns c = did-both (c .before .before .before .before .before .before .erase-all .ensures .0) (c .before .before .write-first .ensures)
+returns c =
+    let c6 = c .before .before .before .before .before .before in
+    did-both (c6 .erase-all .ensures .0) (c .before .before .write-first .ensures)
 
 pub wipe-spec : {M : Type 1} → statement M
 wipe-spec = tie.close (tie.spec erase-all-requires write-first-requires same-length returns)

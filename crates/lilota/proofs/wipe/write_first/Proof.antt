@@ -14,16 +14,26 @@ program-requires : tie.Need-program-requires
 program-requires c κs = omega (arith, c .before .before .before .program-bytes .ensures .count)
 
 program-requires-2 : tie.Need-program-requires-2
-program-requires-2 c κs = omega (arith, c .before .before .before .before .before .before .before .program-bytes .ensures .count, c .before .before .before .program .ensures .count)
+program-requires-2 c κs =
+    let c7 = c .before .before .before .before .before .before .before in
+    omega (arith, c7 .program-bytes .ensures .count, c .before .before .before .program .ensures .count)
 
 program-requires-3 : tie.Need-program-requires-3
-program-requires-3 c κs = omega (arith, c .before .before .before .before .before .before .before .before .before .before .before .program-bytes .ensures .count, c .before .before .before .before .before .before .before .program .ensures .count, c .before .before .before .program2 .ensures .count)
+program-requires-3 c κs =
+    let c7 = c .before .before .before .before .before .before .before in
+    let c11 = c7 .before .before .before .before in
+    omega (arith, c11 .program-bytes .ensures .count, c7 .program .ensures .count, c .before .before .before .program2 .ensures .count)
 
 same-length : tie.Need-same-length
 same-length c = search needs
 
 returns : tie.Need-returns
-returns c = did-both (c .before .before .before .before .before .before .before .before .before .before .before .before .before .before .program-bytes .ensures) (did-both (c .before .before .before .before .before .before .before .before .before .before .program .ensures) (did-both (c .before .before .before .before .before .before .program2 .ensures) (c .before .before .program3 .ensures)))
+returns c =
+    let c6 = c .before .before .before .before .before .before in
+    let c10 = c6 .before .before .before .before in
+    let c14 = c10 .before .before .before .before in
+    did-both (c14 .program-bytes .ensures)
+        (did-both (c10 .program .ensures) (did-both (c6 .program2 .ensures) (c .before .before .program3 .ensures)))
 
 pub write-first-spec : {M : Type 1} → statement M
 write-first-spec =

@@ -29,9 +29,12 @@ returns c =
     let a = c .before .before .before .before .args in
     let s = a .image .now in
     let k = a .c in
-    let w = subst (λ (l : ℕ). Within (c .before .next-of .result) l) (sym (part-count s (k .at) (k .end) (p .ordered, p .inside))) (c .before .next-of .ensures .1) in (
+    let w = subst (λ (l : ℕ). Within (c .before .next-of .result) l) (sym (part-count s (k .at) (k .end) (p .ordered, p .inside)))
+        (c .before .next-of .ensures .1) in
+    (
       look-is s k (c .allowed .result) (c .before .next-of .result) (p .ordered) (c .before .next-of .ensures .0) (c .allowed .ensures),
-      subst (λ (x : Next). Within x (k .end - k .at)) (sym (c .allowed .ensures)) (allowed-within (k .held) (c .before .next-of .result) (k .end - k .at) w),
+      subst (λ (x : Next). Within x (k .end - k .at)) (sym (c .allowed .ensures))
+          (allowed-within (k .held) (c .before .next-of .result) (k .end - k .at) w),
     )
 
 pub look-spec : {M : Type 1} → statement M

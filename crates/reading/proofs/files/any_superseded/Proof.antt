@@ -15,10 +15,13 @@ abbrev μ-loop : tie.MeasureT-loop
 μ-loop image start c₀ c = left c
 
 -- the turn of the loop, once a record was found
-turn : (k : tie.After-known-told Inv-loop μ-loop) → Turned (k .before .before .before .before .before .before .args .image .now) (k .before .before .before .before .loop .c) (k .before .s .given .0 .0) (k .before .s .given .0 .1 .0)
+turn : (k : tie.After-known-told Inv-loop μ-loop)
+    → Turned (k .before .before .before .before .before .before .args .image .now) (k .before .before .before .before .loop .c)
+    (k .before .s .given .0 .0) (k .before .s .given .0 .1 .0)
 turn k =
     let a = k .before .before .before .advance in
-    turned (k .before .before .before .before .before .before .args .image .now) (k .before .before .before .before .loop .c) (a .result) (k .before .s .given .0 .0) (k .before .s .given .0 .1 .0) (a .ensures .0) (a .ensures .1) (k .before .s .given .1)
+    turned (k .before .before .before .before .before .before .args .image .now) (k .before .before .before .before .loop .c) (a .result)
+        (k .before .s .given .0 .0) (k .before .s .given .0 .1 .0) (a .ensures .0) (a .ensures .1) (k .before .s .given .1)
 
 loop-holds : tie.Need-loop-holds Inv-loop μ-loop
 loop-holds c = fold-start _ _ _ _ (c .before .pre)
@@ -32,25 +35,28 @@ enum-known-s c = c .match .keys1
 returns : tie.Need-returns Inv-loop μ-loop
 returns c =
     let a = c .before .before .before .before .args in
-    any-over (superseded (rest (a .image .now) (a .start) .entries)) (c .before .before .loop .inv) (c .before .advance .result) (c .before .advance .ensures .0) (other-step (c .before .advance .result) (c .match .keys2))
+    any-over (superseded (rest (a .image .now) (a .start) .entries)) (c .before .before .loop .inv) (c .before .advance .result)
+        (c .before .advance .ensures .0) (other-step (c .before .advance .result) (c .match .keys2))
 
 is-superseded-requires : tie.Need-is-superseded-requires Inv-loop μ-loop
 is-superseded-requires c κs = let t = turn c in ((c .before .before .before .before .before .before .pre), t .whole)
 
 returns-2 : tie.Need-returns-2 Inv-loop μ-loop
 returns-2 c =
-    let a = c .before .before .before .before .before .before .before .before .args in
+    let c6 = c .before .before .before .before .before .before in
+    let a = c6 .before .before .args in
     let t = turn (c .before .before) in
-    any-found (superseded (rest (a .image .now) (a .start) .entries)) (c .before .before .before .before .before .before .loop .inv) t (flag (c .before .is-superseded .ensures) (c .if1 .taken))
+    any-found (superseded (rest (a .image .now) (a .start) .entries)) (c6 .loop .inv) t (flag (c .before .is-superseded .ensures) (c .if1 .taken))
 
 loop-less : tie.Need-loop-less Inv-loop μ-loop
 loop-less c = turn (c .before .before) .onward .less
 
 loop-again : tie.Need-loop-again Inv-loop μ-loop
 loop-again c =
-    let a = c .before .before .before .before .before .before .before .before .args in
+    let c6 = c .before .before .before .before .before .before in
+    let a = c6 .before .before .args in
     let t = turn (c .before .before) in
-    any-onward (superseded (rest (a .image .now) (a .start) .entries)) (c .before .before .before .before .before .before .loop .inv) t (flag (c .before .is-superseded .ensures) (c .if1 .left))
+    any-onward (superseded (rest (a .image .now) (a .start) .entries)) (c6 .loop .inv) t (flag (c .before .is-superseded .ensures) (c .if1 .left))
 
 pub any-superseded-spec : {M : Type 1} → statement M
 any-superseded-spec =

@@ -16,10 +16,13 @@ abbrev μ-loop : tie.MeasureT-loop
 μ-loop image start c₀ count₀ c count = left c
 
 -- the turn of the loop, once a record was found
-turn : (k : tie.After-known-told Inv-loop μ-loop) → Turned (k .before .before .before .before .before .before .args .image .now) (k .before .before .before .before .loop .c) (k .before .s .given .0 .0) (k .before .s .given .0 .1 .0)
+turn : (k : tie.After-known-told Inv-loop μ-loop)
+    → Turned (k .before .before .before .before .before .before .args .image .now) (k .before .before .before .before .loop .c)
+    (k .before .s .given .0 .0) (k .before .s .given .0 .1 .0)
 turn k =
     let a = k .before .before .before .advance in
-    turned (k .before .before .before .before .before .before .args .image .now) (k .before .before .before .before .loop .c) (a .result) (k .before .s .given .0 .0) (k .before .s .given .0 .1 .0) (a .ensures .0) (a .ensures .1) (k .before .s .given .1)
+    turned (k .before .before .before .before .before .before .args .image .now) (k .before .before .before .before .loop .c) (a .result)
+        (k .before .s .given .0 .0) (k .before .s .given .0 .1 .0) (a .ensures .0) (a .ensures .1) (k .before .s .given .1)
 
 loop-holds : tie.Need-loop-holds Inv-loop μ-loop
 loop-holds c = count-start _ (c .before .pre)
@@ -33,7 +36,8 @@ enum-known-s c = c .match .keys1
 returns : tie.Need-returns Inv-loop μ-loop
 returns c =
     let a = c .before .before .before .before .args in
-    count-over (live (rest (a .image .now) (a .start) .entries)) (c .before .before .loop .inv) (c .before .advance .result) (c .before .advance .ensures .0) (other-step (c .before .advance .result) (c .match .keys2))
+    count-over (live (rest (a .image .now) (a .start) .entries)) (c .before .before .loop .inv) (c .before .advance .result)
+        (c .before .advance .ensures .0) (other-step (c .before .advance .result) (c .match .keys2))
 
 is-live-requires : tie.Need-is-live-requires Inv-loop μ-loop
 is-live-requires c κs = let t = turn c in ((c .before .before .before .before .before .before .pre), t .whole)
@@ -48,18 +52,20 @@ loop-less c = turn (c .before .before) .onward .less
 
 loop-again : tie.Need-loop-again Inv-loop μ-loop
 loop-again c =
-    let a = c .before .before .before .before .before .before .before .before .args in
+    let c6 = c .before .before .before .before .before .before in
+    let a = c6 .before .before .args in
     let t = turn (c .before .before) in
-    count-one (live (rest (a .image .now) (a .start) .entries)) (c .before .before .before .before .before .before .loop .inv) t (flag (c .before .is-live .ensures) (c .if1 .taken))
+    count-one (live (rest (a .image .now) (a .start) .entries)) (c6 .loop .inv) t (flag (c .before .is-live .ensures) (c .if1 .taken))
 
 loop-less-2 : tie.Need-loop-less-2 Inv-loop μ-loop
 loop-less-2 c = turn (c .before .before) .onward .less
 
 loop-again-2 : tie.Need-loop-again-2 Inv-loop μ-loop
 loop-again-2 c =
-    let a = c .before .before .before .before .before .before .before .before .args in
+    let c6 = c .before .before .before .before .before .before in
+    let a = c6 .before .before .args in
     let t = turn (c .before .before) in
-    count-none (live (rest (a .image .now) (a .start) .entries)) (c .before .before .before .before .before .before .loop .inv) t (flag (c .before .is-live .ensures) (c .if1 .left))
+    count-none (live (rest (a .image .now) (a .start) .entries)) (c6 .loop .inv) t (flag (c .before .is-live .ensures) (c .if1 .left))
 
 pub count-files-spec : {M : Type 1} → statement M
 count-files-spec =

@@ -13,10 +13,13 @@ abbrev μ-loop : tie.MeasureT-loop
 μ-loop image status c₀ c = left c
 
 -- the turn of the loop, once a record was found
-turn : (k : tie.After-known-told Inv-loop μ-loop) → Turned (k .before .before .before .before .before .before .args .image .now) (k .before .before .before .before .loop .c) (k .before .s .given .0 .0) (k .before .s .given .0 .1 .0)
+turn : (k : tie.After-known-told Inv-loop μ-loop)
+    → Turned (k .before .before .before .before .before .before .args .image .now) (k .before .before .before .before .loop .c)
+    (k .before .s .given .0 .0) (k .before .s .given .0 .1 .0)
 turn k =
     let a = k .before .before .before .advance in
-    turned (k .before .before .before .before .before .before .args .image .now) (k .before .before .before .before .loop .c) (a .result) (k .before .s .given .0 .0) (k .before .s .given .0 .1 .0) (a .ensures .0) (a .ensures .1) (k .before .s .given .1)
+    turned (k .before .before .before .before .before .before .args .image .now) (k .before .before .before .before .loop .c) (a .result)
+        (k .before .s .given .0 .0) (k .before .s .given .0 .1 .0) (a .ensures .0) (a .ensures .1) (k .before .s .given .1)
 
 loop-holds : tie.Need-loop-holds Inv-loop μ-loop
 loop-holds c = fold-start _ _ _ _ (c .before .pre)
@@ -28,23 +31,30 @@ enum-known-s : tie.Need-enum-known-s Inv-loop μ-loop
 enum-known-s c = c .match .keys1
 
 returns : tie.Need-returns Inv-loop μ-loop
-returns c = doubled-over (c .before .before .before .before .args .status .byte) (c .before .before .loop .inv) (c .before .advance .result) (c .before .advance .ensures .0) (other-step (c .before .advance .result) (c .match .keys2))
+returns c =
+    let c4 = c .before .before .before .before in
+    doubled-over (c4 .args .status .byte) (c .before .before .loop .inv) (c .before .advance .result) (c .before .advance .ensures .0)
+        (other-step (c .before .advance .result) (c .match .keys2))
 
 again-requires : tie.Need-again-requires Inv-loop μ-loop
 again-requires c κs = let t = turn c in (t .onward .sound, t .whole)
 
 returns-2 : tie.Need-returns-2 Inv-loop μ-loop
 returns-2 c =
+    let c6 = c .before .before .before .before .before .before in
+    let c8 = c6 .before .before in
     let t = turn (c .before .before) in
-    doubled-found (c .before .before .before .before .before .before .before .before .args .status .byte) (c .before .before .before .before .before .before .loop .inv) t (flag (c .before .again .ensures) (c .if1 .taken))
+    doubled-found (c8 .args .status .byte) (c6 .loop .inv) t (flag (c .before .again .ensures) (c .if1 .taken))
 
 loop-less : tie.Need-loop-less Inv-loop μ-loop
 loop-less c = turn (c .before .before) .onward .less
 
 loop-again : tie.Need-loop-again Inv-loop μ-loop
 loop-again c =
+    let c6 = c .before .before .before .before .before .before in
+    let c8 = c6 .before .before in
     let t = turn (c .before .before) in
-    doubled-onward (c .before .before .before .before .before .before .before .before .args .status .byte) (c .before .before .before .before .before .before .loop .inv) t (flag (c .before .again .ensures) (c .if1 .left))
+    doubled-onward (c8 .args .status .byte) (c6 .loop .inv) t (flag (c .before .again .ensures) (c .if1 .left))
 
 pub doubled-spec : {M : Type 1} → statement M
 doubled-spec =

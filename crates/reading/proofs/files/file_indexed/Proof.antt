@@ -15,10 +15,13 @@ abbrev μ-loop : tie.MeasureT-loop
 μ-loop image index c₀ left₀ c left = left-of c
 
 -- the turn of the loop, once a record was found
-turn : (k : tie.After-known-told Inv-loop μ-loop) → Turned (k .before .before .before .before .before .before .args .image .now) (k .before .before .before .before .loop .c) (k .before .s .given .0 .0) (k .before .s .given .0 .1 .0)
+turn : (k : tie.After-known-told Inv-loop μ-loop)
+    → Turned (k .before .before .before .before .before .before .args .image .now) (k .before .before .before .before .loop .c)
+    (k .before .s .given .0 .0) (k .before .s .given .0 .1 .0)
 turn k =
     let a = k .before .before .before .advance in
-    turned (k .before .before .before .before .before .before .args .image .now) (k .before .before .before .before .loop .c) (a .result) (k .before .s .given .0 .0) (k .before .s .given .0 .1 .0) (a .ensures .0) (a .ensures .1) (k .before .s .given .1)
+    turned (k .before .before .before .before .before .before .args .image .now) (k .before .before .before .before .loop .c) (a .result)
+        (k .before .s .given .0 .0) (k .before .s .given .0 .1 .0) (a .ensures .0) (a .ensures .1) (k .before .s .given .1)
 
 loop-holds : tie.Need-loop-holds Inv-loop μ-loop
 loop-holds c = fold-start _ _ _ _ (c .before .pre)
@@ -30,15 +33,18 @@ enum-known-s : tie.Need-enum-known-s Inv-loop μ-loop
 enum-known-s c = c .match .keys1
 
 returns : tie.Need-returns Inv-loop μ-loop
-returns c = (nth-over is-file (c .before .before .loop .inv) (c .before .advance .result) (c .before .advance .ensures .0) (other-step (c .before .advance .result) (c .match .keys2)), tt)
+returns c =
+    (nth-over is-file (c .before .before .loop .inv) (c .before .advance .result) (c .before .advance .ensures .0)
+        (other-step (c .before .advance .result) (c .match .keys2)), tt)
 
 is-file-requires : tie.Need-is-file-requires Inv-loop μ-loop
 is-file-requires c κs = turn c .whole
 
 returns-2 : tie.Need-returns-2 Inv-loop μ-loop
 returns-2 c =
+    let c7 = c .before .before .before .before .before .before .before in
     let t = turn (c .before .before .before) in
-    (nth-found is-file (c .before .before .before .before .before .before .before .loop .inv) t (flag (c .before .before .is-file .ensures) (c .before .if1 .taken)) (c .if2 .taken), t .whole)
+    (nth-found is-file (c7 .loop .inv) t (flag (c .before .before .is-file .ensures) (c .before .if1 .taken)) (c .if2 .taken), t .whole)
 
 sub-left : tie.Need-sub-left Inv-loop μ-loop
 sub-left c = search needs
@@ -48,16 +54,18 @@ loop-less c = turn (c .before .before .before) .onward .less
 
 loop-again : tie.Need-loop-again Inv-loop μ-loop
 loop-again c =
+    let c7 = c .before .before .before .before .before .before .before in
     let t = turn (c .before .before .before) in
-    nth-onward is-file (c .before .before .before .before .before .before .before .loop .inv) t (flag (c .before .before .is-file .ensures) (c .before .if1 .taken)) (c .if2 .left)
+    nth-onward is-file (c7 .loop .inv) t (flag (c .before .before .is-file .ensures) (c .before .if1 .taken)) (c .if2 .left)
 
 loop-less-2 : tie.Need-loop-less-2 Inv-loop μ-loop
 loop-less-2 c = turn (c .before .before) .onward .less
 
 loop-again-2 : tie.Need-loop-again-2 Inv-loop μ-loop
 loop-again-2 c =
+    let c6 = c .before .before .before .before .before .before in
     let t = turn (c .before .before) in
-    nth-skip is-file (c .before .before .before .before .before .before .loop .inv) t (flag (c .before .is-file .ensures) (c .if1 .left))
+    nth-skip is-file (c6 .loop .inv) t (flag (c .before .is-file .ensures) (c .if1 .left))
 
 pub file-indexed-spec : {M : Type 1} → statement M
 file-indexed-spec =

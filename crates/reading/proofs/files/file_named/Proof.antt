@@ -15,10 +15,13 @@ abbrev μ-loop : tie.MeasureT-loop
 μ-loop image name c₀ c = left c
 
 -- the turn of the loop, once a record was found
-turn : (k : tie.After-known-told Inv-loop μ-loop) → Turned (k .before .before .before .before .before .before .before .args .image .now) (k .before .before .before .before .loop .c) (k .before .s .given .0 .0) (k .before .s .given .0 .1 .0)
+turn : (k : tie.After-known-told Inv-loop μ-loop)
+    → Turned (k .before .before .before .before .before .before .before .args .image .now) (k .before .before .before .before .loop .c)
+    (k .before .s .given .0 .0) (k .before .s .given .0 .1 .0)
 turn k =
     let a = k .before .before .before .advance in
-    turned (k .before .before .before .before .before .before .before .args .image .now) (k .before .before .before .before .loop .c) (a .result) (k .before .s .given .0 .0) (k .before .s .given .0 .1 .0) (a .ensures .0) (a .ensures .1) (k .before .s .given .1)
+    turned (k .before .before .before .before .before .before .before .args .image .now) (k .before .before .before .before .loop .c) (a .result)
+        (k .before .s .given .0 .0) (k .before .s .given .0 .1 .0) (a .ensures .0) (a .ensures .1) (k .before .s .given .1)
 
 loop-holds : tie.Need-loop-holds Inv-loop μ-loop
 loop-holds c = fold-start _ _ _ _ (c .before .before .pre)
@@ -30,7 +33,10 @@ enum-known-s : tie.Need-enum-known-s Inv-loop μ-loop
 enum-known-s c = c .match .keys1
 
 returns : tie.Need-returns Inv-loop μ-loop
-returns c = (first-over (has-name (c .before .before .before .before .before .args .name .now)) is-file (c .before .before .loop .inv) (c .before .advance .result) (c .before .advance .ensures .0) (other-step (c .before .advance .result) (c .match .keys2)), tt)
+returns c =
+    let c5 = c .before .before .before .before .before in
+    (first-over (has-name (c5 .args .name .now)) is-file (c .before .before .loop .inv) (c .before .advance .result) (c .before .advance .ensures .0)
+        (other-step (c .before .advance .result) (c .match .keys2)), tt)
 
 is-file-requires : tie.Need-is-file-requires Inv-loop μ-loop
 is-file-requires c κs = turn c .whole
@@ -40,24 +46,35 @@ has-name-requires c κs = turn (c .before .before) .whole
 
 returns-2 : tie.Need-returns-2 Inv-loop μ-loop
 returns-2 c =
-    let t = turn (c .before .before .before .before) in
-    (first-found (has-name (c .before .before .before .before .before .before .before .before .before .before .before .args .name .now)) is-file (c .before .before .before .before .before .before .before .before .loop .inv) t (flag (c .before .before .before .is-file .ensures) (c .before .before .if1 .taken)) (flag (c .before .has-name .ensures) (c .if2 .taken)), t .whole)
+    let c4 = c .before .before .before .before in
+    let c8 = c4 .before .before .before .before in
+    let c11 = c8 .before .before .before in
+    let t = turn (c4) in
+    (first-found (has-name (c11 .args .name .now)) is-file (c8 .loop .inv) t
+        (flag (c .before .before .before .is-file .ensures) (c .before .before .if1 .taken)) (flag (c .before .has-name .ensures) (c .if2 .taken)),
+        t .whole)
 
 loop-less : tie.Need-loop-less Inv-loop μ-loop
 loop-less c = turn (c .before .before .before .before) .onward .less
 
 loop-again : tie.Need-loop-again Inv-loop μ-loop
 loop-again c =
-    let t = turn (c .before .before .before .before) in
-    first-other (has-name (c .before .before .before .before .before .before .before .before .before .before .before .args .name .now)) is-file (c .before .before .before .before .before .before .before .before .loop .inv) t (flag (c .before .before .before .is-file .ensures) (c .before .before .if1 .taken)) (flag (c .before .has-name .ensures) (c .if2 .left))
+    let c4 = c .before .before .before .before in
+    let c8 = c4 .before .before .before .before in
+    let c11 = c8 .before .before .before in
+    let t = turn (c4) in
+    first-other (has-name (c11 .args .name .now)) is-file (c8 .loop .inv) t
+        (flag (c .before .before .before .is-file .ensures) (c .before .before .if1 .taken)) (flag (c .before .has-name .ensures) (c .if2 .left))
 
 loop-less-2 : tie.Need-loop-less-2 Inv-loop μ-loop
 loop-less-2 c = turn (c .before .before) .onward .less
 
 loop-again-2 : tie.Need-loop-again-2 Inv-loop μ-loop
 loop-again-2 c =
+    let c6 = c .before .before .before .before .before .before in
+    let c9 = c6 .before .before .before in
     let t = turn (c .before .before) in
-    first-skip (has-name (c .before .before .before .before .before .before .before .before .before .args .name .now)) is-file (c .before .before .before .before .before .before .loop .inv) t (flag (c .before .is-file .ensures) (c .if1 .left))
+    first-skip (has-name (c9 .args .name .now)) is-file (c6 .loop .inv) t (flag (c .before .is-file .ensures) (c .if1 .left))
 
 pub file-named-spec : {M : Type 1} → statement M
 file-named-spec =

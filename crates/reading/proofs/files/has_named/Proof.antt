@@ -15,10 +15,13 @@ abbrev μ-loop : tie.MeasureT-loop
 μ-loop image status e c₀ c = left c
 
 -- the turn of the loop, once a record was found
-turn : (k : tie.After-known-told Inv-loop μ-loop) → Turned (k .before .before .before .before .before .before .args .image .now) (k .before .before .before .before .loop .c) (k .before .s .given .0 .0) (k .before .s .given .0 .1 .0)
+turn : (k : tie.After-known-told Inv-loop μ-loop)
+    → Turned (k .before .before .before .before .before .before .args .image .now) (k .before .before .before .before .loop .c)
+    (k .before .s .given .0 .0) (k .before .s .given .0 .1 .0)
 turn k =
     let a = k .before .before .before .advance in
-    turned (k .before .before .before .before .before .before .args .image .now) (k .before .before .before .before .loop .c) (a .result) (k .before .s .given .0 .0) (k .before .s .given .0 .1 .0) (a .ensures .0) (a .ensures .1) (k .before .s .given .1)
+    turned (k .before .before .before .before .before .before .args .image .now) (k .before .before .before .before .loop .c) (a .result)
+        (k .before .s .given .0 .0) (k .before .s .given .0 .1 .0) (a .ensures .0) (a .ensures .1) (k .before .s .given .1)
 
 loop-holds : tie.Need-loop-holds Inv-loop μ-loop
 loop-holds c = fold-start _ _ _ _ (c .before .pre .0)
@@ -33,7 +36,9 @@ returns : tie.Need-returns Inv-loop μ-loop
 unfolding has-named
 returns c =
     let a = c .before .before .before .before .args in
-    let p = named-as (a .status .byte) (entry-of (a .image .now) (a .e)) in any-over p (c .before .before .loop .inv) (c .before .advance .result) (c .before .advance .ensures .0) (other-step (c .before .advance .result) (c .match .keys2))
+    let p = named-as (a .status .byte) (entry-of (a .image .now) (a .e)) in
+    any-over p (c .before .before .loop .inv) (c .before .advance .result) (c .before .advance .ensures .0)
+        (other-step (c .before .advance .result) (c .match .keys2))
 
 named-as-requires : tie.Need-named-as-requires Inv-loop μ-loop
 named-as-requires c κs = let t = turn c in (c .before .before .before .before .before .before .pre .1, t .whole)
@@ -41,20 +46,22 @@ named-as-requires c κs = let t = turn c in (c .before .before .before .before .
 returns-2 : tie.Need-returns-2 Inv-loop μ-loop
 unfolding has-named
 returns-2 c =
-    let a = c .before .before .before .before .before .before .before .before .args in
+    let c6 = c .before .before .before .before .before .before in
+    let a = c6 .before .before .args in
     let p = named-as (a .status .byte) (entry-of (a .image .now) (a .e)) in
     let t = turn (c .before .before) in
-    any-found p (c .before .before .before .before .before .before .loop .inv) t (flag (c .before .named-as .ensures) (c .if1 .taken))
+    any-found p (c6 .loop .inv) t (flag (c .before .named-as .ensures) (c .if1 .taken))
 
 loop-less : tie.Need-loop-less Inv-loop μ-loop
 loop-less c = turn (c .before .before) .onward .less
 
 loop-again : tie.Need-loop-again Inv-loop μ-loop
 loop-again c =
-    let a = c .before .before .before .before .before .before .before .before .args in
+    let c6 = c .before .before .before .before .before .before in
+    let a = c6 .before .before .args in
     let p = named-as (a .status .byte) (entry-of (a .image .now) (a .e)) in
     let t = turn (c .before .before) in
-    any-onward p (c .before .before .before .before .before .before .loop .inv) t (flag (c .before .named-as .ensures) (c .if1 .left))
+    any-onward p (c6 .loop .inv) t (flag (c .before .named-as .ensures) (c .if1 .left))
 
 pub has-named-spec : {M : Type 1} → statement M
 has-named-spec =

@@ -17,13 +17,22 @@ has-named-requires : tie.Need-has-named-requires
 has-named-requires c κs = search needs
 
 returns-2 : tie.Need-returns-2
-returns-2 c = live-f8 _ _ _ (flag (c .before .before .before .before .before .named .ensures) (c .before .before .before .before .if1 .left)) (flag (c .before .before .before .named2 .ensures) (c .before .before .if2 .taken)) (flag (c .before .has-named .ensures) (c .if3 .taken))
+returns-2 c =
+    let c4 = c .before .before .before .before in
+    let c5 = c4 .before in
+    live-f8 _ _ _ (flag (c5 .named .ensures) (c4 .if1 .left)) (flag (c .before .before .before .named2 .ensures) (c .before .before .if2 .taken))
+        (flag (c .before .has-named .ensures) (c .if3 .taken))
 
 returns-3 : tie.Need-returns-3
-returns-3 c = live-f8 _ _ _ (flag (c .before .before .before .before .before .named .ensures) (c .before .before .before .before .if1 .left)) (flag (c .before .before .before .named2 .ensures) (c .before .before .if2 .taken)) (flag (c .before .has-named .ensures) (c .if3 .left))
+returns-3 c =
+    let c4 = c .before .before .before .before in
+    let c5 = c4 .before in
+    live-f8 _ _ _ (flag (c5 .named .ensures) (c4 .if1 .left)) (flag (c .before .before .before .named2 .ensures) (c .before .before .if2 .taken))
+        (flag (c .before .has-named .ensures) (c .if3 .left))
 
 returns-4 : tie.Need-returns-4
-returns-4 c = live-none _ _ (flag (c .before .before .before .named .ensures) (c .before .before .if1 .left)) (flag (c .before .named2 .ensures) (c .if2 .left))
+returns-4 c =
+    live-none _ _ (flag (c .before .before .before .named .ensures) (c .before .before .if1 .left)) (flag (c .before .named2 .ensures) (c .if2 .left))
 
 pub is-live-spec : {M : Type 1} → statement M
 is-live-spec =

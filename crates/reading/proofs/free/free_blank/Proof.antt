@@ -14,7 +14,8 @@ blank-part-requires c κs = omega (arith, c .before .before .before .pre .head)
 returns : tie.Need-returns
 returns c =
     let a = c .before .before .before .before .args in
-    free-turned (a .image .now) (a .p) (c .before .before .floor .result) (c .before .before .floor .ensures .0) _ (c .before .if1 .taken) (c .blank-part .ensures)
+    free-turned (a .image .now) (a .p) (c .before .before .floor .result) (c .before .before .floor .ensures .0) _ (c .before .if1 .taken)
+        (c .blank-part .ensures)
 
 blank-part-requires-2 : tie.Need-blank-part-requires-2
 blank-part-requires-2 c κs = omega (arith, c .before .before .before .pre .head)
@@ -24,13 +25,17 @@ blank-part-requires-3 c κs = omega (arith, c .before .before .before .before .b
 
 returns-2 : tie.Need-returns-2
 returns-2 c =
-    let a = c .before .before .before .before .before .before .args in
-    free-both (a .image .now) (a .p) (c .before .before .before .before .floor .result) (c .before .before .before .before .floor .ensures .0) _ (c .before .before .before .if1 .left) (flag (c .before .before .blank-part2 .ensures) (c .before .if2 .taken)) (c .blank-part3 .ensures)
+    let c4 = c .before .before .before .before in
+    let a = c4 .before .before .args in
+    free-both (a .image .now) (a .p) (c4 .floor .result) (c4 .floor .ensures .0) _ (c .before .before .before .if1 .left)
+        (flag (c .before .before .blank-part2 .ensures) (c .before .if2 .taken)) (c .blank-part3 .ensures)
 
 returns-3 : tie.Need-returns-3
 returns-3 c =
-    let a = c .before .before .before .before .before .args in
-    free-first (a .image .now) (a .p) (c .before .before .before .floor .result) (c .before .before .before .floor .ensures .0) (c .before .before .if1 .left) (flag (c .before .blank-part2 .ensures) (c .if2 .left))
+    let c3 = c .before .before .before in
+    let a = c3 .before .before .args in
+    free-first (a .image .now) (a .p) (c3 .floor .result) (c3 .floor .ensures .0) (c .before .before .if1 .left)
+        (flag (c .before .blank-part2 .ensures) (c .if2 .left))
 
 pub free-blank-spec : {M : Type 1} → statement M
 free-blank-spec =

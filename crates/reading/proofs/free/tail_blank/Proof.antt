@@ -23,9 +23,10 @@ blank-part-requires c κs =
 
 returns : tie.Need-returns
 returns c =
-    let a = c .before .before .before .before .before .args in
-    tail-sector (a .image .now) (a .p) _ (omega (arith, c .before .before .limit .ensures, c .before .before .before .floor .ensures .0))
-    (c .blank-part .ensures ∙ ap (λ (n : ℕ). blank-part (a .p .tail) (n + 4096) (a .image .now)) (c .before .before .before .floor .ensures .0))
+    let c3 = c .before .before .before in
+    let a = c3 .before .before .args in
+    tail-sector (a .image .now) (a .p) _ (omega (arith, c .before .before .limit .ensures, c3 .floor .ensures .0))
+    (c .blank-part .ensures ∙ ap (λ (n : ℕ). blank-part (a .p .tail) (n + 4096) (a .image .now)) (c3 .floor .ensures .0))
 
 blank-part-requires-2 : tie.Need-blank-part-requires-2
 blank-part-requires-2 c κs =

@@ -29,10 +29,13 @@ record-of-requires c κs = search needs
 
 returns : tie.Need-returns
 returns c =
-    let a = c .before .before .before .before .before .before .before .args in
+    let c4 = c .before .before .before .before in
+    let c5 = c4 .before in
+    let a = c5 .before .before .args in
     let s = a .image .now in
     let at = a .at in (
-      walk-next-is at (drop at s) _ (c .record-of .result) _ (flag (c .before .before .before .before .before .walked-here .ensures) (c .before .before .before .before .if1 .taken)) (c .before .before .byte .ensures) (part-to-end s at) (c .record-of .ensures .0),
+      walk-next-is at (drop at s) _ (c .record-of .result) _ (flag (c5 .walked-here .ensures) (c4 .if1 .taken)) (c .before .before .byte .ensures)
+          (part-to-end s at) (c .record-of .ensures .0),
       subst (λ (l : ℕ). Within (c .record-of .result) l) (length-part s at) (c .record-of .ensures .1),
     )
 

@@ -20,26 +20,35 @@ enum-told c = search needs
 returns : tie.Need-returns
 returns c =
     let s = c .before .before .before .before .args .image .now in
-    rw (c .enum-told .given .1) (settled-none s (c .enum-told .given .0 .0) (sym (ap (answered s) (c .enum-told .given .1)) ∙ c .before .before .read .ensures .0), tt, tt)
+    rw (c .enum-told .given .1)
+        (settled-none s (c .enum-told .given .0 .0) (sym (ap (answered s) (c .enum-told .given .1)) ∙ c .before .before .read .ensures .0), tt, tt)
 
 first-cursor-requires : tie.Need-first-cursor-requires
 first-cursor-requires c κs = search needs
 
 settled-requires : tie.Need-settled-requires
-settled-requires c κs = (rw (c .before .before .before .x .given .1) at (c .before .before .before .before .before .read .ensures .1), c .first-cursor .ensures)
+settled-requires c κs =
+    let c5 = c .before .before .before .before .before in
+    (rw (c .before .before .before .x .given .1) at (c5 .read .ensures .1), c .first-cursor .ensures)
 
 returns-2 : tie.Need-returns-2
 returns-2 c =
-    let s = c .before .before .before .before .before .before .before .before .before .args .image .now in (
-      settled-by s (reading-of s (c .before .before .before .before .before .x .given .0 .0)) true (sym (ap (answered s) (c .before .before .before .before .before .x .given .1)) ∙ c .before .before .before .before .before .before .before .read .ensures .0) (flag (c .before .settled .ensures) (c .if1 .taken)),
-      rw (c .before .before .before .before .before .x .given .1) at (c .before .before .before .before .before .before .before .read .ensures .1),
-      settled-quiet s (reading-of s (c .before .before .before .before .before .x .given .0 .0)) (flag (c .before .settled .ensures) (c .if1 .taken)),
+    let c5 = c .before .before .before .before .before in
+    let c7 = c5 .before .before in
+    let s = c7 .before .before .args .image .now in (
+      settled-by s (reading-of s (c5 .x .given .0 .0)) true (sym (ap (answered s) (c5 .x .given .1)) ∙ c7 .read .ensures .0)
+          (flag (c .before .settled .ensures) (c .if1 .taken)),
+      rw (c5 .x .given .1) at (c7 .read .ensures .1),
+      settled-quiet s (reading-of s (c5 .x .given .0 .0)) (flag (c .before .settled .ensures) (c .if1 .taken)),
     )
 
 returns-3 : tie.Need-returns-3
 returns-3 c =
-    let s = c .before .before .before .before .before .before .before .before .before .args .image .now in
-    (settled-by s (reading-of s (c .before .before .before .before .before .x .given .0 .0)) false (sym (ap (answered s) (c .before .before .before .before .before .x .given .1)) ∙ c .before .before .before .before .before .before .before .read .ensures .0) (flag (c .before .settled .ensures) (c .if1 .left)), tt, tt)
+    let c5 = c .before .before .before .before .before in
+    let c7 = c5 .before .before in
+    let s = c7 .before .before .args .image .now in
+    (settled-by s (reading-of s (c5 .x .given .0 .0)) false (sym (ap (answered s) (c5 .x .given .1)) ∙ c7 .read .ensures .0)
+        (flag (c .before .settled .ensures) (c .if1 .left)), tt, tt)
 
 pub read-settled-spec : {M : Type 1} → statement M
 read-settled-spec =

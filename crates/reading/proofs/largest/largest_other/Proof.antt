@@ -21,22 +21,36 @@ enum-known-s : tie.Need-enum-known-s Inv-loop μ-loop
 enum-known-s c = c .match .keys1
 
 returns : tie.Need-returns Inv-loop μ-loop
-returns c = largest-over _ (c .before .before .loop .inv) (c .before .advance .result) (c .before .advance .ensures .0) (other-step (c .before .advance .result) (c .match .keys2))
+returns c =
+    largest-over _ (c .before .before .loop .inv) (c .before .advance .result) (c .before .advance .ensures .0)
+        (other-step (c .before .advance .result) (c .match .keys2))
 
 larger-with-requires : tie.Need-larger-with-requires Inv-loop μ-loop
 larger-with-requires c κs =
-    let t = turned _ _ (c .before .before .before .advance .result) (c .before .s .given .0 .0) (c .before .s .given .0 .1 .0) (c .before .before .before .advance .ensures .0) (c .before .before .before .advance .ensures .1) (c .before .s .given .1) in
+    let c3 = c .before .before .before in
+    let t = turned _ _ (c3 .advance .result) (c .before .s .given .0 .0) (c .before .s .given .0 .1 .0) (c3 .advance .ensures .0)
+        (c3 .advance .ensures .1) (c .before .s .given .1) in
+    
     (t .whole, t .onward .name, t .onward .data-len)
 
 loop-less : tie.Need-loop-less Inv-loop μ-loop
 loop-less c =
-    let t = turned _ _ (c .before .before .before .before .advance .result) (c .before .before .s .given .0 .0) (c .before .before .s .given .0 .1 .0) (c .before .before .before .before .advance .ensures .0) (c .before .before .before .before .advance .ensures .1) (c .before .before .s .given .1) in
+    let c2 = c .before .before in
+    let c4 = c2 .before .before in
+    let t = turned _ _ (c4 .advance .result) (c2 .s .given .0 .0) (c2 .s .given .0 .1 .0) (c4 .advance .ensures .0) (c4 .advance .ensures .1)
+        (c2 .s .given .1) in
+    
     t .onward .less
 
 loop-again : tie.Need-loop-again Inv-loop μ-loop
 loop-again c =
-    let t = turned _ _ (c .before .before .before .before .advance .result) (c .before .before .s .given .0 .0) (c .before .before .s .given .0 .1 .0) (c .before .before .before .before .advance .ensures .0) (c .before .before .before .before .advance .ensures .1) (c .before .before .s .given .1) in
-    largest-onward _ (c .before .before .before .before .before .loop .inv) t _ (c .larger-with .ensures)
+    let c2 = c .before .before in
+    let c4 = c2 .before .before in
+    let c5 = c4 .before in
+    let t = turned _ _ (c4 .advance .result) (c2 .s .given .0 .0) (c2 .s .given .0 .1 .0) (c4 .advance .ensures .0) (c4 .advance .ensures .1)
+        (c2 .s .given .1) in
+    
+    largest-onward _ (c5 .loop .inv) t _ (c .larger-with .ensures)
 
 pub largest-other-spec : {M : Type 1} → statement M
 largest-other-spec =

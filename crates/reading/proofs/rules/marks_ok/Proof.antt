@@ -15,7 +15,10 @@ second-ok-requires c κs =
     (p .sound, p .spots .first, p .spots .second)
 
 returns-3 : tie.Need-returns-3
-returns-3 c = c .second-ok .ensures ∙ marks-second (c .before .before .before .before .before .before .before .pre) (c .before .before .before .before .if1 .left) (c .before .before .before .if2 .left)
+returns-3 c =
+    let c4 = c .before .before .before .before in
+    let c7 = c4 .before .before .before in
+    c .second-ok .ensures ∙ marks-second (c7 .pre) (c4 .if1 .left) (c .before .before .before .if2 .left)
 
 pub marks-ok-spec : {M : Type 1} → statement M
 marks-ok-spec = tie.close (tie.spec returns returns-2 second-ok-requires returns-3)

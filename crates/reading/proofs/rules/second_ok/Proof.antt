@@ -19,7 +19,9 @@ is-live-requires : tie.Need-is-live-requires
 is-live-requires c κs = search needs
 
 returns : tie.Need-returns
-returns c = second-live _ _ _ (flag (c .before .before .before .marked .ensures) (c .before .before .if1 .taken)) (flag (c .before .is-live .ensures) (c .if2 .taken))
+returns c =
+    second-live _ _ _ (flag (c .before .before .before .marked .ensures) (c .before .before .if1 .taken))
+        (flag (c .before .is-live .ensures) (c .if2 .taken))
 
 shared-slice-read-if3 : tie.Need-shared-slice-read-if3
 shared-slice-read-if3 c = omega (arith, c .before .before .before .before .before .before .pre .2 .fits)
@@ -27,7 +29,10 @@ shared-slice-read-if3 c = omega (arith, c .before .before .before .before .befor
 returns-2 : tie.Need-returns-2
 unfolding is-clean
 returns-2 c =
-    second-clean _ _ _ (flag (c .before .before .before .before .before .marked .ensures) (c .before .before .before .before .if1 .taken)) (flag (c .before .before .before .is-live .ensures) (c .before .before .if2 .left)) (rw (getD-drop, add-zero) (eq-eqb _ _ (c .if3 .taken)))
+    let c4 = c .before .before .before .before in
+    let c5 = c4 .before in
+    second-clean _ _ _ (flag (c5 .marked .ensures) (c4 .if1 .taken))
+        (flag (c .before .before .before .is-live .ensures) (c .before .before .if2 .left)) (rw (getD-drop, add-zero) (eq-eqb _ _ (c .if3 .taken)))
 
 floor-requires : tie.Need-floor-requires
 floor-requires c κs = search needs
@@ -38,8 +43,13 @@ floor-requires-2 c κs = search needs
 returns-3 : tie.Need-returns-3
 unfolding is-clean
 returns-3 c =
+    let c4 = c .before .before .before .before in
+    let c5 = c4 .before in
+    let c6 = c5 .before in
+    let c7 = c6 .before in
     ap₂ (λ (a b : ℕ). eqb a b) (c .before .floor .ensures .0) (c .floor2 .ensures .0)
-    ∙ second-start _ _ _ (flag (c .before .before .before .before .before .before .before .marked .ensures) (c .before .before .before .before .before .before .if1 .taken)) (flag (c .before .before .before .before .before .is-live .ensures) (c .before .before .before .before .if2 .left)) (rw (getD-drop, add-zero) (ne-eqb _ _ (c .before .before .if3 .left)))
+    ∙ second-start _ _ _ (flag (c7 .marked .ensures) (c6 .if1 .taken)) (flag (c5 .is-live .ensures) (c4 .if2 .left))
+        (rw (getD-drop, add-zero) (ne-eqb _ _ (c .before .before .if3 .left)))
 
 returns-4 : tie.Need-returns-4
 returns-4 c = second-plain _ _ _ (flag (c .before .marked .ensures) (c .if1 .left))

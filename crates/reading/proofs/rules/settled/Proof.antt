@@ -12,7 +12,8 @@ head-clean-requires c κs = rw (c .before .before .pre .1) (c .before .before .p
 returns : tie.Need-returns
 returns c =
     let a = c .before .before .before .before .args in
-    unsettled-1 (a .image .now) (reading-of (a .image .now) (a .s)) (flag (rw (c .before .before .before .before .pre .1) at (c .before .head-clean .ensures)) (c .if1 .taken))
+    unsettled-1 (a .image .now) (reading-of (a .image .now) (a .s))
+        (flag (rw (c .before .before .before .before .pre .1) at (c .before .head-clean .ensures)) (c .if1 .taken))
 
 second-marked-requires : tie.Need-second-marked-requires
 second-marked-requires c κs =
@@ -23,22 +24,32 @@ returns-2 : tie.Need-returns-2
 returns-2 c =
     let p = c .before .before .before .before .before .before .pre in
     let a = c .before .before .before .before .before .before .args in
-    unsettled-2 (a .image .now) (reading-of (a .image .now) (a .s)) (flag (rw (p .1) at (c .before .before .before .head-clean .ensures)) (c .before .before .if1 .left)) (flag (rw (p .1) at (c .before .second-marked .ensures)) (c .if2 .taken))
+    unsettled-2 (a .image .now) (reading-of (a .image .now) (a .s))
+        (flag (rw (p .1) at (c .before .before .before .head-clean .ensures)) (c .before .before .if1 .left))
+        (flag (rw (p .1) at (c .before .second-marked .ensures)) (c .if2 .taken))
 
 returns-3 : tie.Need-returns-3
 returns-3 c =
-    let p = c .before .before .before .before .before .before .before .pre in
-    let a = c .before .before .before .before .before .before .before .args in
-    unsettled-3 (a .image .now) (reading-of (a .image .now) (a .s)) (flag (rw (p .1) at (c .before .before .before .before .head-clean .ensures)) (c .before .before .before .if1 .left)) (flag (rw (p .1) at (c .before .before .second-marked .ensures)) (c .before .if2 .left)) (flag (open-is (p .0 .tallied)) (c .if3 .taken))
+    let c4 = c .before .before .before .before in
+    let p = c4 .before .before .before .pre in
+    let a = c4 .before .before .before .args in
+    unsettled-3 (a .image .now) (reading-of (a .image .now) (a .s))
+        (flag (rw (p .1) at (c4 .head-clean .ensures)) (c .before .before .before .if1 .left))
+        (flag (rw (p .1) at (c .before .before .second-marked .ensures)) (c .before .if2 .left)) (flag (open-is (p .0 .tallied)) (c .if3 .taken))
 
 wrap-torn-requires : tie.Need-wrap-torn-requires
 wrap-torn-requires c κs = search needs
 
 returns-4 : tie.Need-returns-4
 returns-4 c =
-    let p = c .before .before .before .before .before .before .before .before .before .pre in
-    let a = c .before .before .before .before .before .before .before .before .before .args in
-    unsettled-wrap (a .image .now) (reading-of (a .image .now) (a .s)) (flag (rw (p .1) at (c .before .before .before .before .before .before .head-clean .ensures)) (c .before .before .before .before .before .if1 .left)) (flag (rw (p .1) at (c .before .before .before .before .second-marked .ensures)) (c .before .before .before .if2 .left)) (flag (open-is (p .0 .tallied)) (c .before .before .if3 .left)) (flag (c .before .wrap-torn .ensures) (c .if4 .taken))
+    let c4 = c .before .before .before .before in
+    let c5 = c4 .before in
+    let c6 = c5 .before in
+    let p = c6 .before .before .before .pre in
+    let a = c6 .before .before .before .args in
+    unsettled-wrap (a .image .now) (reading-of (a .image .now) (a .s)) (flag (rw (p .1) at (c6 .head-clean .ensures)) (c5 .if1 .left))
+        (flag (rw (p .1) at (c4 .second-marked .ensures)) (c .before .before .before .if2 .left))
+        (flag (open-is (p .0 .tallied)) (c .before .before .if3 .left)) (flag (c .before .wrap-torn .ensures) (c .if4 .taken))
 
 any-superseded-requires : tie.Need-any-superseded-requires
 any-superseded-requires c κs =
@@ -47,16 +58,30 @@ any-superseded-requires c κs =
 
 returns-5 : tie.Need-returns-5
 returns-5 c =
-    let p = c .before .before .before .before .before .before .before .before .before .before .before .pre in
-    let a = c .before .before .before .before .before .before .before .before .before .before .before .args in
-    settled-but (a .image .now) (reading-of (a .image .now) (a .s)) (flag (rw (p .1) at (c .before .before .before .before .before .before .before .before .head-clean .ensures)) (c .before .before .before .before .before .before .before .if1 .left)) (flag (rw (p .1) at (c .before .before .before .before .before .before .second-marked .ensures)) (c .before .before .before .before .before .if2 .left)) (flag (open-is (p .0 .tallied)) (c .before .before .before .before .if3 .left)) true (flag (c .before .before .before .wrap-torn .ensures) (c .before .before .if4 .left))
+    let c4 = c .before .before .before .before in
+    let c5 = c4 .before in
+    let c6 = c5 .before in
+    let c7 = c6 .before in
+    let c8 = c7 .before in
+    let p = c8 .before .before .before .pre in
+    let a = c8 .before .before .before .args in
+    settled-but (a .image .now) (reading-of (a .image .now) (a .s)) (flag (rw (p .1) at (c8 .head-clean .ensures)) (c7 .if1 .left))
+        (flag (rw (p .1) at (c6 .second-marked .ensures)) (c5 .if2 .left)) (flag (open-is (p .0 .tallied)) (c4 .if3 .left)) true
+        (flag (c .before .before .before .wrap-torn .ensures) (c .before .before .if4 .left))
     (flag (rw (p .1) at (c .before .any-superseded .ensures)) (c .if5 .taken))
 
 returns-6 : tie.Need-returns-6
 returns-6 c =
-    let p = c .before .before .before .before .before .before .before .before .before .before .before .pre in
-    let a = c .before .before .before .before .before .before .before .before .before .before .before .args in
-    settled-but (a .image .now) (reading-of (a .image .now) (a .s)) (flag (rw (p .1) at (c .before .before .before .before .before .before .before .before .head-clean .ensures)) (c .before .before .before .before .before .before .before .if1 .left)) (flag (rw (p .1) at (c .before .before .before .before .before .before .second-marked .ensures)) (c .before .before .before .before .before .if2 .left)) (flag (open-is (p .0 .tallied)) (c .before .before .before .before .if3 .left)) false (flag (c .before .before .before .wrap-torn .ensures) (c .before .before .if4 .left))
+    let c4 = c .before .before .before .before in
+    let c5 = c4 .before in
+    let c6 = c5 .before in
+    let c7 = c6 .before in
+    let c8 = c7 .before in
+    let p = c8 .before .before .before .pre in
+    let a = c8 .before .before .before .args in
+    settled-but (a .image .now) (reading-of (a .image .now) (a .s)) (flag (rw (p .1) at (c8 .head-clean .ensures)) (c7 .if1 .left))
+        (flag (rw (p .1) at (c6 .second-marked .ensures)) (c5 .if2 .left)) (flag (open-is (p .0 .tallied)) (c4 .if3 .left)) false
+        (flag (c .before .before .before .wrap-torn .ensures) (c .before .before .if4 .left))
     (flag (rw (p .1) at (c .before .any-superseded .ensures)) (c .if5 .left))
 
 pub settled-spec : {M : Type 1} → statement M

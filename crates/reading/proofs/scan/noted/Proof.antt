@@ -17,14 +17,19 @@ spot-if-requires-2 : tie.Need-spot-if-requires-2
 spot-if-requires-2 c κs = search needs
 
 add-t12 : tie.Need-add-t12
-add-t12 c = omega (arith, c .before .before .before .before .before .before .before .before .before .before .pre .1)
+add-t12 c =
+    let c10 = c .before .before .before .before .before .before .before .before .before .before in
+    omega (arith, c10 .pre .1)
 
 returns : tie.Need-returns
 returns c =
-    let p = c .before .before .before .before .before .before .before .before .before .before .pre in
-    let a = c .before .before .before .before .before .before .before .before .before .before .args in
-    noted-is (a .t) (a .e) (c .before .before .before .spot-if .result) (c .before .spot-if2 .result) (c .before .before .before .before .before .before .fine-with .result) (c .before .before .before .before .before .further-with .result) (a .held) (p .0)
-    (c .before .before .before .spot-if .ensures) (c .before .spot-if2 .ensures) (c .before .before .before .before .before .before .fine-with .ensures) (c .before .before .before .before .before .further-with .ensures) (p .2)
+    let c3 = c .before .before .before in
+    let c5 = c3 .before .before in
+    let c6 = c5 .before in
+    let p = c6 .before .before .before .before .pre in
+    let a = c6 .before .before .before .before .args in
+    noted-is (a .t) (a .e) (c3 .spot-if .result) (c .before .spot-if2 .result) (c6 .fine-with .result) (c5 .further-with .result) (a .held) (p .0)
+    (c3 .spot-if .ensures) (c .before .spot-if2 .ensures) (c6 .fine-with .ensures) (c5 .further-with .ensures) (p .2)
 
 pub noted-spec : {M : Type 1} → statement M
 noted-spec =

@@ -18,13 +18,23 @@ last-is-slash-requires : tie.Need-last-is-slash-requires
 last-is-slash-requires c κs = search needs
 
 returns-3 : tie.Need-returns-3
-returns-3 c = ok-slash (c .before .before .before .before .before .before .before .args .name .now) (omega arith) (omega arith) (flag (c .before .before .before .all-printable .ensures) (c .before .before .if3 .taken)) (flag (c .before .last-is-slash .ensures) (c .if4 .taken))
+returns-3 c =
+    let c7 = c .before .before .before .before .before .before .before in
+    ok-slash (c7 .args .name .now) (omega arith) (omega arith)
+        (flag (c .before .before .before .all-printable .ensures) (c .before .before .if3 .taken))
+        (flag (c .before .last-is-slash .ensures) (c .if4 .taken))
 
 returns-4 : tie.Need-returns-4
-returns-4 c = ok-good (c .before .before .before .before .before .before .before .args .name .now) (omega arith) (omega arith) (flag (c .before .before .before .all-printable .ensures) (c .before .before .if3 .taken)) (flag (c .before .last-is-slash .ensures) (c .if4 .left))
+returns-4 c =
+    let c7 = c .before .before .before .before .before .before .before in
+    ok-good (c7 .args .name .now) (omega arith) (omega arith)
+        (flag (c .before .before .before .all-printable .ensures) (c .before .before .if3 .taken))
+        (flag (c .before .last-is-slash .ensures) (c .if4 .left))
 
 returns-5 : tie.Need-returns-5
-returns-5 c = ok-byte (c .before .before .before .before .before .args .name .now) (omega arith) (omega arith) (flag (c .before .all-printable .ensures) (c .if3 .left))
+returns-5 c =
+    ok-byte (c .before .before .before .before .before .args .name .now) (omega arith) (omega arith)
+        (flag (c .before .all-printable .ensures) (c .if3 .left))
 
 pub name-ok-spec : {M : Type 1} → statement M
 name-ok-spec =

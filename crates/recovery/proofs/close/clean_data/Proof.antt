@@ -34,7 +34,10 @@ loop-less : tie.Need-loop-less Inv-loop μ-loop
 loop-less c = search needs
 
 loop-again : tie.Need-loop-again Inv-loop μ-loop
-loop-again c = let inv = c .before .before .before .before .before .loop .inv in (omega arith, omega arith, omega arith, omega arith, cleaning-more (inv .4) (omega arith) (omega arith) (c .before .before .clean-pair .ensures .0))
+loop-again c =
+    let inv = c .before .before .before .before .before .loop .inv in
+    (omega arith, omega arith, omega arith, omega arith, cleaning-more (inv .4) (omega arith) (omega arith)
+        (c .before .before .clean-pair .ensures .0))
 
 same-length : tie.Need-same-length Inv-loop μ-loop
 same-length c = search needs

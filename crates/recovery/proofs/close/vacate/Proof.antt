@@ -25,7 +25,12 @@ same-length : tie.Need-same-length
 same-length c = search needs
 
 returns : tie.Need-returns
-returns c = let a = c .before .before .before .before .before .before .before .before .before .before .before .args in (left-erased (a .x) (a .y) (length (a .image .now)) (c .before .before .before .before .before .before .before .before .before .vacated-end .result) (c .before .before .before .before .before .before .before .before .before .vacated-end .ensures .0) (c .before .before .before .before .before .before .before .erase-sectors .ensures .0) (c .before .before .before .program .ensures) (c .if1 .taken), omega arith)
+returns c =
+    let c7 = c .before .before .before .before .before .before .before in
+    let c9 = c7 .before .before in
+    let a = c9 .before .before .args in
+    (left-erased (a .x) (a .y) (length (a .image .now)) (c9 .vacated-end .result) (c9 .vacated-end .ensures .0) (c7 .erase-sectors .ensures .0)
+        (c .before .before .before .program .ensures) (c .if1 .taken), omega arith)
 
 add-program : tie.Need-add-program
 add-program c = search needs
@@ -37,7 +42,14 @@ same-length-2 : tie.Need-same-length-2
 same-length-2 c = search needs
 
 returns-2 : tie.Need-returns-2
-returns-2 c = let a = c .before .before .before .before .before .before .before .before .before .before .before .before .before .before .before .args in (left-there (a .x) (a .y) (length (a .image .now)) (c .before .before .before .before .before .before .before .before .before .before .before .before .before .vacated-end .result) (c .before .before .before .before .before .before .before .before .before .before .before .before .before .vacated-end .ensures .0) (c .before .before .before .before .before .before .before .before .before .before .before .erase-sectors .ensures .0) (c .before .before .before .before .before .before .before .program .ensures) (c .before .before .before .before .if1 .left) (c .before .before .program2 .ensures), omega arith)
+returns-2 c =
+    let c4 = c .before .before .before .before in
+    let c7 = c4 .before .before .before in
+    let c11 = c7 .before .before .before .before in
+    let c13 = c11 .before .before in
+    let a = c13 .before .before .args in
+    (left-there (a .x) (a .y) (length (a .image .now)) (c13 .vacated-end .result) (c13 .vacated-end .ensures .0) (c11 .erase-sectors .ensures .0)
+        (c7 .program .ensures) (c4 .if1 .left) (c .before .before .program2 .ensures), omega arith)
 
 pub vacate-spec : {M : Type 1} → statement M
 vacate-spec =

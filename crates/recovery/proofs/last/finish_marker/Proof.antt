@@ -20,7 +20,9 @@ same-length : tie.Need-same-length
 same-length c = search needs
 
 returns : tie.Need-returns
-returns c = did-both (c .before .before .before .before .before .before .program .ensures) (c .before .before .program2 .ensures)
+returns c =
+    let c6 = c .before .before .before .before .before .before in
+    did-both (c6 .program .ensures) (c .before .before .program2 .ensures)
 
 pub finish-marker-spec : {M : Type 1} → statement M
 finish-marker-spec =

@@ -12,7 +12,8 @@ enum-known-ending : tie.Need-enum-known-ending
 enum-known-ending c = search needs
 
 finish-marker-requires : tie.Need-finish-marker-requires
-finish-marker-requires c κs = let p = rw (c .before .before .ending .given .1) at (c .before .before .before .before .before .pre .0) in (omega arith, omega arith)
+finish-marker-requires c κs =
+    let p = rw (c .before .before .ending .given .1) at (c .before .before .before .before .before .pre .0) in (omega arith, omega arith)
 
 enum-told-2 : tie.Need-enum-told-2
 enum-told-2 c = search needs

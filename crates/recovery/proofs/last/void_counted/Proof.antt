@@ -7,7 +7,9 @@ use Rattle.recovery.proofs.last.void_counted.Statement.{statement}
 use Rattle.recovery.proofs.last.void_counted.Tie as tie
 
 returns : tie.Need-returns
-returns c = let a = c .before .before .before .args in (rw (none-counted (c .before .before .before .pre .0) (c .if1 .taken)) (did-none (a .image .now) (a .m)), omega arith)
+returns c =
+    let a = c .before .before .before .args in
+    (rw (none-counted (c .before .before .before .pre .0) (c .if1 .taken)) (did-none (a .image .now) (a .m)), omega arith)
 
 void-record-requires : tie.Need-void-record-requires
 void-record-requires c κs = search needs
@@ -16,7 +18,10 @@ same-length : tie.Need-same-length
 same-length c = search needs
 
 returns-2 : tie.Need-returns-2
-returns-2 c = (rw (last-counted (c .before .before .before .before .before .before .before .before .pre .0) (c .before .before .before .before .before .if1 .left)) (c .before .before .void-record .ensures .0), omega arith)
+returns-2 c =
+    let c5 = c .before .before .before .before .before in
+    let c8 = c5 .before .before .before in
+    (rw (last-counted (c8 .pre .0) (c5 .if1 .left)) (c .before .before .void-record .ensures .0), omega arith)
 
 pub void-counted-spec : {M : Type 1} → statement M
 void-counted-spec = tie.close (tie.spec returns void-record-requires same-length returns-2)

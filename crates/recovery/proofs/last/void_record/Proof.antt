@@ -19,7 +19,9 @@ same-length : tie.Need-same-length
 same-length c = search needs
 
 returns : tie.Need-returns
-returns c = let a = c .before .before .before .before .before .before .before .before .before .args in (rw (void-torn (a .image .now) (a .e) (c .before .before .before .before .if1 .taken)) (c .before .before .void-torn .ensures), omega arith)
+returns c =
+    let a = c .before .before .before .before .before .before .before .before .before .args in
+    (rw (void-torn (a .image .now) (a .e) (c .before .before .before .before .if1 .taken)) (c .before .before .void-torn .ensures), omega arith)
 
 void-reserved-requires : tie.Need-void-reserved-requires
 void-reserved-requires c κs = search needs
@@ -28,10 +30,15 @@ same-length-2 : tie.Need-same-length-2
 same-length-2 c = search needs
 
 returns-2 : tie.Need-returns-2
-returns-2 c = let a = c .before .before .before .before .before .before .before .before .before .before .before .args in (rw (void-reserved (a .image .now) (a .e) (c .before .before .before .before .if2 .taken)) (c .before .before .void-reserved .ensures .0), omega arith)
+returns-2 c =
+    let a = c .before .before .before .before .before .before .before .before .before .before .before .args in
+    (rw (void-reserved (a .image .now) (a .e) (c .before .before .before .before .if2 .taken)) (c .before .before .void-reserved .ensures .0), omega
+        arith)
 
 returns-3 : tie.Need-returns-3
-returns-3 c = let a = c .before .before .before .before .before .before .before .args in (rw (void-finished (a .image .now) (a .e) (c .before .before .if1 .left) (c .if2 .left)) (did-none (a .image .now) (a .m)), omega arith)
+returns-3 c =
+    let a = c .before .before .before .before .before .before .before .args in
+    (rw (void-finished (a .image .now) (a .e) (c .before .before .if1 .left) (c .if2 .left)) (did-none (a .image .now) (a .m)), omega arith)
 
 pub void-record-spec : {M : Type 1} → statement M
 void-record-spec =

@@ -25,7 +25,11 @@ same-length : tie.Need-same-length
 same-length c = search needs
 
 returns : tie.Need-returns
-returns c = let a = c .before .before .before .before .before .before .before .before .before .before .before .before .args in (rw (reserved-is (a .image .now) (a .e) (c .before .before .before .before .before .before .before .before .before .before .before .before .pre .0)) (did-both (c .before .before .before .before .before .before .before .end-name .ensures .0) (c .before .before .program .ensures)), omega arith)
+returns c =
+    let c7 = c .before .before .before .before .before .before .before in
+    let c12 = c7 .before .before .before .before .before in
+    let a = c12 .args in
+    (rw (reserved-is (a .image .now) (a .e) (c12 .pre .0)) (did-both (c7 .end-name .ensures .0) (c .before .before .program .ensures)), omega arith)
 
 pub void-reserved-spec : {M : Type 1} → statement M
 void-reserved-spec =

@@ -32,7 +32,11 @@ same-length : tie.Need-same-length
 same-length c = search needs
 
 returns : tie.Need-returns
-returns c = did-both (c .before .before .before .before .before .before .before .before .before .before .before .before .before .before .program .ensures) (did-both (c .before .before .before .before .before .before .before .before .before .before .program2 .ensures) (did-both (c .before .before .before .before .before .before .program3 .ensures) (c .before .before .program4 .ensures)))
+returns c =
+    let c6 = c .before .before .before .before .before .before in
+    let c10 = c6 .before .before .before .before in
+    let c14 = c10 .before .before .before .before in
+    did-both (c14 .program .ensures) (did-both (c10 .program2 .ensures) (did-both (c6 .program3 .ensures) (c .before .before .program4 .ensures)))
 
 pub zero-lengths-spec : {M : Type 1} → statement M
 zero-lengths-spec =

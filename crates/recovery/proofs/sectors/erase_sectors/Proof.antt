@@ -36,13 +36,20 @@ loop-less : tie.Need-loop-less Inv-loop μ-loop
 loop-less c = search needs
 
 loop-again : tie.Need-loop-again Inv-loop μ-loop
-loop-again c = let a = c .before .before .before .before .before .before .before .args in let inv = c .before .before .before .before .before .loop .inv in (omega arith, omega arith, omega arith, omega arith, toward-more (inv .4) (ap (map erase) (sectors-more (c .before .before .before .before .before .loop .a) (a .to) (omega arith))) (c .before .before .erase .ensures))
+loop-again c =
+    let a = c .before .before .before .before .before .before .before .args in
+    let inv = c .before .before .before .before .before .loop .inv in
+    (omega arith, omega arith, omega arith, omega arith, toward-more (inv .4)
+        (ap (map erase) (sectors-more (c .before .before .before .before .before .loop .a) (a .to) (omega arith)))
+        (c .before .before .erase .ensures))
 
 same-length : tie.Need-same-length Inv-loop μ-loop
 same-length c = search needs
 
 returns : tie.Need-returns Inv-loop μ-loop
-returns c = let inv = c .before .loop .inv in (toward-end (inv .4) (ap (map erase) (sectors-none (c .before .loop .a) (c .before .before .before .args .to) (omega arith))), omega arith)
+returns c =
+    let inv = c .before .loop .inv in
+    (toward-end (inv .4) (ap (map erase) (sectors-none (c .before .loop .a) (c .before .before .before .args .to) (omega arith))), omega arith)
 
 pub erase-sectors-spec : {M : Type 1} → statement M
 erase-sectors-spec =

@@ -25,7 +25,10 @@ first-cursor-requires : tie.Need-first-cursor-requires Inv-loop μ-loop
 first-cursor-requires c κs = search needs
 
 loop-holds : tie.Need-loop-holds Inv-loop μ-loop
-loop-holds c = let a = c .before .before .before .args in (refl, rw (c .first-cursor .ensures) (first-sound (a .image .now) (a .h) (omega arith) (c .before .before .before .pre .1)), omega arith, dropping-start (a .image .now) (c .first-cursor .result) (a .m))
+loop-holds c =
+    let a = c .before .before .before .args in
+    (refl, rw (c .first-cursor .ensures) (first-sound (a .image .now) (a .h) (omega arith) (c .before .before .before .pre .1)), omega arith,
+        dropping-start (a .image .now) (c .first-cursor .result) (a .m))
 
 advance-requires : tie.Need-advance-requires Inv-loop μ-loop
 advance-requires c κs = c .before .loop .inv .1
@@ -37,16 +40,51 @@ same-length : tie.Need-same-length Inv-loop μ-loop
 same-length c = search needs
 
 returns : tie.Need-returns Inv-loop μ-loop
-returns c = let a = c .before .before .before .before .before .before .before .args in rw (ap (λ k. rest (a .image .now) k .entries) (c .before .before .before .before .first-cursor .ensures) ∙ entries-of (a .image .now) (a .h) (omega arith)) at (dropping-end (c .before .before .before .loop .inv .3) (c .before .advance .result) (c .before .advance .ensures .0) (other-step (c .before .advance .result) (c .match .keys2)))
+returns c =
+    let c4 = c .before .before .before .before in
+    let a = c4 .before .before .before .args in
+    rw (ap (λ k. rest (a .image .now) k .entries) (c4 .first-cursor .ensures) ∙ entries-of (a .image .now) (a .h) (omega arith)) at
+        (dropping-end (c .before .before .before .loop .inv .3) (c .before .advance .result) (c .before .advance .ensures .0)
+        (other-step (c .before .advance .result) (c .match .keys2)))
 
 drop-one-requires : tie.Need-drop-one-requires Inv-loop μ-loop
-drop-one-requires c κs = let t = (turned (c .before .before .before .before .before .before .loop .image) (c .before .before .before .before .before .before .loop .c) (c .before .before .before .before .advance .result) (c .before .before .s .given .0 .0) (c .before .before .s .given .0 .1 .0) (c .before .before .before .before .advance .ensures .0) (c .before .before .before .before .advance .ensures .1) (c .before .before .s .given .1)) in let a = c .before .before .before .before .before .before .before .before .before .before .args in (sound-same (a .image .now) (c .before .before .before .before .before .before .loop .image) (c .before .before .before .before .before .before .before .first-cursor .result) (rw (c .before .before .before .before .before .before .before .first-cursor .ensures) (first-sound (a .image .now) (a .h) (omega (arith, c .before .before .before .before .before .before .before .before .before .before .pre .0)) (c .before .before .before .before .before .before .before .before .before .before .pre .1))) (c .before .before .before .before .before .before .loop .inv .0), t .whole, omega (arith, c .before .before .before .before .before .before .loop .inv .2, ap left (c .before .before .before .before .before .before .before .first-cursor .ensures), t .onward .less, c .before .before .before .before .before .before .before .before .before .before .pre .2))
+drop-one-requires c κs =
+    let c2 = c .before .before in
+    let c4 = c2 .before .before in
+    let c6 = c4 .before .before in
+    let c7 = c6 .before in
+    let c10 = c7 .before .before .before in
+    let t = (turned (c6 .loop .image) (c6 .loop .c) (c4 .advance .result) (c2 .s .given .0 .0) (c2 .s .given .0 .1 .0) (c4 .advance .ensures .0)
+        (c4 .advance .ensures .1) (c2 .s .given .1)) in
+    let a = c10 .args in
+    (sound-same (a .image .now) (c6 .loop .image) (c7 .first-cursor .result)
+        (rw (c7 .first-cursor .ensures) (first-sound (a .image .now) (a .h) (omega (arith, c10 .pre .0)) (c10 .pre .1))) (c6 .loop .inv .0), t .whole,
+        omega (arith, c6 .loop .inv .2, ap left (c7 .first-cursor .ensures), t .onward .less, c10 .pre .2))
 
 loop-less : tie.Need-loop-less Inv-loop μ-loop
-loop-less c = let t = (turned (c .before .before .before .before .before .before .before .before .before .loop .image) (c .before .before .before .before .before .before .before .before .before .loop .c) (c .before .before .before .before .before .before .before .advance .result) (c .before .before .before .before .before .s .given .0 .0) (c .before .before .before .before .before .s .given .0 .1 .0) (c .before .before .before .before .before .before .before .advance .ensures .0) (c .before .before .before .before .before .before .before .advance .ensures .1) (c .before .before .before .before .before .s .given .1)) in t .onward .less
+loop-less c =
+    let c5 = c .before .before .before .before .before in
+    let c7 = c5 .before .before in
+    let c9 = c7 .before .before in
+    let t = (turned (c9 .loop .image) (c9 .loop .c) (c7 .advance .result) (c5 .s .given .0 .0) (c5 .s .given .0 .1 .0) (c7 .advance .ensures .0)
+        (c7 .advance .ensures .1) (c5 .s .given .1)) in
+    t .onward .less
 
 loop-again : tie.Need-loop-again Inv-loop μ-loop
-loop-again c = let t = (turned (c .before .before .before .before .before .before .before .before .before .loop .image) (c .before .before .before .before .before .before .before .before .before .loop .c) (c .before .before .before .before .before .before .before .advance .result) (c .before .before .before .before .before .s .given .0 .0) (c .before .before .before .before .before .s .given .0 .1 .0) (c .before .before .before .before .before .before .before .advance .ensures .0) (c .before .before .before .before .before .before .before .advance .ensures .1) (c .before .before .before .before .before .s .given .1)) in let a = c .before .before .before .before .before .before .before .before .before .before .before .before .before .args in (omega (arith, c .before .before .before .before .before .before .before .before .before .loop .inv .0), sound-same (c .before .before .before .before .before .before .before .before .before .loop .image) (c .before .before .drop-one .last .0) (c .before .before .before .before .before .s .given .0 .1 .0) (t .onward .sound) (omega arith), omega (arith, c .before .before .before .before .before .before .before .before .before .loop .inv .2, t .onward .less, c .before .before .drop-one .ensures .1), dropping-more (c .before .before .before .before .before .before .before .before .before .loop .inv .3) (c .before .before .before .before .before .s .given .0 .0) (c .before .before .before .before .before .s .given .0 .1 .0) (rw (c .before .before .before .before .before .before .before .before .before .before .first-cursor .ensures) (tidy-first (a .image .now) (a .h) (omega (arith, c .before .before .before .before .before .before .before .before .before .before .before .before .before .pre .0)))) (sym (c .before .before .before .before .before .before .before .advance .ensures .0) ∙ c .before .before .before .before .before .s .given .1) (t .whole .fits) (c .before .before .drop-one .ensures .0))
+loop-again c =
+    let c2 = c .before .before in
+    let c5 = c2 .before .before .before in
+    let c7 = c5 .before .before in
+    let c9 = c7 .before .before in
+    let c10 = c9 .before in
+    let c13 = c10 .before .before .before in
+    let t = (turned (c9 .loop .image) (c9 .loop .c) (c7 .advance .result) (c5 .s .given .0 .0) (c5 .s .given .0 .1 .0) (c7 .advance .ensures .0)
+        (c7 .advance .ensures .1) (c5 .s .given .1)) in
+    let a = c13 .args in
+    (omega (arith, c9 .loop .inv .0), sound-same (c9 .loop .image) (c2 .drop-one .last .0) (c5 .s .given .0 .1 .0) (t .onward .sound) (omega arith),
+        omega (arith, c9 .loop .inv .2, t .onward .less, c2 .drop-one .ensures .1), dropping-more (c9 .loop .inv .3) (c5 .s .given .0 .0)
+        (c5 .s .given .0 .1 .0) (rw (c10 .first-cursor .ensures) (tidy-first (a .image .now) (a .h) (omega (arith, c13 .pre .0))))
+        (sym (c7 .advance .ensures .0) ∙ c5 .s .given .1) (t .whole .fits) (c2 .drop-one .ensures .0))
 
 pub drop-superseded-spec : {M : Type 1} → statement M
 drop-superseded-spec =

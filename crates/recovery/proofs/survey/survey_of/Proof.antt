@@ -30,16 +30,23 @@ told-requires-4 : tie.Need-told-requires-4
 told-requires-4 c κs = search needs
 
 returns : tie.Need-returns
-returns c = let a = c .before .before .before .args in c .told .ensures ∙ ap (λ s. survey-of (a .n) (a .h) s (a .t)) (sym (c .before .enum-told .given .1))
+returns c =
+    let a = c .before .before .before .args in c .told .ensures ∙ ap (λ s. survey-of (a .n) (a .h) s (a .t)) (sym (c .before .enum-told .given .1))
 
 returns-2 : tie.Need-returns-2
-returns-2 c = let a = c .before .before .before .before .args in c .told2 .ensures ∙ ap (λ s. survey-of (a .n) (a .h) s (a .t)) (sym (c .before .before .end .given .1))
+returns-2 c =
+    let a = c .before .before .before .before .args in
+    c .told2 .ensures ∙ ap (λ s. survey-of (a .n) (a .h) s (a .t)) (sym (c .before .before .end .given .1))
 
 returns-3 : tie.Need-returns-3
-returns-3 c = let a = c .before .before .before .before .args in c .told3 .ensures ∙ ap (λ s. survey-of (a .n) (a .h) s (a .t)) (sym (c .before .before .end2 .given .1))
+returns-3 c =
+    let a = c .before .before .before .before .args in
+    c .told3 .ensures ∙ ap (λ s. survey-of (a .n) (a .h) s (a .t)) (sym (c .before .before .end2 .given .1))
 
 returns-4 : tie.Need-returns-4
-returns-4 c = let a = c .before .before .before .before .args in c .told4 .ensures ∙ ap (λ s. survey-of (a .n) (a .h) s (a .t)) (sym (c .before .before .end3 .given .1))
+returns-4 c =
+    let a = c .before .before .before .before .args in
+    c .told4 .ensures ∙ ap (λ s. survey-of (a .n) (a .h) s (a .t)) (sym (c .before .before .end3 .given .1))
 
 pub survey-of-spec : {M : Type 1} → statement M
 survey-of-spec =

@@ -17,9 +17,12 @@ same-length : tie.Need-same-length
 same-length c = search needs
 
 returns : tie.Need-returns
-returns c = did-both
-    (did-both (c .before .before .before .before .before .before .before .before .before .before .program .ensures)
-    (c .before .before .before .before .before .before .program2 .ensures))
+returns c =
+    let c6 = c .before .before .before .before .before .before in
+    let c10 = c6 .before .before .before .before in
+    did-both
+    (did-both (c10 .program .ensures)
+    (c6 .program2 .ensures))
     (c .before .before .set-status .ensures)
 
 pub build-marker-spec : {M : Type 1} → statement M

@@ -16,7 +16,9 @@ write-name-requires : tie.Need-write-name-requires
 write-name-requires c κs = search needs
 
 write-data-requires : tie.Need-write-data-requires
-write-data-requires c κs = omega (arith, length-name (c .before .before .before .before .before .before .before .before .before .before .before .before .args .name .now))
+write-data-requires c κs =
+    let c12 = c .before .before .before .before .before .before .before .before .before .before .before .before in
+    omega (arith, length-name (c12 .args .name .now))
 
 set-status-requires : tie.Need-set-status-requires
 set-status-requires c κs =
@@ -27,9 +29,13 @@ same-length : tie.Need-same-length
 same-length c = search needs
 
 returns : tie.Need-returns
-returns c = did-both (c .before .before .before .before .before .before .before .before .before .before .before .before .before .before .write-header .ensures)
-    (did-both (c .before .before .before .before .before .before .before .before .before .before .write-name .ensures)
-    (did-both (c .before .before .before .before .before .before .write-data .ensures)
+returns c =
+    let c6 = c .before .before .before .before .before .before in
+    let c10 = c6 .before .before .before .before in
+    let c14 = c10 .before .before .before .before in
+    did-both (c14 .write-header .ensures)
+    (did-both (c10 .write-name .ensures)
+    (did-both (c6 .write-data .ensures)
     (c .before .before .set-status .ensures)))
 
 pub build-record-spec : {M : Type 1} → statement M

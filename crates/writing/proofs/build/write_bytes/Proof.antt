@@ -40,12 +40,13 @@ loop-less c = search needs
 
 loop-again : tie.Need-loop-again Inv-loop μ-loop
 loop-again c =
-    let a = c .before .before .before .before .before .before .before .before .before .args in (
+    let c6 = c .before .before .before .before .before .before in
+    let a = c6 .before .before .before .args in (
       omega arith,
       omega arith,
       rw (bytes-more (a .at) (a .bytes .now)
-          (c .before .before .before .before .before .before .loop .i) (omega arith))
-          (did-both (c .before .before .before .before .before .before .loop .inv .2)
+          (c6 .loop .i) (omega arith))
+          (did-both (c6 .loop .inv .2)
           (c .before .before .program .ensures)),
     )
 

@@ -26,20 +26,27 @@ write-bytes-requires : tie.Need-write-bytes-requires
 write-bytes-requires c κs = search needs
 
 set-status-requires : tie.Need-set-status-requires
-set-status-requires c κs = omega (
+set-status-requires c κs =
+    let c14 = c .before .before .before .before .before .before .before .before .before .before .before .before .before .before in
+    omega (
   arith,
   ap (λ (l : List ℕ). length (bytes-at 4 l))
-      (c .before .before .before .before .before .before .before .before .before .before .before .before .before .before .four-of .ensures),
+      (c14 .four-of .ensures),
 )
 
 same-length : tie.Need-same-length
 same-length c = search needs
 
 returns : tie.Need-returns
-returns c = did-both
+returns c =
+    let c6 = c .before .before .before .before .before .before in
+    let c11 = c6 .before .before .before .before .before in
+    let c15 = c11 .before .before .before .before in
+    let c17 = c15 .before .before in
+    did-both
     (did-both
-    (did-both (c .before .before .before .before .before .before .before .before .before .before .before .before .before .before .before .program .ensures)
-    (c .before .before .before .before .before .before .before .before .before .before .before .program2 .ensures)) (rw (c .before .before .before .before .before .before .before .before .before .before .before .before .before .before .before .before .before .four-of .ensures) at (c .before .before .before .before .before .before .write-bytes .ensures)))
+    (did-both (c15 .program .ensures)
+    (c11 .program2 .ensures)) (rw (c17 .four-of .ensures) at (c6 .write-bytes .ensures)))
     (c .before .before .set-status .ensures)
 
 pub write-header-spec : {M : Type 1} → statement M

@@ -19,7 +19,9 @@ same-length : tie.Need-same-length
 same-length c = search needs
 
 returns : tie.Need-returns
-returns c = did-both (c .before .before .before .before .before .before .write-bytes .ensures) (c .before .before .program .ensures)
+returns c =
+    let c6 = c .before .before .before .before .before .before in
+    did-both (c6 .write-bytes .ensures) (c .before .before .program .ensures)
 
 pub write-name-spec : {M : Type 1} → statement M
 write-name-spec =

@@ -14,7 +14,8 @@ use Rattle.writing.proofs.copy.copy_bytes.Statement.{statement}
 use Rattle.writing.proofs.copy.copy_bytes.Tie as tie
 
 abbrev Inv-loop : tie.InvT-loop
-Inv-loop image₀ from to n q₀ i₀ image q i = (i ≤ n) × (length image ≡ length image₀) × Did image₀ q₀ (bytes-at to (take i (take n (drop from image₀)))) image q
+Inv-loop image₀ from to n q₀ i₀ image q i =
+    (i ≤ n) × (length image ≡ length image₀) × Did image₀ q₀ (bytes-at to (take i (take n (drop from image₀)))) image q
 
 abbrev μ-loop : tie.MeasureT-loop
 μ-loop image₀ from to n q₀ i₀ image q i = n - i
@@ -47,13 +48,15 @@ loop-less c = search needs
 
 loop-again : tie.Need-loop-again Inv-loop μ-loop
 loop-again c =
-    let a = c .before .before .before .before .before .before .before .before .args in (
+    let c6 = c .before .before .before .before .before .before in
+    let c8 = c6 .before .before in
+    let a = c8 .args in (
       omega arith,
       omega arith,
       copy-more (a .from) (a .to) (a .n)
-          (c .before .before .before .before .before .before .loop .i)
-          (c .before .before .before .before .before .before .before .before .pre .2) (omega arith) (omega arith)
-          (c .before .before .before .before .before .before .loop .inv .2)
+          (c6 .loop .i)
+          (c8 .pre .2) (omega arith) (omega arith)
+          (c6 .loop .inv .2)
           (c .before .before .program .ensures),
     )
 

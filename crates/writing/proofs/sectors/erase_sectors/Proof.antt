@@ -39,12 +39,15 @@ loop-less : tie.Need-loop-less Inv-loop μ-loop
 loop-less c = search needs
 
 loop-again : tie.Need-loop-again Inv-loop μ-loop
-loop-again c = (
+loop-again c =
+    let c5 = c .before .before .before .before .before in
+    let c7 = c5 .before .before in
+    (
   omega arith,
   omega arith,
-  rw (erase-more (c .before .before .before .before .before .loop .i)
-      (c .before .before .before .before .before .before .before .args .from))
-      (did-both (c .before .before .before .before .before .loop .inv .2)
+  rw (erase-more (c5 .loop .i)
+      (c7 .args .from))
+      (did-both (c5 .loop .inv .2)
       (c .before .before .erase .ensures)),
 )
 

@@ -12,14 +12,17 @@ erase-sectors-requires : tie.Need-erase-sectors-requires
 erase-sectors-requires c κs = search needs
 
 write-first-requires : tie.Need-write-first-requires
-write-first-requires c κs = omega (arith, sectors-count 0 (length (c .before .before .before .before .before .before .args .image .now)) (omega arith))
+write-first-requires c κs =
+    omega (arith, sectors-count 0 (length (c .before .before .before .before .before .before .args .image .now)) (omega arith))
 
 same-length : tie.Need-same-length
 same-length c = search needs
 
 returns : tie.Need-returns
 unfolding format-steps
-returns c = did-both (c .before .before .before .before .before .before .erase-sectors .ensures) (c .before .before .write-first .ensures)
+returns c =
+    let c6 = c .before .before .before .before .before .before in
+    did-both (c6 .erase-sectors .ensures) (c .before .before .write-first .ensures)
 
 pub format-image-spec : {M : Type 1} → statement M
 format-image-spec =

@@ -23,9 +23,13 @@ same-length : tie.Need-same-length
 same-length c = search needs
 
 returns : tie.Need-returns
-returns c = did-both (c .before .before .before .before .before .before .before .before .before .before .before .before .before .before .write-bytes .ensures)
-    (did-both (c .before .before .before .before .before .before .before .before .before .before .set-status .ensures)
-    (did-both (c .before .before .before .before .before .before .program .ensures)
+returns c =
+    let c6 = c .before .before .before .before .before .before in
+    let c10 = c6 .before .before .before .before in
+    let c14 = c10 .before .before .before .before in
+    did-both (c14 .write-bytes .ensures)
+    (did-both (c10 .set-status .ensures)
+    (did-both (c6 .program .ensures)
     (c .before .before .program2 .ensures)))
 
 pub write-first-spec : {M : Type 1} → statement M
