@@ -1,7 +1,6 @@
 -- A case: calls that are done first, one more call, what that answers and some bytes that it leaves.
-use Rattle.spec.specs.Prelude.{ℕ, _≡_, Bool, true, false, _&&_, List, [], _∷_, length, take, drop, replicate, eqb}
+use Rattle.spec.specs.Prelude.{ℕ, _≡_, List, [], length, take, drop, replicate}
 use Rattle.spec.specs.Step.{Image}
-use Rattle.spec.specs.Basics.{same}
 use Rattle.spec.specs.Answers.{Numbers, format}
 use Rattle.spec.specs.History.{Request, Call, outcome, replay}
 

@@ -56,10 +56,6 @@ pub did-all : {s t : Image} {m r : Meter} {ss : List Step} → Did s m ss t r �
 did-all {s} {t} {m} {r} {ss} d h =
     d .bytes ∙ ap (run s) (take-all (m .allowance - m .asked) ss (omega (arith, d .count, d .same)))
 
--- and only then: whether all are done is read off the meter
-pub did-within : {s t : Image} {m r : Meter} {ss : List Step} → Did s m ss t r → m .asked + length ss ≤ m .allowance → r .asked ≤ r .allowance
-did-within d h = omega (arith, d .count, d .same)
-
 -- ---- a part that begins at address a
 
 take-moved : (k a : ℕ) (ss : List Step) → take k (moved a ss) ≡ moved a (take k ss)

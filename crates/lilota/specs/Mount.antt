@@ -1,14 +1,12 @@
 -- Mount's answer in document 01's words, and how it follows from what the repairs did.
-use Prim.Native.Nat.{ℕ, _+_, _-_, _≤_, _<_}
+use Prim.Native.Nat.{ℕ, _-_, _≤_, _<_}
 use native.Mathlib.Omega.{arith}
 use native.Mathlib.Nat.{sub-zero}
-use mathlib.Core.Path.{_≡_, refl, sym, ap, ap₂, _∙_}
-use mathlib.Core.Bool.{Bool, true, false}
-use mathlib.Core.List.{List}
+use mathlib.Core.Path.{_≡_, sym, ap, ap₂, _∙_}
+use mathlib.Core.Bool.{true, false}
 use lib.ListN.{length, take}
-use lib.Dec.{leb}
 use borrow.Author.Tests.{le-leb, lt-leb}
-use Rattle.spec.specs.Step.{Image, Step, run}
+use Rattle.spec.specs.Step.{Image, run}
 use Rattle.spec.specs.Basics.{Answer, refuse, give, onward}
 use Rattle.spec.specs.Geometry.{good-length}
 use Rattle.spec.specs.Chain.{Reading, reading-from}
@@ -17,9 +15,8 @@ use Rattle.spec.specs.Reading.{reading}
 use Rattle.spec.specs.Move.{Work}
 use Rattle.spec.specs.Mount.{mended}
 use Rattle.spec.specs.Answers.{Numbers, Outcome, Plan, refusal, numbers-of, carry-out, mount-work, mount-of, mount-plan, mount}
-use Rattle.flash.specs.declared.Meter.{Meter}
 use Rattle.reading.specs.declared.Survey.{Survey}
-use Rattle.reading.specs.Read.{reading-of, Surveyed}
+use Rattle.reading.specs.Read.{reading-of}
 use Rattle.recovery.specs.declared.Mended.{Mended}
 use Rattle.recovery.specs.Counted.{Counted, Numbered}
 use Rattle.lilota.specs.declared.mount.Mounted.{Mounted}
@@ -70,9 +67,6 @@ carried image t k p n e b = ap₂ (λ (m : Numbers) (i : Image). record { number
 
 module _ (image t : Image) (k : ℕ) (s : Survey) (l : Legal image s) (r : Mended)
     (c : Counted image (s .place .head) (record { allowance = k; asked = 0 }) t r) where
-  work : Work
-  work = mended image (reading-of image s)
-
   work-is : mended image (reading-from image (s .place .head)) ≡ mended image (reading-of image s)
   work-is = ap (mended image) (sym (l .same))
 

@@ -19,7 +19,7 @@ ghost use mathlib.Core.Path.{_≡_};
 ghost use Prim.Native.Nat.{_+_, _≤_};
 ghost use lib.ListN.{length};
 ghost use Rattle.spec.specs.Geometry.{good-length};
-ghost use Rattle.spec.specs.Answers.{Outcome, format, get, list, part-of};
+ghost use Rattle.spec.specs.Answers.{format, get, list, part-of};
 ghost use Rattle.lilota.specs.Numbers.{written, held-at, listed-at, outcome};
 
 // What a call that writes answers: all its steps are done, with their number; it was cut, after this many; or it is refused.

@@ -10,7 +10,7 @@ use reading::image::first_cursor;
 use reading::image::read_settled;
 use record::up_8;
 ghost use mathlib.Core.Path.{_≡_};
-ghost use mathlib.Core.Bool.{true, false};
+ghost use mathlib.Core.Bool.{true};
 ghost use Prim.Native.Nat.{_+_, _≤_};
 ghost use lib.ListN.{length};
 ghost use Rattle.spec.specs.Basics.{onward};

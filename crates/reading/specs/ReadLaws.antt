@@ -6,7 +6,7 @@ use mathlib.Core.Bool.{Bool}
 use mathlib.Core.List.{List}
 use lib.ListN.{length}
 use Rattle.spec.specs.Basics.{Answer, refuse, give, checked, onward}
-use Rattle.spec.specs.Chain.{Reading, read, reading-from}
+use Rattle.spec.specs.Chain.{Reading, reading-from}
 use Rattle.spec.specs.Reading.{whole, judged, reading}
 use Rattle.spec.specs.Mount.{settled}
 use Rattle.spec.specs.Answers.{if-settled, settled-reading}

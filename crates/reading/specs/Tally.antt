@@ -6,7 +6,6 @@ use mathlib.Core.Bool.{Bool, true, false, cond, _&&_, _||_}
 use mathlib.Core.List.{List, [], _∷_}
 use lib.ListN.{length}
 use lib.Dec.{eqb, leb, ltb}
-use Rattle.spec.specs.Basics.{all}
 use Rattle.spec.specs.Bytes.{is-unfinished}
 use Rattle.spec.specs.Record.{Entry, name-of, name-ok}
 use Rattle.spec.specs.Reading.{marked}

@@ -6,7 +6,7 @@ use spec::Next;
 use spec::Status;
 ghost use mathlib.Core.Path.{_≡_};
 ghost use mathlib.Core.Bool.{true};
-ghost use Prim.Native.Nat.{_+_, _-_, _≤_, _<_};
+ghost use Prim.Native.Nat.{_+_, _-_, _<_};
 ghost use lib.ListN.{length, drop};
 ghost use Rattle.spec.specs.Bytes.{is-unfinished};
 ghost use Rattle.spec.specs.Record.{status-of};

@@ -2,8 +2,7 @@
 use spec::Place;
 use spec::SECTOR;
 ghost use mathlib.Core.Path.{_≡_};
-ghost use mathlib.Core.Bool.{cond};
-ghost use Prim.Native.Nat.{_≤_, _<_, _^_};
+ghost use Prim.Native.Nat.{_≤_, _<_};
 ghost use lib.ListN.{length};
 ghost use Rattle.spec.specs.Geometry.{floor};
 ghost use Rattle.spec.specs.Reading.{limit, blank-part, free-blank, tail-blank};

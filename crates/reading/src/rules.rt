@@ -13,7 +13,7 @@ use spec::CLEAN;
 use spec::Ending;
 use spec::Status;
 ghost use mathlib.Core.Path.{_≡_};
-ghost use mathlib.Core.Bool.{true, not};
+ghost use mathlib.Core.Bool.{true};
 ghost use Rattle.spec.specs.Reading.{head-clean, second-ok, marks-ok, single, whole, legal};
 ghost use Rattle.spec.specs.Mount.{settled};
 ghost use Rattle.reading.specs.Cursor.{Sound};

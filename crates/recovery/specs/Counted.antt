@@ -1,6 +1,5 @@
 -- What mount answers once its repairs are done.
 use Prim.Native.Nat.{ℕ, _+_, _-_, _≤_, _<_}
-use native.Mathlib.Omega.{arith}
 use mathlib.Core.Path.{_≡_, sym, ap, _∙_}
 use lib.ListN.{length, take}
 use Rattle.spec.specs.Step.{Image, run}
@@ -31,9 +30,6 @@ pub record Counted (s : Image) (h : ℕ) (m : Meter) (t : Image) (r : Mended) : 
   pub cut : r .meter .allowance < r .meter .asked → m .allowance < m .asked + length (mended s (reading-from s h) .steps)
 
 module _ {s t : Image} {h k : ℕ} {m q : Meter} (w : Mends s h m t k q) where
-  pub counted-cut : q .allowance < q .asked → Counted s h m t (record { head = 0; tail = 0; files = 0; meter = q })
-  counted-cut l = record { bytes = w .mending .bytes; same = w .mending .same; done = λ b. absurd (omega arith); cut = w .mending .cut }
-
   pub counted-done : (v : Survey) (n : ℕ) → q .asked ≤ q .allowance → Seen t k v → n ≡ length (files (rest t (first-cursor t k) .entries))
       → Counted s h m t (record { head = k; tail = v .place .tail; files = n; meter = q })
   counted-done v n l f e =

@@ -5,7 +5,7 @@ use native.Mathlib.Omega.{arith}
 use mathlib.Core.Path.{_≡_, refl, sym, ap, _∙_}
 use mathlib.Core.List.{List, [], _∷_, _++_}
 use lib.ListN.{length, take, length-append}
-use lib.Seq.{take-all, take-append-le}
+use lib.Seq.{take-append-le}
 use borrow.Author.Tests.{le-leb, lt-leb}
 use Rattle.spec.specs.Step.{Image, Step, run}
 use Rattle.spec.specs.Basics.{concat}
@@ -26,9 +26,6 @@ began-did d = record { bytes = d .bytes; whole = λ h. d .count; cut = λ h. ome
 module _ {s t : Image} {m r : Meter} {a : List Step} (w : Began s m a t r) where
   began-whole : r .asked ≤ r .allowance → Did s m a t r
   began-whole h = record { bytes = w .bytes; count = w .whole h; same = w .same }
-
-  pub began-all : r .asked ≤ r .allowance → t ≡ run s a
-  began-all h = w .bytes ∙ ap (run s) (take-all (m .allowance - m .asked) a (omega (arith, w .whole h, w .same)))
 
   -- all are done: others may be begun behind them
   pub began-both : {u : Image} {q : Meter} {b : List Step} → r .asked ≤ r .allowance → Began t r b u q → Began s m (a ++ b) u q

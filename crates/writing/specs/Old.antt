@@ -11,7 +11,7 @@ use native.Mathlib.Omega.{arith}
 use Rattle.spec.specs.Bytes.{is-committed}
 use Rattle.spec.specs.Step.{Step, program}
 use Rattle.spec.specs.Record.{Entry}
-use Rattle.spec.specs.Write.{migrate-steps, delete-steps, put-steps}
+use Rattle.spec.specs.Write.{migrate-steps, put-steps}
 use Rattle.writing.specs.declared.Old.{Old}
 use Rattle.writing.specs.declared.Old.the-variants.{None, At}
 
@@ -43,10 +43,6 @@ migrate-few (At a st) = go (eqb st 0xFC) where
   go : (t : Bool) → length {A = Step} (elim t [ true ↦ program (a + 2) 0xF8 ∷ [] | false ↦ [] ]) ≤ 1
   go true = omega arith
   go false = omega arith
-
-pub delete-few : (o : Old) → length (delete-steps (entry-of o)) ≤ 1
-delete-few None = omega arith
-delete-few (At a st) = omega arith
 
 pub lies-same : (o : Old) (N M : ℕ) → Lies o N → M ≡ N → Lies o M
 lies-same o N M l e = rw e l

@@ -11,7 +11,6 @@ ghost use mathlib.Core.List.{[], _∷_};
 ghost use Prim.Native.Nat.{_+_, _%_, _<_, _≤_, _^_};
 ghost use lib.ListN.{length};
 ghost use Rattle.spec.specs.Step.{Step, bytes-at, moved};
-ghost use Rattle.spec.specs.Geometry.{up8};
 ghost use Rattle.spec.specs.Record.{four, size-of};
 ghost use Rattle.spec.specs.Write.{marker-steps, header-steps, name-steps, data-steps, record-steps};
 ghost use Rattle.flash.specs.Did.{Did};

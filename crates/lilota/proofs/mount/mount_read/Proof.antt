@@ -3,7 +3,7 @@ use native.Mathlib.Omega.{arith}
 use mathlib.Core.Path.{sym, ap, _∙_}
 use lib.ListN.{length}
 use borrow.Author.Needs.{needs}
-use Rattle.reading.specs.Read.{answered, reading-of}
+use Rattle.reading.specs.Read.{answered}
 use Rattle.lilota.specs.Look.{good}
 use Rattle.lilota.specs.Mount.{legal-of, mount-good, mount-refused}
 use Rattle.lilota.proofs.mount.mount_read.Statement.{statement}
