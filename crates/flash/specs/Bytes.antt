@@ -2,9 +2,10 @@
 use Prim.Native.Nat.{ℕ, zero, suc, _+_, _≤_, _<_}
 use native.Mathlib.Omega.{arith}
 use native.Mathlib.Nat.{add-zero}
-use mathlib.Core.Path.{_≡_, refl, ap}
+use mathlib.Core.Path.{_≡_, refl, ap, _∙_}
 use mathlib.Core.List.{List, [], _∷_, _++_}
 use lib.ListN.{length, take, getD}
+use lib.Seq.{length-take-le}
 use Rattle.spec.specs.Step.{Step, program, bytes-at}
 
 pub bytes-more : (a : ℕ) (w : List ℕ) (i : ℕ) → i < length w
@@ -16,7 +17,9 @@ bytes-more a (x ∷ w) (suc i) h =
     let f : a + 1 + i ≡ a + suc i = omega arith in
     rw e (ap (λ (l : List Step). program a x ∷ l) (rw f at (bytes-more (a + 1) w i (omega arith))))
 
-pub length-bytes : (a i : ℕ) (w : List ℕ) → i ≤ length w → length (bytes-at a (take i w)) ≡ i
-length-bytes a zero w h = refl
-length-bytes a (suc i) [] h = absurd (omega arith)
-length-bytes a (suc i) (x ∷ w) h = ap suc (length-bytes (a + 1) i w (omega arith))
+pub length-bytes : (a : ℕ) (w : List ℕ) → length (bytes-at a w) ≡ length w
+length-bytes a [] = refl
+length-bytes a (x ∷ w) = ap suc (length-bytes (a + 1) w)
+
+pub length-first : (a i : ℕ) (w : List ℕ) → i ≤ length w → length (bytes-at a (take i w)) ≡ i
+length-first a i w h = length-bytes a (take i w) ∙ length-take-le i w h

@@ -3,6 +3,7 @@ use Prim.Native.Nat.{ℕ, zero, suc, _+_, _-_, _≤_, _<_}
 use native.Mathlib.Omega.{arith}
 use native.Mathlib.Nat.{add-zero, sub-zero, zero-sub}
 use mathlib.Core.Path.{_≡_, refl, sym, ap, ap₂, _∙_}
+use mathlib.Core.Logic.{_⊎_, inl, inr, ⊎-elim}
 use mathlib.Core.List.{List, [], _∷_, _++_, append-nil, append-assoc}
 use lib.ListN.{length, take, drop, set, length-append, take-append-drop, drop-of-length-le, length-drop}
 use lib.Seq.{length-take-le, take-nil, take-all, take-append-add, drop-append-add}
@@ -25,6 +26,15 @@ one-in s (suc k) x h = ap (run (apply s x)) (sym (take-nil k))
 
 pub one-out : (s : Image) (k : ℕ) (x : Step) → k ≡ 0 → s ≡ run s (take k (x ∷ []))
 one-out s k x h = rw h
+
+-- a step is done or is not
+one-of : (s : Image) (k : ℕ) (x : Step) → (run s (take k (x ∷ [])) ≡ apply s x) ⊎ (run s (take k (x ∷ [])) ≡ s)
+one-of s zero x = inr refl
+one-of s (suc k) x = inl (sym (one-in s (suc k) x (omega arith)))
+
+pub did-one : {s t : Image} {m r : Meter} {x : Step} → Did s m (x ∷ []) t r → (t ≡ apply s x) ⊎ (t ≡ s)
+did-one {s} {t} {m} {r} {x} d =
+    ⊎-elim (λ e. inl (d .bytes ∙ e)) (λ e. inr (d .bytes ∙ e)) (one-of s (m .allowance - m .asked) x)
 
 -- ---- phases
 

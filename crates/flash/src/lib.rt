@@ -2,10 +2,11 @@
 // program and erase are the only two functions that write an image.
 use spec::SECTOR;
 ghost use mathlib.Core.Path.{_≡_};
-ghost use mathlib.Core.List.{[], _∷_};
+ghost use mathlib.Core.List.{[], _∷_, map};
 ghost use Prim.Native.Nat.{_+_, _<_, _≤_, _^_};
 ghost use lib.ListN.{length};
 ghost use Rattle.spec.specs.Step.{Step, bytes-at};
+ghost use Rattle.spec.specs.Geometry.{sectors};
 ghost use Rattle.spec.specs.Basics.{blank};
 ghost use Rattle.flash.specs.Did.{Did};
 ghost use Rattle.flash.specs.Blank.{blank-run};
@@ -59,7 +60,7 @@ pub fn erase(image: &mut [u8], at: usize, m: Meter) -> Meter
 
 // Programs these bytes one after another, from this address on.
 pub fn program_bytes(image: &mut [u8], at: usize, bytes: &[u8], m: Meter) -> Meter
-    requires { ⌜ (at + length (now bytes) ≤ length (now image)) × (m .asked + length (now bytes) < 2 ^ 32) ⌝ }
+    requires { ⌜ (at + length (now bytes) ≤ length (now image)) × (m .asked + length (now bytes) ≤ 2 ^ 32) ⌝ }
     ensures { λ r. ⌜ Did (now (image .entry)) m (bytes-at at (now (bytes .entry))) (now (image .exit)) r ⌝ }
 {
     let mut q = m;
@@ -67,6 +68,20 @@ pub fn program_bytes(image: &mut [u8], at: usize, bytes: &[u8], m: Meter) -> Met
     while i < bytes.len() {
         q = program(image, at + i, bytes[i], q);
         i += 1;
+    }
+    q
+}
+
+// Erases the sectors from the one at `from` on, ascending, as far as they end at `to` at most.
+pub fn erase_sectors(image: &mut [u8], from: usize, to: usize, m: Meter) -> Meter
+    requires { ⌜ (from ≤ 2 ^ 24) × (to ≤ length (now image)) × (to ≤ 2 ^ 24) × (m .asked + to ≤ 2 ^ 32) ⌝ }
+    ensures { λ r. ⌜ Did (now (image .entry)) m (map Step.erase (sectors from to)) (now (image .exit)) r × (r .asked ≤ m .asked + to) ⌝ }
+{
+    let mut q = m;
+    let mut a = from;
+    while a + SECTOR <= to {
+        q = erase(image, a, q);
+        a += SECTOR;
     }
     q
 }

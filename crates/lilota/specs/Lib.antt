@@ -1,7 +1,7 @@
 pub mod Numbers
-pub mod Wipe
-pub mod Look
 pub mod Carry
+pub mod Length
+pub mod Look
 pub mod Ground
 pub mod Settled
 pub mod Put

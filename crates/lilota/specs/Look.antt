@@ -1,15 +1,13 @@
 -- The lookups: from what the code found to the outcome of get and of list.
-use Prim.Native.Nat.{ℕ, _+_, _-_, _%_, _≤_, _^_}
+use Prim.Native.Nat.{ℕ, _+_, _-_}
 use native.Mathlib.Omega.{arith}
 use mathlib.Core.Path.{_≡_, refl, sym, ap, ap₂, _∙_}
-use mathlib.Core.Bool.{Bool, true, false}
+use mathlib.Core.Bool.{true, false}
 use mathlib.Core.Option.{Option, none, some}
 use mathlib.Core.List.{List}
 use lib.ListN.{length, take, drop, getElem?}
-use lib.Dec.{leb, eqb}
-use borrow.Author.Tests.{eqb-true, leb-true}
 use Rattle.spec.specs.Step.{Image}
-use Rattle.spec.specs.Basics.{refuse, give, onward, keep, first-such}
+use Rattle.spec.specs.Basics.{give, onward, keep, first-such}
 use Rattle.spec.specs.Geometry.{good-length, up8}
 use Rattle.spec.specs.Record.{Entry, name-ok}
 use Rattle.spec.specs.Files.{has-name, file-named, file-indexed}
@@ -26,27 +24,7 @@ use Rattle.reading.specs.NamesLaw.{files-are}
 use Rattle.reading.specs.Read.{reading-of, Quiet}
 use Rattle.lilota.specs.Numbers.{outcome}
 
--- ---- the length
-
-pub record Good (n : ℕ) : Type 0 where
-  pub sectors : n % 4096 ≡ 0
-  pub two : 8192 ≤ n
-  pub most : n ≤ 2 ^ 24
-
-pub good : (n : ℕ) → good-length n ≡ true → Good n
-unfolding good-length
-good n h = go (eqb (n % 4096) 0) (leb 8192 n) refl refl h where
-  go : (a b : Bool) → eqb (n % 4096) 0 ≡ a → leb 8192 n ≡ b → good-length n ≡ true → Good n
-  go true true p q h = record { sectors = eqb-true (n % 4096) 0 p; two = leb-true 8192 n q; most = leb-true n 16777216 (rw (good-length, p, q) at h) }
-  go true false p q h = absurd (let e : false ≡ true = rw (good-length, p, q) at h in let z : _≡_ {A = ℕ} 0 1 = cc in omega arith)
-  go false b p q h = absurd (let e : false ≡ true = rw (good-length, p) at h in let z : _≡_ {A = ℕ} 0 1 = cc in omega arith)
-
 -- ---- a call that only looks
-
--- nothing is found, or a refusal stands
-pub refused-is : (image : Image) (n : ℕ) → outcome (refusal n) image ≡ carry-out image 0 (refuse n)
-unfolding carry-out
-refused-is image n = refl
 
 pub getting-is : (image : Image) (e : Entry) → outcome (getting e .done) image ≡ carry-out image 0 (give (getting e))
 unfolding carry-out numbers-of

@@ -21,7 +21,7 @@ use Rattle.recovery.specs.declared.Mended.{Mended}
 use Rattle.recovery.specs.Counted.{Counted, Numbered}
 use Rattle.lilota.specs.declared.mount.Mounted.{Mounted}
 use Rattle.lilota.specs.Numbers.{given, outcome}
-use Rattle.lilota.specs.Look.{good}
+use Rattle.lilota.specs.Length.{good}
 use Rattle.lilota.specs.Settled.{read-again}
 
 abbrev pub mounted : Mounted → Numbers

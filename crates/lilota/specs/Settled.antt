@@ -21,7 +21,7 @@ use Rattle.spec.specs.Placed.{Sound}
 use Rattle.spec.specs.Answers.{if-settled, settled-reading}
 use Rattle.reading.specs.declared.Survey.{Survey}
 use Rattle.reading.specs.Read.{reading-of, Surveyed}
-use Rattle.lilota.specs.Look.{good}
+use Rattle.lilota.specs.Length.{good}
 use Rattle.lilota.specs.Ground.{Grounded, grounded, head-below}
 
 pub record Settled (image : Image) (s : Survey) : Type 0 where

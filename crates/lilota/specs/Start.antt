@@ -24,7 +24,7 @@ use Rattle.spec.specs.Answers.{if-settled, settled-reading}
 use Rattle.sweeping.specs.First.{Low}
 use Rattle.sweeping.specs.Standing.{Led, stands}
 use Rattle.sweeping.specs.Planned.{Headed}
-use Rattle.lilota.specs.Look.{good}
+use Rattle.lilota.specs.Length.{good}
 use Rattle.lilota.specs.Ground.{head-below}
 use Rattle.lilota.specs.Settled.{gave, passed}
 

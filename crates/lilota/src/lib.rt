@@ -7,14 +7,14 @@ pub mod mount;
 pub mod put;
 pub mod remove;
 pub mod sweep;
-mod wipe;
 
+use carry::ended;
 use flash::Meter;
 use look::get_in;
 use look::list_in;
 use record::name::name_ok;
 use spec::SECTOR;
-use wipe::wipe;
+use writing::format::format_image;
 ghost use mathlib.Core.Path.{_≡_};
 ghost use Prim.Native.Nat.{_+_, _≤_};
 ghost use lib.ListN.{length};
@@ -70,17 +70,11 @@ pub fn format(image: &mut [u8], allowance: usize) -> Written
     ensures { λ r. ⌜ outcome (written r) (now (image .exit)) ≡ format (now (image .entry)) allowance ⌝ }
 {
     if good_length(image.len()) {
-        let m = wipe(
-            image,
-            Meter {
-                allowance: allowance,
-                asked: 0,
-            },
-        );
-        if m.asked <= m.allowance {
-            return Written::Done(m.asked);
-        }
-        return Written::Cut(m.allowance);
+        let m = Meter {
+            allowance: allowance,
+            asked: 0,
+        };
+        return ended(format_image(image, m));
     }
     Written::Refused(22)
 }

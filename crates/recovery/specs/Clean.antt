@@ -11,8 +11,9 @@ use lib.Seq.{getD-drop, getD-take, length-take-le, drop-drop, drop-set-lt, take-
 use Rattle.spec.specs.Step.{Image, Step, program, run}
 use Rattle.spec.specs.Bytes.{is-record, is-start, is-clean, is-high}
 use Rattle.flash.specs.declared.Meter.{Meter}
-use Rattle.flash.specs.Did.{Did}
-use Rattle.recovery.specs.Toward.{later-on, did-one, Toward, toward-same, toward-more, toward-end}
+use Rattle.flash.specs.Did.{Did, did-one}
+use Rattle.flash.specs.Toward.{Toward, toward-same, toward-more, toward-end}
+use Rattle.recovery.specs.Sectors.{later-on}
 use Rattle.spec.specs.Move.{mark-here, mark-steps, clean-steps}
 
 -- ---- how many pairs may be looked at doesn't matter, if they are enough

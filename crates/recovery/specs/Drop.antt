@@ -17,7 +17,7 @@ use Rattle.spec.specs.Chain.{Reading, reading-from}
 use Rattle.spec.specs.Files.{named, named-as, has-named, superseded, same-name}
 use Rattle.spec.specs.Mount.{delete-step, drop-steps}
 use Rattle.flash.specs.declared.Meter.{Meter}
-use Rattle.flash.specs.Did.{Did}
+use Rattle.flash.specs.Did.{Did, did-one}
 use Rattle.reading.specs.declared.Cursor.{Cursor}
 use Rattle.reading.specs.declared.Spot.{Spot}
 use Rattle.reading.specs.declared.Step.{Step as Chain-step}
@@ -26,7 +26,7 @@ use Rattle.reading.specs.Rest.{Run, entry-of, followed, rest, rest-step}
 use Rattle.reading.specs.Fold.{Not-record, rest-done}
 use Rattle.reading.specs.Bridge.{shown, reading-is}
 use Rattle.reading.specs.Read.{first-cursor}
-use Rattle.recovery.specs.Toward.{Toward, toward-more, toward-end, did-one}
+use Rattle.flash.specs.Toward.{Toward, toward-more, toward-end}
 use Rattle.recovery.specs.Trail.{way, stood-fits, Tidy, Ahead, tidy-next, window-kept, look-dropped, here-again, there-again}
 use Rattle.recovery.specs.Path.{Path, here, path-snoc, rest-path, path-tidy, path-kept, Passed, rest-kept}
 

@@ -21,8 +21,7 @@ use Rattle.reading.specs.declared.Survey.{Survey}
 use Rattle.reading.specs.Rest.{entry-of, rest}
 use Rattle.reading.specs.RuleLaws.{head-none, head-low}
 use Rattle.reading.specs.Read.{first-cursor}
-use Rattle.recovery.specs.Toward.{later-on}
-use Rattle.recovery.specs.Sectors.{dirty-same}
+use Rattle.recovery.specs.Sectors.{dirty-same, later-on}
 use Rattle.recovery.specs.Survey.{Seen}
 use Rattle.recovery.specs.Repairs.{steps-1}
 

@@ -1,4 +1,3 @@
-pub mod Toward
 pub mod Sectors
 pub mod Clean
 pub mod Close

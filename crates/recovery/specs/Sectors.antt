@@ -1,5 +1,5 @@
--- Sectors, one after another; what an erase leaves alone.
-use Prim.Native.Nat.{ℕ, zero, suc, _+_, _-_, _≤_, _<_}
+-- Sectors that are erased unless they are all FF; what an erase leaves alone.
+use Prim.Native.Nat.{ℕ, _+_, _-_, _≤_}
 use native.Mathlib.Omega.{arith}
 use mathlib.Core.Path.{_≡_, refl, sym, ap, ap₂, _∙_}
 use mathlib.Core.Logic.{⊎-elim}
@@ -7,43 +7,14 @@ use mathlib.Core.Bool.{Bool, true, false, not}
 use mathlib.Core.List.{List, [], _∷_, _++_, map, append-assoc}
 use lib.ListN.{length, take, drop, length-append, length-replicate}
 use lib.Seq.{drop-drop, drop-append-add, length-take-le}
-use lib.Dec.{leb}
-use borrow.Author.Tests.{le-leb, lt-leb}
 use Rattle.spec.specs.Step.{Image, erase, sector, apply}
 use Rattle.spec.specs.Basics.{blank, keep}
-use Rattle.spec.specs.Geometry.{sectors-by, sectors}
+use Rattle.spec.specs.Geometry.{sectors}
 use Rattle.spec.specs.Mount.{dirty}
 use Rattle.flash.specs.declared.Meter.{Meter}
-use Rattle.flash.specs.Did.{Did}
+use Rattle.flash.specs.Did.{Did, did-one}
 use Rattle.reading.specs.CursorLaws.{part-window}
-use Rattle.recovery.specs.Toward.{did-one}
-
--- ---- one more sector, and none
-
-by-none : (k a b : ℕ) → b < a + 4096 → sectors-by k a b ≡ []
-unfolding sectors-by
-by-none zero a b h = refl
-by-none (suc k) a b h = rw (lt-leb (a + 4096) b h, sectors-by)
-
-by-more : (k a b : ℕ) → a + 4096 ≤ b → sectors-by (suc k) a b ≡ a ∷ sectors-by k (a + 4096) b
-unfolding sectors-by
-by-more k a b h = rw (le-leb (a + 4096) b h, sectors-by)
-
--- a bound that is enough is as good as any other
-enough : (k j a b : ℕ) → b ≤ a + k → b ≤ a + j → sectors-by k a b ≡ sectors-by j a b
-unfolding sectors-by
-enough zero j a b h g = by-none zero a b (omega arith) ∙ sym (by-none j a b (omega arith))
-enough (suc k) zero a b h g = by-none (suc k) a b (omega arith) ∙ sym (by-none zero a b (omega arith))
-enough (suc k) (suc j) a b h g = go (leb (a + 4096) b) refl (enough k j (a + 4096) b (omega arith) (omega arith)) where
-  go : (t : Bool) → leb (a + 4096) b ≡ t → sectors-by k (a + 4096) b ≡ sectors-by j (a + 4096) b → sectors-by (suc k) a b ≡ sectors-by (suc j) a b
-  go true e ih = rw (e, sectors-by) (ap (λ (l : List ℕ). a ∷ l) ih)
-  go false e ih = rw (e, sectors-by)
-
-pub sectors-none : (a b : ℕ) → b < a + 4096 → sectors a b ≡ []
-sectors-none a b h = by-none b a b h
-
-pub sectors-more : (a b : ℕ) → a + 4096 ≤ b → sectors a b ≡ a ∷ sectors (a + 4096) b
-sectors-more a b h = enough b (suc b) a b (omega arith) (omega arith) ∙ by-more b a b h
+use Rattle.flash.specs.Sectors.{sectors-more}
 
 -- ---- what an erase leaves alone: the bytes behind the sector
 
@@ -92,3 +63,10 @@ dirty-more s t a b h e =
     let l : List ℕ = keep (dirty s) (sectors (a + 4096) b) in
     ap (λ (k : List ℕ). map erase (keep (dirty s) k)) (sectors-more a b h)
     ∙ ap (λ (c : Bool). map erase (pick c a l)) (sym (dirty-same s t a e)) ∙ pick-first (dirty t a) a l
+
+-- what stands from a on is the same, and so is what stands from k on
+pub later-on : (a k : ℕ) (s t : Image) → a ≤ k → drop a t ≡ drop a s → drop k t ≡ drop k s
+later-on a k s t h e =
+    let j : a + (k - a) ≡ k = omega arith in
+    let w : (u : Image) → drop (k - a) (drop a u) ≡ drop k u = λ u. drop-drop (k - a) a u ∙ ap (λ (n : ℕ). drop n u) j in
+    sym (w t) ∙ ap (drop (k - a)) e ∙ w s

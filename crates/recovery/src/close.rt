@@ -1,6 +1,6 @@
 // Steps (c) to (f) of a move: X's data cleaned of false heads, its sectors erased, the head handed over to Y.
-use crate::sectors::erase_sectors;
 use flash::Meter;
+use flash::erase_sectors;
 use flash::program;
 use reading::Spot;
 use record::up_8;

@@ -1,4 +1,4 @@
-// Sectors erased one after another, ascending.
+// The sectors of a stretch that are not all FF, erased one after another, ascending.
 use flash::Meter;
 use flash::erase;
 use flash::is_blank;
@@ -12,20 +12,6 @@ ghost use Rattle.spec.specs.Basics.{keep};
 ghost use Rattle.spec.specs.Geometry.{sectors};
 ghost use Rattle.spec.specs.Mount.{dirty};
 ghost use Rattle.flash.specs.Did.{Did};
-
-// Every sector from the one at this address on, as far as it ends at `to` at most.
-pub fn erase_sectors(image: &mut [u8], from: usize, to: usize, m: Meter) -> Meter
-    requires { ⌜ (from ≤ 2 ^ 24) × (to ≤ length (now image)) × (to ≤ 2 ^ 24) × (m .asked + to ≤ 2 ^ 32) ⌝ }
-    ensures { λ r. ⌜ Did (now (image .entry)) m (map Step.erase (sectors from to)) (now (image .exit)) r × (r .asked ≤ m .asked + to) ⌝ }
-{
-    let mut q = m;
-    let mut a = from;
-    while a + SECTOR <= to {
-        q = erase(image, a, q);
-        a += SECTOR;
-    }
-    q
-}
 
 // The sector at this address, unless it is all FF already.
 fn erase_if_dirty(image: &mut [u8], at: usize, m: Meter) -> Meter

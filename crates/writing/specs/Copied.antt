@@ -11,7 +11,8 @@ use Rattle.spec.specs.Record.{four, size-of, rec-of}
 use Rattle.spec.specs.Write.{header-steps, name-steps, data-steps, commit-steps, record-steps}
 use Rattle.flash.specs.Did.{Did, did-both, length-moved}
 use Rattle.flash.specs.declared.Meter.{Meter}
-use Rattle.writing.specs.Steps.{length-bytes, length-name, bytes-more, moved-append, moved-bytes}
+use Rattle.flash.specs.Bytes.{length-bytes, bytes-more}
+use Rattle.writing.specs.Steps.{length-name, moved-append, moved-bytes}
 use Rattle.writing.specs.Kept.{Apart, off-part, take-drop, length-part, Avoids, kept, Inside, inside-bytes, inside-append, inside-moved, inside-avoids}
 
 -- ---- byte by byte

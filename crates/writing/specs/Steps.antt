@@ -1,28 +1,14 @@
--- Laws on the step lists of Write: their lengths, one byte more, and the same steps further on.
-use Prim.Native.Nat.{ℕ, zero, suc, _+_, _<_}
+-- Laws on the step lists of Write: their lengths, and the same steps further on.
+use Prim.Native.Nat.{ℕ, _+_}
 use native.Mathlib.Omega.{arith}
-use native.Mathlib.Nat.{add-zero}
 use mathlib.Core.Path.{_≡_, refl, ap, _∙_}
 use mathlib.Core.List.{List, [], _∷_, _++_}
-use lib.ListN.{length, take, getD, length-append}
+use lib.ListN.{length, length-append}
 use Rattle.spec.specs.Step.{Step, program, erase, bytes-at, moved}
 use Rattle.spec.specs.Write.{name-steps, data-steps, commit-steps, record-steps}
 use Rattle.spec.specs.Geometry.{up8}
 use Rattle.flash.specs.Did.{length-moved}
-
-pub length-bytes : (a : ℕ) (w : List ℕ) → length (bytes-at a w) ≡ length w
-length-bytes a [] = refl
-length-bytes a (x ∷ w) = ap suc (length-bytes (a + 1) w)
-
--- a loop that writes w: one byte more
-pub bytes-more : (a : ℕ) (w : List ℕ) (i : ℕ) → i < length w
-    → bytes-at a (take (i + 1) w) ≡ bytes-at a (take i w) ++ (program (a + i) (getD w i 0) ∷ [])
-bytes-more a [] i h = absurd (omega arith)
-bytes-more a (x ∷ w) zero h = rw add-zero
-bytes-more a (x ∷ w) (suc i) h =
-    let e : suc i + 1 ≡ suc (i + 1) = omega arith in
-    let f : a + 1 + i ≡ a + suc i = omega arith in
-    rw e (ap (λ (l : List Step). program a x ∷ l) (rw f at (bytes-more (a + 1) w i (omega arith))))
+use Rattle.flash.specs.Bytes.{length-bytes}
 
 pub length-name : (name : List ℕ) → length (name-steps name) ≡ length name + 1
 length-name name = length-append (bytes-at 8 name) _ ∙ ap (λ (n : ℕ). n + 1) (length-bytes 8 name)

@@ -1,6 +1,7 @@
 // A record built in the part of the image that begins at its first byte; also the marker and the status byte.
 use flash::Meter;
 use flash::program;
+use flash::program_bytes;
 use record::up_8;
 use spec::HIGH;
 use spec::RECORD;
@@ -10,24 +11,10 @@ ghost use mathlib.Core.Path.{_≡_};
 ghost use mathlib.Core.List.{[], _∷_};
 ghost use Prim.Native.Nat.{_+_, _%_, _<_, _≤_, _^_};
 ghost use lib.ListN.{length};
-ghost use Rattle.spec.specs.Step.{Step, bytes-at, moved};
+ghost use Rattle.spec.specs.Step.{Step, moved};
 ghost use Rattle.spec.specs.Record.{four, size-of};
 ghost use Rattle.spec.specs.Write.{marker-steps, header-steps, name-steps, data-steps, record-steps};
 ghost use Rattle.flash.specs.Did.{Did};
-
-// Programs the bytes one after another from this address on.
-pub fn write_bytes(part: &mut [u8], at: usize, bytes: &[u8], m: Meter) -> Meter
-    requires { ⌜ (at + length (now bytes) ≤ length (now part)) × (m .asked + length (now bytes) ≤ 2 ^ 32) ⌝ }
-    ensures { λ r. ⌜ Did (now (part .entry)) m (bytes-at at (now (bytes .entry))) (now (part .exit)) r ⌝ }
-{
-    let mut q = m;
-    let mut i = 0;
-    while i < bytes.len() {
-        q = program(part, at + i, bytes[i], q);
-        i += 1;
-    }
-    q
-}
 
 // The status byte of the record at this address.
 pub fn set_status(part: &mut [u8], at: usize, status: Status, m: Meter) -> Meter
@@ -73,7 +60,7 @@ fn write_header(part: &mut [u8], d: usize, m: Meter) -> Meter
     let four = four_of(d);
     let a = program(part, 0, RECORD, m);
     let b = program(part, 1, HIGH, a);
-    let c = write_bytes(part, 4, &four, b);
+    let c = program_bytes(part, 4, &four, b);
     set_status(part, 0, Status::RESERVED, c)
 }
 
@@ -82,7 +69,7 @@ fn write_name(part: &mut [u8], name: &[u8], m: Meter) -> Meter
     requires { ⌜ (8 + length (now name) < length (now part)) × (m .asked + length (now name) + 1 ≤ 2 ^ 32) ⌝ }
     ensures { λ r. ⌜ Did (now (part .entry)) m (name-steps (now (name .entry))) (now (part .exit)) r ⌝ }
 {
-    let a = write_bytes(part, 8, name, m);
+    let a = program_bytes(part, 8, name, m);
     program(part, 8 + name.len(), 0x00, a)
 }
 
@@ -91,7 +78,7 @@ fn write_data(part: &mut [u8], n: usize, content: &[u8], m: Meter) -> Meter
     requires { ⌜ (n ≤ 63) × (size-of n (length (now content)) ≤ length (now part)) × (m .asked + length (now content) ≤ 2 ^ 32) ⌝ }
     ensures { λ r. ⌜ Did (now (part .entry)) m (data-steps n (now (content .entry))) (now (part .exit)) r ⌝ }
 {
-    write_bytes(part, 8 + up_8(n + 1), content, m)
+    program_bytes(part, 8 + up_8(n + 1), content, m)
 }
 
 // A whole record. The commit is its last step, so that a cut before it leaves no file.

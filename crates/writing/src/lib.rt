@@ -2,7 +2,7 @@
 // Every byte goes through flash::program, and every sector through flash::erase.
 pub mod build;
 pub mod copy;
-pub mod sectors;
+pub mod format;
 
 use build::set_status;
 use build::write_marker;

@@ -5,7 +5,7 @@ use lib.ListN.{length, take}
 use lib.Seq.{take-all}
 use Rattle.spec.specs.Step.{bytes-at}
 use Rattle.flash.specs.Did.{Did, did-none, did-both}
-use Rattle.flash.specs.Bytes.{bytes-more, length-bytes}
+use Rattle.flash.specs.Bytes.{bytes-more, length-first}
 use borrow.Author.Needs.{needs}
 use native.Mathlib.Omega.{arith}
 use Rattle.flash.proofs.program_bytes.Statement.{statement}
@@ -29,7 +29,7 @@ shared-slice-read-program c = search needs
 program-requires : tie.Need-program-requires Inv-loop μ-loop
 program-requires c κs =
     let a = c .before .before .before .before .before .before .args in
-    omega (arith, length-bytes (a .at) (c .before .before .before .loop .i) (a .bytes .now) (omega arith))
+    omega (arith, length-first (a .at) (c .before .before .before .loop .i) (a .bytes .now) (omega arith))
 
 add-i : tie.Need-add-i Inv-loop μ-loop
 add-i c = search needs

@@ -4,7 +4,7 @@ use mathlib.Core.Path.{sym, ap, _∙_}
 use lib.ListN.{length}
 use borrow.Author.Needs.{needs}
 use Rattle.reading.specs.Read.{answered}
-use Rattle.lilota.specs.Look.{good}
+use Rattle.lilota.specs.Length.{good}
 use Rattle.lilota.specs.Mount.{legal-of, mount-good, mount-refused}
 use Rattle.lilota.proofs.mount.mount_read.Statement.{statement}
 use Rattle.lilota.proofs.mount.mount_read.Tie as tie

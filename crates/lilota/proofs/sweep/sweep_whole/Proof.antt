@@ -3,7 +3,7 @@ use native.Mathlib.Omega.{arith}
 use lib.ListN.{length}
 use Rattle.spec.specs.Answers.{sweep-of}
 use Rattle.reading.specs.Read.{reading-of, answered}
-use Rattle.lilota.specs.Look.{good}
+use Rattle.lilota.specs.Length.{good}
 use Rattle.lilota.specs.Carry.{read-refused, read-on}
 use Rattle.lilota.specs.Sweep.{readied}
 use borrow.Author.Needs.{needs}

@@ -9,8 +9,9 @@ use mathlib.Core.List.{map}
 use lib.ListN.{length, drop}
 use Rattle.spec.specs.Step.{erase}
 use Rattle.spec.specs.Geometry.{sectors}
-use Rattle.recovery.specs.Toward.{Toward, toward-more, toward-end, later-on}
-use Rattle.recovery.specs.Sectors.{sectors-none, dirty-more}
+use Rattle.flash.specs.Toward.{Toward, toward-more, toward-end}
+use Rattle.flash.specs.Sectors.{sectors-none}
+use Rattle.recovery.specs.Sectors.{dirty-more, later-on}
 use Rattle.recovery.proofs.sectors.erase_dirty.Statement.{statement}
 use Rattle.recovery.proofs.sectors.erase_dirty.Tie as tie
 

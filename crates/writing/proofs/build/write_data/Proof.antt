@@ -9,19 +9,19 @@ add-up-8 c = search needs
 up-8-requires : tie.Need-up-8-requires
 up-8-requires c κs = search needs
 
-add-write-bytes : tie.Need-add-write-bytes
-add-write-bytes c = search needs
+add-program-bytes : tie.Need-add-program-bytes
+add-program-bytes c = search needs
 
-write-bytes-requires : tie.Need-write-bytes-requires
-write-bytes-requires c κs = search needs
+program-bytes-requires : tie.Need-program-bytes-requires
+program-bytes-requires c κs = search needs
 
 same-length : tie.Need-same-length
 same-length c = search needs
 
 returns : tie.Need-returns
-returns c = rw (c .before .before .before .up-8 .ensures) at (c .before .before .write-bytes .ensures)
+returns c = rw (c .before .before .before .up-8 .ensures) at (c .before .before .program-bytes .ensures)
 
 pub write-data-spec : {M : Type 1} → statement M
 write-data-spec =
     tie.close
-    (tie.spec add-up-8 up-8-requires add-write-bytes write-bytes-requires same-length returns)
+    (tie.spec add-up-8 up-8-requires add-program-bytes program-bytes-requires same-length returns)

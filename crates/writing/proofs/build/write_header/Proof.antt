@@ -19,11 +19,11 @@ program-requires c κs = search needs
 program-requires-2 : tie.Need-program-requires-2
 program-requires-2 c κs = search needs
 
-slice-aggregate-write-bytes : tie.Need-slice-aggregate-write-bytes
-slice-aggregate-write-bytes c = search needs
+slice-aggregate-program-bytes : tie.Need-slice-aggregate-program-bytes
+slice-aggregate-program-bytes c = search needs
 
-write-bytes-requires : tie.Need-write-bytes-requires
-write-bytes-requires c κs = search needs
+program-bytes-requires : tie.Need-program-bytes-requires
+program-bytes-requires c κs = search needs
 
 set-status-requires : tie.Need-set-status-requires
 set-status-requires c κs =
@@ -46,7 +46,7 @@ returns c =
     did-both
     (did-both
     (did-both (c15 .program .ensures)
-    (c11 .program2 .ensures)) (rw (c17 .four-of .ensures) at (c6 .write-bytes .ensures)))
+    (c11 .program2 .ensures)) (rw (c17 .four-of .ensures) at (c6 .program-bytes .ensures)))
     (c .before .before .set-status .ensures)
 
 pub write-header-spec : {M : Type 1} → statement M
@@ -56,8 +56,8 @@ write-header-spec =
     four-of-requires
     program-requires
     program-requires-2
-    slice-aggregate-write-bytes
-    write-bytes-requires
+    slice-aggregate-program-bytes
+    program-bytes-requires
     set-status-requires
     same-length
     returns)

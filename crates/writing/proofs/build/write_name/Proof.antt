@@ -1,13 +1,13 @@
 -- The phases one after another.
-use Rattle.writing.specs.Steps.{length-bytes}
+use Rattle.flash.specs.Bytes.{length-bytes}
 use Rattle.flash.specs.Did.{did-both}
 use native.Mathlib.Omega.{arith}
 use borrow.Author.Needs.{needs}
 use Rattle.writing.proofs.build.write_name.Statement.{statement}
 use Rattle.writing.proofs.build.write_name.Tie as tie
 
-write-bytes-requires : tie.Need-write-bytes-requires
-write-bytes-requires c κs = search needs
+program-bytes-requires : tie.Need-program-bytes-requires
+program-bytes-requires c κs = search needs
 
 add-program : tie.Need-add-program
 add-program c = search needs
@@ -21,8 +21,8 @@ same-length c = search needs
 returns : tie.Need-returns
 returns c =
     let c6 = c .before .before .before .before .before .before in
-    did-both (c6 .write-bytes .ensures) (c .before .before .program .ensures)
+    did-both (c6 .program-bytes .ensures) (c .before .before .program .ensures)
 
 pub write-name-spec : {M : Type 1} → statement M
 write-name-spec =
-    tie.close (tie.spec write-bytes-requires add-program program-requires same-length returns)
+    tie.close (tie.spec program-bytes-requires add-program program-requires same-length returns)

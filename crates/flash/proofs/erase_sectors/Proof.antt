@@ -7,10 +7,10 @@ use mathlib.Core.List.{map}
 use lib.ListN.{length}
 use Rattle.spec.specs.Step.{erase}
 use Rattle.spec.specs.Geometry.{sectors}
-use Rattle.recovery.specs.Toward.{Toward, toward-more, toward-end}
-use Rattle.recovery.specs.Sectors.{sectors-none, sectors-more}
-use Rattle.recovery.proofs.sectors.erase_sectors.Statement.{statement}
-use Rattle.recovery.proofs.sectors.erase_sectors.Tie as tie
+use Rattle.flash.specs.Toward.{Toward, toward-more, toward-end}
+use Rattle.flash.specs.Sectors.{sectors-none, sectors-more}
+use Rattle.flash.proofs.erase_sectors.Statement.{statement}
+use Rattle.flash.proofs.erase_sectors.Tie as tie
 
 abbrev Inv-loop : tie.InvT-loop
 Inv-loop image₀ from to q₀ a₀ image q a =
