@@ -30,16 +30,15 @@ fn settled(n: usize, files: usize) -> Vec<u8> {
 }
 
 fn row(what: &str, t: &Times) {
-    let or_none = |x: Option<String>| x.unwrap_or("-".into());
     let micros = |seconds: f64| format!("{:.1}", seconds * 1e6);
     let ratio = |x: f64| format!("{x:.2}");
     println!(
         "| {what} | {} | {} | {} | {} | {} |",
-        or_none(t.library.map(micros)),
+        micros(t.library),
         micros(t.baseline),
         micros(t.scan),
-        or_none(t.to_baseline.map(ratio)),
-        or_none(t.to_scan.map(ratio)),
+        ratio(t.to_baseline),
+        ratio(t.to_scan),
     );
 }
 

@@ -2,27 +2,26 @@
 use model::Reply;
 use std::hint::black_box;
 use testing::c_calls::Library;
-use testing::call::{Call, Store};
+use testing::call::Call;
 
 /// Each time is the median of so many runs.
 pub const RUNS: usize = 11;
 /// A run repeats a call that only reads, until it took so many seconds.
 const LONG_ENOUGH: f64 = 0.002;
 
-/// Medians: seconds, and ratios of times that were taken next to each other. What
-/// concerns the library is missing for a call that it hasn't.
+/// Medians: seconds, and ratios of times that were taken next to each other.
 pub struct Times {
-    pub library: Option<f64>,
+    pub library: f64,
     pub baseline: f64,
     pub scan: f64,
-    pub to_baseline: Option<f64>,
-    pub to_scan: Option<f64>,
+    pub to_baseline: f64,
+    pub to_scan: f64,
 }
 
-fn median(times: impl Iterator<Item = f64>) -> Option<f64> {
+fn median(times: impl Iterator<Item = f64>) -> f64 {
     let mut times: Vec<f64> = times.collect();
     times.sort_by(f64::total_cmp);
-    times.get(times.len() / 2).copied()
+    times[times.len() / 2]
 }
 
 /// Seconds of this thread on the processor: what other programs take doesn't count.
@@ -78,9 +77,9 @@ fn run(store: &Library, img: &mut [u8], before: &[u8], call: &Call, steps: u64) 
 pub fn times(library: &Library, baseline: &Library, before: &[u8], call: &Call) -> Times {
     let steps = agreed(library, baseline, before, call).steps;
     let mut img = before.to_vec();
-    let mut turns: Vec<(Option<f64>, f64, f64)> = Vec::new();
+    let mut turns: Vec<(f64, f64, f64)> = Vec::new();
     for _ in 0..=RUNS {
-        let ours = library.has(call).then(|| run(library, &mut img, before, call, steps));
+        let ours = run(library, &mut img, before, call, steps);
         let plain = run(baseline, &mut img, before, call, steps);
         let scan = repeated(|| {
             black_box(baseline::scan(black_box(&img)));
@@ -90,11 +89,11 @@ pub fn times(library: &Library, baseline: &Library, before: &[u8], call: &Call) 
     // the first turn warmed the buffers up and doesn't count
     let turns = &turns[1..];
     Times {
-        library: median(turns.iter().filter_map(|t| t.0)),
-        baseline: median(turns.iter().map(|t| t.1)).expect("there were runs"),
-        scan: median(turns.iter().map(|t| t.2)).expect("there were runs"),
-        to_baseline: median(turns.iter().filter_map(|t| Some(t.0? / t.1))),
-        to_scan: median(turns.iter().filter_map(|t| Some(t.0? / t.2))),
+        library: median(turns.iter().map(|t| t.0)),
+        baseline: median(turns.iter().map(|t| t.1)),
+        scan: median(turns.iter().map(|t| t.2)),
+        to_baseline: median(turns.iter().map(|t| t.0 / t.1)),
+        to_scan: median(turns.iter().map(|t| t.0 / t.2)),
     }
 }
 
@@ -102,9 +101,9 @@ pub fn times(library: &Library, baseline: &Library, before: &[u8], call: &Call) 
 fn agreed(library: &Library, baseline: &Library, before: &[u8], call: &Call) -> Reply {
     let mut expected = before.to_vec();
     let reply = call.run(&mut expected);
-    for store in [library, baseline].into_iter().filter(|s| s.has(call)) {
+    for store in [library, baseline] {
         let mut img = before.to_vec();
-        assert_eq!(store.lend(&mut img, call), Some(reply), "{}", call.kind());
+        assert_eq!(store.lend(&mut img, call), reply, "{}", call.kind());
         assert!(img == expected, "{}: another image", call.kind());
     }
     reply

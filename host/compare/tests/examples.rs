@@ -1,21 +1,11 @@
 //! The C examples with the library.
 use std::path::Path;
-use testing::cc::{expected, run_example};
-
-#[allow(dead_code)]
-fn prints_what_it_should(example: &str) {
-    let printed = run_example(example, library::path(), Path::new(env!("CARGO_TARGET_TMPDIR")));
-    assert_eq!(printed, expected(example));
-}
+use testing::cc::{expected, run_example, EXAMPLES};
 
 #[test]
-#[cfg(all(feature = "reading", feature = "writing"))]
-fn dose() {
-    prints_what_it_should("dose");
-}
-
-#[test]
-#[cfg(all(feature = "reading", feature = "writing", feature = "recovery"))]
-fn boot() {
-    prints_what_it_should("boot");
+fn examples_print_what_they_should() {
+    for example in EXAMPLES {
+        let printed = run_example(example, library::path(), Path::new(env!("CARGO_TARGET_TMPDIR")));
+        assert_eq!(printed, expected(example));
+    }
 }

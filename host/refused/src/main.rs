@@ -4,6 +4,7 @@
 //! An edit has the form of a must-fail edit, `file:`, `old:`, `new:`, but its file counts from the folder crates/,
 //! for it changes a definition of a crate below. Prints a table, and fails if an edit is not refused.
 
+use scratch::{copy, read, replaced, types, write, Folder};
 use std::fs;
 use std::path::{Path, PathBuf};
 use std::process::{Command, ExitCode};
@@ -22,41 +23,43 @@ enum Verdict {
     /// where the checker first says no, in the crate that must refuse
     Refused(String),
     Survived,
-    BadEdit(String),
 }
 
 fn main() -> ExitCode {
-    let root = repository();
     let wanted: Vec<String> = std::env::args().skip(1).collect();
+    match all(&wanted) {
+        Ok(0) => ExitCode::SUCCESS,
+        Ok(_) => ExitCode::FAILURE,
+        Err(e) => {
+            eprintln!("{e}");
+            ExitCode::FAILURE
+        }
+    }
+}
+
+/// Tries the edits of these crates, of all without a name. Gives how many were not refused.
+fn all(wanted: &[String]) -> Result<usize, String> {
+    let root = repository();
     let mut bad = 0;
     println!("| crate | wrong definition | outcome | s |\n|---|---|---|---|");
     for name in crates_with_edits(&root) {
         if !wanted.is_empty() && !wanted.contains(&name) {
             continue;
         }
-        let scratch = Scratch::new(&root);
+        let copied = Copied::new(&root)?;
         for edit in edits_of(&root, &name) {
             let start = Instant::now();
-            let verdict = scratch.try_edit(&name, &edit);
+            let verdict = copied.try_edit(&name, &edit);
+            bad += !matches!(verdict, Ok(Verdict::Refused(_))) as usize;
             let text = match verdict {
-                Verdict::Refused(at) => format!("refused at {at}"),
-                Verdict::Survived => {
-                    bad += 1;
-                    "NOT REFUSED".to_string()
-                }
-                Verdict::BadEdit(why) => {
-                    bad += 1;
-                    format!("BAD EDIT: {why}")
-                }
+                Ok(Verdict::Refused(at)) => format!("refused at {at}"),
+                Ok(Verdict::Survived) => "NOT REFUSED".to_string(),
+                Err(why) => format!("BAD EDIT: {why}"),
             };
             println!("| {name} | {} | {text} | {} |", edit.label, start.elapsed().as_secs());
         }
     }
-    if bad == 0 {
-        ExitCode::SUCCESS
-    } else {
-        ExitCode::FAILURE
-    }
+    Ok(bad)
 }
 
 /// The folder above that holds crates.txt.
@@ -100,78 +103,44 @@ fn edits_of(root: &Path, name: &str) -> Vec<Edit> {
 }
 
 /// A copy of crates.txt and crates/, in which one edit after another is tried.
-struct Scratch {
-    root: PathBuf,
+struct Copied {
+    folder: Folder,
 }
 
-impl Scratch {
-    fn new(root: &Path) -> Scratch {
-        let to = std::env::temp_dir().join(format!("refused-{}", std::process::id()));
-        let _ = fs::remove_dir_all(&to);
-        copy(&root.join("crates"), &to.join("crates"));
-        fs::copy(root.join("crates.txt"), to.join("crates.txt")).unwrap();
-        definitions_alone(&to.join("crates/spec"));
-        Scratch { root: to }
+impl Copied {
+    fn new(root: &Path) -> Result<Copied, String> {
+        let folder = Folder::new("refused")?;
+        let to = &folder.0;
+        copy(&root.join("crates"), &to.join("crates"))?;
+        write(&to.join("crates.txt"), &read(&root.join("crates.txt"))?)?;
+        let spec = to.join("crates/spec");
+        write(&spec.join("src/lib.rt"), &types(&read(&spec.join("src/lib.rt"))?))?;
+        let _ = fs::remove_dir_all(spec.join("proofs"));
+        Ok(Copied { folder })
     }
 
-    fn try_edit(&self, name: &str, edit: &Edit) -> Verdict {
-        let path = self.root.join("crates").join(&edit.file);
-        let Ok(right) = fs::read_to_string(&path) else { return Verdict::BadEdit(format!("no file {}", edit.file)) };
-        if right.matches(&edit.old).count() != 1 {
-            return Verdict::BadEdit("the old text does not stand there once".to_string());
-        }
-        fs::write(&path, right.replace(&edit.old, &edit.new)).unwrap();
+    fn try_edit(&self, name: &str, edit: &Edit) -> Result<Verdict, String> {
+        let path = self.folder.0.join("crates").join(&edit.file);
+        let right = read(&path)?;
+        write(&path, &replaced(&right, &edit.old, &edit.new)?)?;
         let verdict = self.check(name);
-        fs::write(&path, right).unwrap();
+        write(&path, &right)?;
         verdict
     }
 
-    fn check(&self, name: &str) -> Verdict {
-        let out = Command::new("rt").args(["check", name]).current_dir(&self.root).output().expect("rt on the path");
+    fn check(&self, name: &str) -> Result<Verdict, String> {
+        let run = Command::new("rt").args(["check", name]).current_dir(&self.folder.0).output();
+        let out = run.map_err(|e| format!("rt: {e}"))?;
         if out.status.success() {
-            return Verdict::Survived;
+            return Ok(Verdict::Survived);
         }
         let text = [out.stdout, out.stderr].concat();
         let text = String::from_utf8_lossy(&text);
         let errors: Vec<&str> = text.lines().filter(|l| l.contains(": error: ")).collect();
         let own = format!("crates/{name}/");
         match errors.first().and_then(|l| l.split_once(&own)) {
-            Some((_, rest)) => Verdict::Refused(rest.split(": error").next().unwrap_or("").to_string()),
-            None => Verdict::BadEdit(errors.first().copied().unwrap_or("no error line").chars().take(120).collect()),
-        }
-    }
-}
-
-impl Drop for Scratch {
-    fn drop(&mut self) {
-        let _ = fs::remove_dir_all(&self.root);
-    }
-}
-
-/// Crate spec without its functions: their proofs would refuse a wrong definition before the crate that is asked.
-fn definitions_alone(spec: &Path) {
-    let source = fs::read_to_string(spec.join("src/lib.rt")).unwrap();
-    let mut inside = false;
-    let mut types = String::new();
-    for line in source.lines() {
-        inside |= line.starts_with("pub enum ") || line.starts_with("pub struct ");
-        if inside {
-            types += &format!("{line}\n");
-        }
-        inside &= line != "}";
-    }
-    fs::write(spec.join("src/lib.rt"), types).unwrap();
-    let _ = fs::remove_dir_all(spec.join("proofs"));
-}
-
-fn copy(from: &Path, to: &Path) {
-    fs::create_dir_all(to).unwrap();
-    for name in names_in(from) {
-        let (a, b) = (from.join(&name), to.join(&name));
-        if a.is_dir() {
-            copy(&a, &b);
-        } else {
-            fs::copy(&a, &b).unwrap();
+            Some((_, rest)) => Ok(Verdict::Refused(rest.split(": error").next().unwrap_or("").to_string())),
+            None => Err(errors.first().copied().unwrap_or("no error line").chars().take(120).collect()),
         }
     }
 }

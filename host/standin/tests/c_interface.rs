@@ -1,12 +1,12 @@
 //! The header, and the C examples with the stand-in. (With the proved library:
 //! package compare.)
 use std::path::{Path, PathBuf};
-use testing::cc::{accepted_by_both, expected, host, run_example};
+use testing::cc::{accepted_by_both, expected, host, run_example, EXAMPLES};
 
 #[test]
 fn header_is_c_and_cpp() {
     accepted_by_both(&host().join("../include/lilota.h"));
-    for example in ["dose", "boot"] {
+    for example in EXAMPLES {
         accepted_by_both(&host().join(format!("examples/{example}.c")));
     }
 }
@@ -25,7 +25,7 @@ fn archive() -> PathBuf {
 
 #[test]
 fn examples_print_what_they_should() {
-    for example in ["dose", "boot"] {
+    for example in EXAMPLES {
         let printed = run_example(example, &archive(), Path::new(env!("CARGO_TARGET_TMPDIR")));
         assert_eq!(printed, expected(example));
     }

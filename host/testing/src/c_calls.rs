@@ -5,33 +5,20 @@ use model::Reply;
 use std::cell::Cell;
 use std::ptr;
 
-/// The functions of a library; it may have some of them only.
-#[derive(Clone, Copy, Default)]
-pub struct Functions {
-    pub format: Option<unsafe extern "C" fn(*mut u8, usize, usize, *mut usize) -> u32>,
-    pub mount:
-        Option<unsafe extern "C" fn(*mut u8, usize, usize, *mut usize, *mut usize, *mut usize, *mut usize) -> u32>,
-    pub put: Option<unsafe extern "C" fn(*mut u8, usize, *const u8, usize, *const u8, usize, usize, *mut usize) -> u32>,
-    pub get: Option<unsafe extern "C" fn(*const u8, usize, *const u8, usize, *mut usize, *mut usize) -> u32>,
-    pub list: Option<unsafe extern "C" fn(*const u8, usize, usize, *mut usize, *mut usize, *mut usize) -> u32>,
-    pub remove: Option<unsafe extern "C" fn(*mut u8, usize, *const u8, usize, usize, *mut usize) -> u32>,
-    pub sweep: Option<unsafe extern "C" fn(*mut u8, usize, usize, *mut usize, *mut usize) -> u32>,
-}
+type Image = *mut u8;
+type Bytes = *const u8;
+type Number = *mut usize;
 
-impl Functions {
-    /// The calls that the library has.
-    pub fn kinds(&self) -> Vec<&'static str> {
-        let here = [
-            self.format.is_some(),
-            self.mount.is_some(),
-            self.put.is_some(),
-            self.get.is_some(),
-            self.list.is_some(),
-            self.remove.is_some(),
-            self.sweep.is_some(),
-        ];
-        Call::KINDS.into_iter().zip(here).filter(|k| k.1).map(|k| k.0).collect()
-    }
+/// The functions of a library.
+#[derive(Clone, Copy)]
+pub struct Functions {
+    pub format: unsafe extern "C" fn(Image, usize, usize, Number) -> u32,
+    pub mount: unsafe extern "C" fn(Image, usize, usize, Number, Number, Number, Number) -> u32,
+    pub put: unsafe extern "C" fn(Image, usize, Bytes, usize, Bytes, usize, usize, Number) -> u32,
+    pub get: unsafe extern "C" fn(Bytes, usize, Bytes, usize, Number, Number) -> u32,
+    pub list: unsafe extern "C" fn(Bytes, usize, usize, Number, Number, Number) -> u32,
+    pub remove: unsafe extern "C" fn(Image, usize, Bytes, usize, usize, Number) -> u32,
+    pub sweep: unsafe extern "C" fn(Image, usize, usize, Number, Number) -> u32,
 }
 
 /// Stands in the numbers before a call: one that the call leaves is seen.
@@ -41,7 +28,7 @@ const GUARD: [u8; 64] = [0x6B; 64];
 /// Larger images are lent as they are, since the copy costs too much.
 const GUARDED: usize = 1 << 20;
 
-/// A library's functions as a store. A call that the library hasn't is the model's.
+/// A library's functions as a store.
 pub struct Library {
     functions: Functions,
     /// empty slices go by turns as null and as a pointer
@@ -51,10 +38,6 @@ pub struct Library {
 impl Library {
     pub fn new(functions: Functions) -> Library {
         Library { functions, null: Cell::new(false) }
-    }
-
-    pub fn functions(&self) -> &Functions {
-        &self.functions
     }
 
     fn goes_as_null(&self, bytes: &[u8]) -> bool {
@@ -70,8 +53,8 @@ impl Library {
     }
 
     /// The library's answer with the numbers that it gave back, in the order of
-    /// `Reply`. None: the library hasn't this call.
-    pub fn lend(&self, img: &mut [u8], call: &Call) -> Option<Reply> {
+    /// `Reply`.
+    pub fn lend(&self, img: &mut [u8], call: &Call) -> Reply {
         let f = &self.functions;
         let at = if self.goes_as_null(img) { ptr::null_mut() } else { img.as_mut_ptr() };
         let n = img.len();
@@ -81,16 +64,16 @@ impl Library {
         // or is null with length 0; the numbers are four different ones.
         let answer = unsafe {
             match call {
-                Call::Format(k) => f.format?(at, n, *k as usize, steps),
-                Call::Mount(k) => f.mount?(at, n, *k as usize, a, b, c, steps),
+                Call::Format(k) => (f.format)(at, n, *k as usize, steps),
+                Call::Mount(k) => (f.mount)(at, n, *k as usize, a, b, c, steps),
                 Call::Put(name, data, k) => {
                     let (name_at, data_at) = (self.pointer(name), self.pointer(data));
-                    f.put?(at, n, name_at, name.len(), data_at, data.len(), *k as usize, steps)
+                    (f.put)(at, n, name_at, name.len(), data_at, data.len(), *k as usize, steps)
                 }
-                Call::Get(name) => f.get?(at, n, self.pointer(name), name.len(), a, b),
-                Call::List(index) => f.list?(at, n, *index as usize, a, b, c),
-                Call::Remove(name, k) => f.remove?(at, n, self.pointer(name), name.len(), *k as usize, steps),
-                Call::Sweep(k) => f.sweep?(at, n, *k as usize, a, steps),
+                Call::Get(name) => (f.get)(at, n, self.pointer(name), name.len(), a, b),
+                Call::List(index) => (f.list)(at, n, *index as usize, a, b, c),
+                Call::Remove(name, k) => (f.remove)(at, n, self.pointer(name), name.len(), *k as usize, steps),
+                Call::Sweep(k) => (f.sweep)(at, n, *k as usize, a, steps),
             }
         };
         // the numbers that this call doesn't take stay; in a reply they are 0
@@ -100,19 +83,19 @@ impl Library {
             }
         }
         let [first, second, third, steps] = out.map(|x| x as u64);
-        Some(Reply { answer, first, second, third, steps })
+        Reply { answer, first, second, third, steps }
     }
 
     /// `lend`, with guards around the image.
-    fn lend_guarded(&self, img: &mut [u8], call: &Call) -> Option<Result<Reply, String>> {
+    fn lend_guarded(&self, img: &mut [u8], call: &Call) -> Result<Reply, String> {
         let mut lent = [&GUARD[..], img, &GUARD[..]].concat();
         let (from, to) = (GUARD.len(), GUARD.len() + img.len());
-        let reply = self.lend(&mut lent[from..to], call)?;
+        let reply = self.lend(&mut lent[from..to], call);
         img.copy_from_slice(&lent[from..to]);
         if lent[..from] != GUARD || lent[to..] != GUARD {
-            return Some(Err("a byte beside the image is written".into()));
+            return Err("a byte beside the image is written".into());
         }
-        Some(Ok(reply))
+        Ok(reply)
     }
 }
 
@@ -128,20 +111,16 @@ fn given(call: &Call) -> [bool; 4] {
 }
 
 impl Store for Library {
-    fn has(&self, call: &Call) -> bool {
-        self.functions.kinds().contains(&call.kind())
-    }
-
     fn call(&self, img: &mut [u8], call: &Call) -> Result<Reply, String> {
-        if !self.has(call) {
-            return Ok(call.run(img));
+        if img.len() <= GUARDED {
+            self.lend_guarded(img, call)
+        } else {
+            Ok(self.lend(img, call))
         }
-        let reply = if img.len() <= GUARDED { self.lend_guarded(img, call) } else { self.lend(img, call).map(Ok) };
-        reply.expect("the library has this call")
     }
 }
 
-/// Declares the seven functions of a C library by their names.
+/// Declares the seven functions of a C library by their names, and gives them as `functions`.
 #[macro_export]
 macro_rules! c_library {
     ($format:ident $mount:ident $put:ident $get:ident $list:ident $remove:ident $sweep:ident) => {
@@ -192,6 +171,18 @@ macro_rules! c_library {
             ) -> u32;
             pub fn $sweep(image: *mut u8, length: usize, allowance: usize, moves: *mut usize, steps: *mut usize)
                 -> u32;
+        }
+
+        pub fn functions() -> $crate::c_calls::Functions {
+            $crate::c_calls::Functions {
+                format: $format,
+                mount: $mount,
+                put: $put,
+                get: $get,
+                list: $list,
+                remove: $remove,
+                sweep: $sweep,
+            }
         }
     };
 }

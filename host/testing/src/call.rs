@@ -87,11 +87,6 @@ pub const ANSWERS: [(&str, &[u32]); 7] = [
 pub trait Store {
     /// The reply, or what was wrong with the steps of the call.
     fn call(&self, img: &mut [u8], call: &Call) -> Result<Reply, String>;
-
-    /// Whether it has this call of its own.
-    fn has(&self, _call: &Call) -> bool {
-        true
-    }
 }
 
 pub struct Model;

@@ -2,6 +2,8 @@
 use std::path::{Path, PathBuf};
 use std::process::Command;
 
+/// The programs of host/examples.
+pub const EXAMPLES: [&str; 3] = ["dose", "boot", "promise"];
 /// Everything that the compilers warn of is an error.
 const STRICT: [&str; 4] = ["-Wall", "-Wextra", "-Werror", "-pedantic"];
 
@@ -29,8 +31,8 @@ pub fn accepted_by_both(source: &Path) {
     }
 }
 
-/// Compiles an example of host/examples with a static library, runs it, and gives
-/// what it printed.
+/// Compiles an example of host/examples with a static library, runs it with the path
+/// of an image file that it may write, and gives what it printed.
 pub fn run_example(name: &str, library: &Path, folder: &Path) -> String {
     let program = folder.join(name);
     let mut compile = Command::new("gcc");
@@ -39,7 +41,7 @@ pub fn run_example(name: &str, library: &Path, folder: &Path) -> String {
     // a static library made by rustc wants these
     compile.args(["-lpthread", "-ldl", "-lm", "-o"]).arg(&program);
     succeed(&mut compile);
-    succeed(&mut Command::new(&program))
+    succeed(Command::new(&program).arg(folder.join(format!("{name}.image"))))
 }
 
 /// What an example has to print, worked out by hand.

@@ -2,10 +2,8 @@
 //! answer, and notices wrong stores.
 use model::faults::Fault;
 use model::Reply;
-use testing::c_calls::{Functions, Library};
 use testing::call::{Call, Model, Store, Wrong, ANSWERS};
 use testing::compare::{Comparison, Tally};
-use testing::ALL;
 
 fn compared(store: &impl Store, images: u64) -> Tally {
     let mut comparison = Comparison::new(store);
@@ -96,28 +94,5 @@ fn tail_of_the_image_before(call: &Call, reply: &mut Reply, img: &mut [u8]) {
 fn changed_answers_are_noticed() {
     for change in [wrong_step_count, number_after_refusal, byte_after_refusal, tail_of_the_image_before] {
         assert!(compared(&Changed(change), 10_000).differ > 0);
-    }
-}
-
-/// Refuses, and leaves the number of steps unwritten.
-unsafe extern "C" fn silent(_: *mut u8, _: usize, _: usize, _: *mut usize) -> u32 {
-    22
-}
-
-/// Refuses, and writes the byte behind the image.
-unsafe extern "C" fn spilling(image: *mut u8, length: usize, _: usize, steps: *mut usize) -> u32 {
-    *steps = 0;
-    if !image.is_null() {
-        *image.add(length) = 0;
-    }
-    22
-}
-
-#[test]
-fn careless_c_is_noticed() {
-    for format in [silent, spilling] {
-        let store = Library::new(Functions { format: Some(format), ..Functions::default() });
-        let reply = store.call(&mut [0xFF; 4096], &Call::Format(ALL));
-        assert_ne!(reply, Ok(Reply::refusal(22)));
     }
 }

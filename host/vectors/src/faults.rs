@@ -1,6 +1,6 @@
 //! Wrong definitions, one textual edit each: the vectors must notice every one.
+use crate::computed::{check_edited, shared, Edit};
 use crate::emit::Vector;
-use crate::scratch::{check_edited, shared, Edit};
 use std::path::Path;
 
 struct Fault {

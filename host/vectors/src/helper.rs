@@ -1,5 +1,6 @@
 //! The test helper Run.antt: what a vector computes. It unfolds every name of the
 //! definitions that can be unfolded.
+use scratch::read;
 use std::path::Path;
 
 const HEAD: &str = "-- What a vector computes.
@@ -134,10 +135,6 @@ pub fn modules(specs: &Path) -> Result<Vec<String>, String> {
 /// The names of a module that can be unfolded: lines `unfoldable pub NAME : ..`.
 fn unfoldable(text: &str) -> impl Iterator<Item = &str> {
     text.lines().filter_map(|l| l.trim_start().strip_prefix("unfoldable pub ")?.split(" :").next())
-}
-
-pub fn read(path: &Path) -> Result<String, String> {
-    std::fs::read_to_string(path).map_err(|e| format!("{}: {e}", path.display()))
 }
 
 /// Run.antt for these definitions.

@@ -5,12 +5,12 @@
 //! call, or a call with its answer ("put 28"); FAULT is one of the faults' names. Everything is made in scratch folders
 //! and repeats from run to run. rt is taken from RT, or from PATH.
 mod collect;
+mod computed;
 mod emit;
 mod faults;
 mod helper;
 mod histories;
 mod required;
-mod scratch;
 
 use collect::Collection;
 use emit::Vector;
@@ -51,7 +51,7 @@ fn all(options: &Options, vectors: &Collection) -> Result<bool, String> {
         None => vectors.vectors.iter().enumerate().collect(),
         Some(what) => vectors.vectors.iter().enumerate().filter(|(_, v)| v.is_of(what)).collect(),
     };
-    let differ = scratch::check(&options.spec, &chosen, options.jobs)?;
+    let differ = computed::check(&options.spec, &chosen, options.jobs)?;
     for &i in &differ {
         println!("DIFFERS: {}", vectors.vectors[i].describe());
     }

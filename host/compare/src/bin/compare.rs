@@ -1,6 +1,5 @@
 //! The library against the model: answers, numbers and all bytes of the image.
 //!   compare [IMAGES [SEED]]
-//! Calls that the library hasn't are left out.
 use testing::argument;
 use testing::c_calls::Library;
 use testing::compare::Comparison;
@@ -11,7 +10,7 @@ const SHORT: u64 = 50_000;
 fn main() {
     let (images, seed) = (argument(1, 12_000), argument(2, 1));
     let store = Library::new(library::functions());
-    println!("library: {}; its calls: {}", library::path().display(), store.functions().kinds().join(", "));
+    println!("library: {}", library::path().display());
     let mut comparison = Comparison::new(&store);
     comparison.run(seed, images, images > SHORT);
     println!("{}", comparison.tally.report());

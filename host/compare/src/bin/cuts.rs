@@ -4,7 +4,7 @@
 //! PERCENT of the calls are tried at every allowance (long ones at both ends and a
 //! sample), each followed by the mount at its allowances; after each of them a whole
 //! mount, list and get must give the ledger. The others are cut somewhere or not at
-//! all. A call that the library hasn't is the model's.
+//! all.
 use testing::argument;
 use testing::c_calls::Library;
 use testing::history::{Seen, Tester};
@@ -50,7 +50,7 @@ fn aimed(seen: &Seen) -> usize {
 fn main() {
     let (calls, seed, exhaust) = (argument(1, 60_000), argument(2, 1), argument(3, PERCENT));
     let store = Library::new(library::functions());
-    println!("library: {}; its calls: {}", library::path().display(), store.functions().kinds().join(", "));
+    println!("library: {}", library::path().display());
     let mut tester = Tester { store: &store, exhaust, seen: Seen::default() };
     if let Err(v) = tester.until(&mut Rng::new(seed), calls, &LENGTHS, maker) {
         print!("{}", v.show(&store));

@@ -75,7 +75,7 @@ impl<'s, S: Store> Comparison<'s, S> {
     fn call(&mut self, img: &[u8], call: &Call) -> (Reply, Vec<u8>) {
         let mut expected = img.to_vec();
         let reply = call.run(&mut expected);
-        if self.store.has(call) && !self.given_up() {
+        if !self.given_up() {
             self.tally.count(img, call, &reply, &expected);
             let mut left = img.to_vec();
             let told = self.store.call(&mut left, call);

@@ -1,53 +1,14 @@
 //! The scratch folders in which antt computes the vectors.
 use crate::emit::{self, Vector};
 use crate::helper;
-use std::path::{Path, PathBuf};
+use scratch::{copy, make, read, replaced, types, write, Folder};
+use std::path::Path;
 use std::process::Command;
 
 /// Vectors in a file; a file with an error is otherwise checked whole.
 const PER_FILE: usize = 20;
 /// Vectors in a run of rt: enough that reading the definitions costs little beside them.
 const PER_RUN: usize = 140;
-
-/// A folder that goes when it is dropped.
-struct Folder(PathBuf);
-
-impl Folder {
-    fn new(job: usize) -> Result<Folder, String> {
-        let path = std::env::temp_dir().join(format!("vectors-{}-{job}", std::process::id()));
-        make(&path)?;
-        Ok(Folder(path))
-    }
-}
-
-impl Drop for Folder {
-    fn drop(&mut self) {
-        std::fs::remove_dir_all(&self.0).ok();
-    }
-}
-
-fn make(path: &Path) -> Result<(), String> {
-    std::fs::create_dir_all(path).map_err(|e| format!("{}: {e}", path.display()))
-}
-
-fn write(path: &Path, text: &str) -> Result<(), String> {
-    std::fs::write(path, text).map_err(|e| format!("{}: {e}", path.display()))
-}
-
-fn copy(from: &Path, to: &Path) -> Result<(), String> {
-    make(to)?;
-    let entries = std::fs::read_dir(from).map_err(|e| format!("{}: {e}", from.display()))?;
-    for entry in entries {
-        let path = entry.map_err(|e| e.to_string())?.path();
-        let target = to.join(path.file_name().expect("an entry has a name"));
-        if path.is_dir() {
-            copy(&path, &target)?;
-        } else {
-            std::fs::copy(&path, &target).map_err(|e| format!("{}: {e}", path.display()))?;
-        }
-    }
-    Ok(())
-}
 
 /// A textual edit of one file of the definitions; the old text stands there once.
 #[derive(Clone, Copy)]
@@ -60,27 +21,9 @@ pub struct Edit {
 impl Edit {
     fn apply(&self, specs: &Path) -> Result<(), String> {
         let path = specs.join(self.file);
-        let text = helper::read(&path)?;
-        match text.matches(self.old).count() {
-            1 => write(&path, &text.replace(self.old, self.new)),
-            n => Err(format!("{}: the text `{}` stands there {n} times", self.file, self.old)),
-        }
+        let text = replaced(&read(&path)?, self.old, self.new).map_err(|e| format!("{}: {e}", self.file))?;
+        write(&path, &text)
     }
-}
-
-/// The enums and structs of a source, which the definitions use; its functions, and so their proofs, stay out.
-fn types(source: &str) -> String {
-    let mut inside = false;
-    let mut text = String::new();
-    for line in source.lines() {
-        inside |= line.starts_with("pub enum ") || line.starts_with("pub struct ");
-        if inside {
-            text += line;
-            text += "\n";
-        }
-        inside &= line != "}";
-    }
-    text
 }
 
 /// The numbers of the vectors that differ, over definitions with these edits.
@@ -90,17 +33,17 @@ pub fn check_edited(
     vectors: &[(usize, &Vector)],
     job: usize,
 ) -> Result<Vec<usize>, String> {
-    let folder = Folder::new(job)?;
+    let folder = Folder::new(&format!("vectors-{job}"))?;
     let specs = folder.0.join("crates/spec/specs");
     copy(&spec.join("specs"), &specs)?;
-    std::fs::create_dir_all(folder.0.join("crates/spec/src")).map_err(|e| e.to_string())?;
-    write(&folder.0.join("crates/spec/src/lib.rt"), &types(&helper::read(&spec.join("src/lib.rt"))?))?;
+    make(&folder.0.join("crates/spec/src"))?;
+    write(&folder.0.join("crates/spec/src/lib.rt"), &types(&read(&spec.join("src/lib.rt"))?))?;
     write(&folder.0.join("crates.txt"), "spec:\n")?;
     for edit in edits {
         edit.apply(&specs)?;
     }
     write(&specs.join("Run.antt"), &helper::text(&specs)?)?;
-    let mut lib = helper::read(&specs.join("Lib.antt"))? + "pub mod Run\n";
+    let mut lib = read(&specs.join("Lib.antt"))? + "pub mod Run\n";
     for (i, chunk) in vectors.chunks(PER_FILE).enumerate() {
         write(&specs.join(format!("V{i}.antt")), &emit::file(chunk))?;
         lib += &format!("pub mod V{i}\n");
