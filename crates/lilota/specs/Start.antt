@@ -62,7 +62,6 @@ module _ (image : Image) where
   low-start a e =
       let q : getD (drop a image) 0 0 ≡ 0x00 = eqb-true (low-of (drop a image)) 0x00
           (and-eq-true-iff (eqb (low-of (drop a image)) 0x00) (is-high (high-of (drop a image))) .0 e .0) in
-      
       inl (sym (getD-drop a image 0 0 ∙ ap (λ (i : ℕ). getD image i 0) (add-zero a)) ∙ q)
 
   low-clean : (a : ℕ) → clean-here (drop a image) ≡ true → Low (getD image a 0)
@@ -70,7 +69,6 @@ module _ (image : Image) where
   low-clean a e =
       let q : getD (drop a image) 0 0 ≡ 0xA0 = eqb-true (low-of (drop a image)) 0xA0
           (and-eq-true-iff (eqb (low-of (drop a image)) 0xA0) (is-high (high-of (drop a image))) .0 e .0) in
-      
       inr (sym (getD-drop a image 0 0 ∙ ap (λ (i : ℕ). getD image i 0) (add-zero a)) ∙ q)
 
   abbrev Begins : Answer ℕ → Type 0
@@ -113,7 +111,6 @@ module _ (image : Image) where
         let led : Led image h = record
             { even = begins .0; inside = below; low = begins .1; eights = omega (arith, size .sectors); long = omega (arith, size .two);
             small = size .most } in
-        
         let same : r .place .head ≡ h = ap (λ (x : Reading). x .place .head) (sym (p .1)) ∙ stands image h led .head in
         let again : r ≡ reading-from image (r .place .head) = sym (p .1) ∙ ap (reading-from image) (sym same) in
         (record { led = rw same led; same = ap (λ (x : Reading). x .place) again }, again)

@@ -133,7 +133,6 @@ module _ {s : Image} {h : ℕ} (w : Led s h) (m : Meter) where
           let low : q .asked ≤ q .allowance → getD z (y .at) 0 ≡ 0 = λ n.
           let j : z ≡ run (run s (program (y .at) 0xA0 ∷ [])) (close-steps (length s) (entry-of s x) (entry-of s y)) = did-all did n
               ∙ ap (run s) handing-is in
-          
           ap (λ (i : Image). getD i (y .at) 0) j
               ∙ close-low (run s (program (y .at) 0xA0 ∷ [])) (length s) (entry-of s x) (entry-of s y)
               (omega (arith, ap length j, u .turned .whole .fits)) in

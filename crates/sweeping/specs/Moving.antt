@@ -62,7 +62,6 @@ module _ {s t : Image} {h : ℕ} {m a : Meter} (w : Led s h) (d : Did s m (copyi
         left = λ n.
             let j : u ≡ run (run s (copying s h)) (handing (run s (copying s h)) h) = did-all (v .did) n
                 ∙ ap (λ (i : Image). run i (handing i h)) e in
-            
             record {
               image = ap (λ (y : Work). y .image) (move-is s h (stands s h w .head)) ∙ sym j;
               reading =

@@ -89,7 +89,6 @@ module _ (image : Image) (h : ℕ) (w : Led image h) where
   stands =
       let o : On (length image) h h (first-cursor image h) = record
           { even = w .even; up = λ z. (omega arith, omega (arith, w .inside), refl, refl); round = λ z. never (sym z) } in
-      
       stands-by h (ends-on image (length image) h h (first-cursor image h) o)
 
   -- with the first record known, before the turn the tail is behind it
@@ -100,7 +99,5 @@ module _ (image : Image) (h : ℕ) (w : Led image h) where
     pub stands-past : Standing (length image) h (h + size-of (x .n) (x .d)) (reading-from image h .place)
     stands-past =
         let lo : ℕ = h + size-of (x .n) (x .d) in
-        let o : On (length image) h lo c = past-on-way image h (w .inside) (w .low) x c (reached image (first-cursor image h) x c (t .step)) (w .even)
-            in
-        
+        let o : On (length image) h lo c = past-on-way image h (w .inside) (w .low) x c (reached image (first-cursor image h) x c (t .step)) (w .even) in
         stands-by lo (rw (t .turned .split) (ends-on image (length image) h lo c o))

@@ -94,7 +94,6 @@ module _ {s : Image} {m : Meter} {k h : ℕ} {t : Image} {q : Meter} {left : ℕ
     sweeping-more {u} {r} {v} c =
         let e : moves i (moving t (p .head) .image) (moving t (p .head) .reading) ≡ moves i u (reading-from u (v .head)) = ap₂ (moves i)
             (c .left .image) (c .left .reading) in
-        
         record {
           onward = λ x j y g.
               let o : n + suc j ≡ n + 1 + j = omega arith in

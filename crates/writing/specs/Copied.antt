@@ -144,12 +144,9 @@ module _ {s s₁ s₂ s₃ t : Image} {m a b c r : Meter} (from to n d : ℕ) (f
       let content-long : length (own .content) ≡ d = length-take-le d (drop (up8 (n + 1)) (drop 8 (drop from s))) (simp length-drop (omega arith)) in
       let first : body n d (drop from s₁) ≡ body n d (drop from s) = copy-keeps (header-steps d) from to n d 8 apart (omega arith) header
           (inside-header d) in
-      
       let name′ : Did s₁ a (moved to (name-steps (own .name))) s₂ b = rw (same-name n d (drop from s) (drop from s₁) first) at name in
       let second : body n d (drop from s₂) ≡ body n d (drop from s₁) = copy-keeps (name-steps (own .name)) from to n d (9 + n) apart (omega arith)
           name′ (inside-name (9 + n) (own .name) (omega arith)) in
-      
       let content′ : Did s₂ b (moved to (data-steps n (own .content))) s₃ c = rw (same-content n d (drop from s) (drop from s₂) (second ∙ first)) at
           content in
-      
       rw (record-moved to (own .name) (own .content) n d name-long content-long) (did-both header (did-both name′ (did-both content′ commit)))

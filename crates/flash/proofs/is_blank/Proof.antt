@@ -1,3 +1,4 @@
+-- All is FF if the run of FF is as long as the part.
 use Rattle.flash.specs.Blank.{run-blank}
 use mathlib.Core.Path.{ap, _∙_}
 use lib.ListN.{length}

@@ -1,3 +1,4 @@
+-- The part is where get_place says, which lies inside the image.
 use Prim.Native.Nat.{_-_}
 use Rattle.lilota.specs.Look.{part-is}
 use Rattle.lilota.specs.Numbers.{held-at}

@@ -1,3 +1,4 @@
+-- A bad length or name is refused; else get_in found what the definition gets.
 use mathlib.Core.Path.{_∙_}
 use Rattle.record.specs.Suffix.{flag}
 use Rattle.lilota.specs.Look.{get-length, get-name, get-on}

@@ -1,3 +1,4 @@
+-- By the two tests that the definition makes.
 use borrow.Author.Tests.{eq-eqb, ne-eqb, le-leb, lt-leb}
 use Rattle.spec.specs.Geometry.{good-length}
 use Rattle.lilota.proofs.good_length.Statement.{statement}

@@ -1,3 +1,4 @@
+-- A bad length is refused; else list_in found what the definition lists.
 use mathlib.Core.Path.{_∙_}
 use Rattle.record.specs.Suffix.{flag}
 use Rattle.lilota.specs.Look.{list-length, list-on}

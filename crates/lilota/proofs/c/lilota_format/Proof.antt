@@ -1,3 +1,4 @@
+-- The numbers of format's answer, through pointers.
 use Rattle.lilota.specs.Carry.{numbered-as}
 use borrow.Author.Needs.{needs}
 use Rattle.lilota.proofs.c.lilota_format.Statement.{statement}

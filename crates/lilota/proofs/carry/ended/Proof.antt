@@ -1,3 +1,4 @@
+-- By the one test that the definition makes.
 use Rattle.lilota.specs.Carry.{spent-done, spent-cut}
 use Rattle.lilota.proofs.carry.ended.Statement.{statement}
 use Rattle.lilota.proofs.carry.ended.Tie as tie

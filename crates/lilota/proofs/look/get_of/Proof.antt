@@ -1,3 +1,4 @@
+-- Nothing found is 2; what is found lies inside the image, and its data begins behind the padded name.
 use mathlib.Core.Path.{sym, ap, _∙_}
 use Rattle.lilota.specs.Look.{named-file, found-none, found-get}
 use Rattle.reading.specs.Seek.{found-in}
@@ -28,7 +29,6 @@ returns c =
     let s = a .image .now in
     let q = named-file s (a .s) (c7 .pre .1) (c2 .file-named .result) (a .name .now)
         (rw (c2 .before .first-cursor .ensures) at (c2 .file-named .ensures .0)) in
-    
     (found-none s _ getting (sym (ap (found-in s) (c .enum-told .given .1)) ∙ q), omega arith)
 
 add-up-8 : tie.Need-add-up-8
@@ -65,9 +65,7 @@ returns-2 c =
     let c11 = c7 .before .before .before .before in
     let a = c11 .args in
     let s = a .image .now in
-    let q = named-file s (a .s) (c11 .pre .1) (c6 .file-named .result) (a .name .now) (rw (c7 .first-cursor .ensures) at (c6 .file-named .ensures .0))
-        in
-    
+    let q = named-file s (a .s) (c11 .pre .1) (c6 .file-named .result) (a .name .now) (rw (c7 .first-cursor .ensures) at (c6 .file-named .ensures .0)) in
     let w = rw (c4 .f .given .1) at (c6 .file-named .ensures .1) in
     (found-get s _ (c4 .f .given .0 .0) w (sym (ap (found-in s) (c4 .f .given .1)) ∙ q) _ (rw (c .before .up-8 .ensures)), omega
         (arith, w .fits, c .before .up-8 .ensures))

@@ -1,3 +1,4 @@
+-- Nothing found is 2; what is found lies inside the image, and its name begins behind the header.
 use mathlib.Core.Path.{sym, ap, _∙_}
 use Rattle.lilota.specs.Look.{indexed-file, found-none, found-listed}
 use Rattle.reading.specs.Seek.{found-in}
@@ -28,7 +29,6 @@ returns c =
     let s = a .image .now in
     let q = indexed-file s (a .s) (c6 .pre .1) (c2 .file-indexed .result) (a .index)
         (rw (c2 .before .first-cursor .ensures) at (c2 .file-indexed .ensures .0)) in
-    
     (found-none s _ listing (sym (ap (found-in s) (c .enum-told .given .1)) ∙ q), omega arith)
 
 add-t8 : tie.Need-add-t8
@@ -47,7 +47,6 @@ returns-2 c =
     let s = a .image .now in
     let q = indexed-file s (a .s) (c8 .pre .1) (c4 .file-indexed .result) (a .index)
         (rw (c5 .first-cursor .ensures) at (c4 .file-indexed .ensures .0)) in
-    
     let w = rw (c2 .f .given .1) at (c4 .file-indexed .ensures .1) in
     (found-listed s _ (c2 .f .given .0 .0) w (sym (ap (found-in s) (c2 .f .given .1)) ∙ q), omega (arith, w .fits))
 

@@ -1,3 +1,4 @@
+-- The largest of the other files and the new size are what the room rule asks for.
 use Prim.Native.Nat.{ℕ, max}
 use mathlib.Core.Path.{ap, _∙_}
 use lib.ListN.{length}

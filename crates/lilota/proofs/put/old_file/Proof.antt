@@ -1,3 +1,4 @@
+-- The file of the name, if there is one, lies inside the image; its status is the byte that is read.
 use mathlib.Core.Path.{sym, ap, _∙_}
 use native.Mathlib.Omega.{arith}
 use Rattle.reading.specs.Seek.{found-in}

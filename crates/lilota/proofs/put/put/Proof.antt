@@ -1,3 +1,4 @@
+-- A bad length or name is refused; else what put_named did is the defined put.
 use mathlib.Core.Path.{_∙_}
 use Rattle.record.specs.Suffix.{flag}
 use Rattle.lilota.specs.Put.{put-length, put-name, put-on}

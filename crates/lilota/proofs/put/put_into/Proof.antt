@@ -1,3 +1,4 @@
+-- With room, the answer is read off the meter that replace leaves; without, 28 and the image as it was.
 use mathlib.Core.Path.{refl, sym, _∙_}
 use mathlib.Core.Bool.{true, false}
 use Rattle.record.specs.Suffix.{flag}

@@ -1,3 +1,4 @@
+-- The old file is the one that the definition replaces, so that write_file did the defined steps.
 use lib.ListN.{length}
 use Rattle.lilota.specs.Put.{old-named, ready}
 use borrow.Author.Needs.{needs}

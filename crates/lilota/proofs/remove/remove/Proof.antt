@@ -1,3 +1,4 @@
+-- A bad length or name is refused; else what remove_named did is the defined remove.
 use mathlib.Core.Path.{_∙_}
 use Rattle.record.specs.Suffix.{flag}
 use Rattle.lilota.specs.Remove.{remove-length, remove-name, remove-on}

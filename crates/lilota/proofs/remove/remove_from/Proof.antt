@@ -1,3 +1,4 @@
+-- Nothing found is 2; else the one step, and the answer is read off its meter.
 use mathlib.Core.Path.{refl, ap, _∙_}
 use mathlib.Core.Option.{none, some}
 use native.Mathlib.Omega.{arith}

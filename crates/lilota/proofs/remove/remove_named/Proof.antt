@@ -1,3 +1,4 @@
+-- The reading's refusal stands, or the removal goes on with what was read.
 use mathlib.Core.Path.{sym, ap, _∙_}
 use native.Mathlib.Omega.{arith}
 use lib.ListN.{length}

@@ -1,3 +1,4 @@
+-- The numbers of sweep's answer, through pointers.
 use Rattle.lilota.specs.Sweep.{moved-as}
 use borrow.Author.Needs.{needs}
 use Rattle.lilota.proofs.sweep.lilota_sweep.Statement.{statement}

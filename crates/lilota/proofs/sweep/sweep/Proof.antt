@@ -1,3 +1,4 @@
+-- A bad length is refused; else what sweep_whole did is the defined sweep.
 use mathlib.Core.Path.{_∙_}
 use Rattle.record.specs.Suffix.{flag}
 use Rattle.lilota.specs.Sweep.{sweep-length, sweep-on}

@@ -1,3 +1,4 @@
+-- No room for the first move is 28; else moves and steps are read off what the sweep counted.
 use mathlib.Core.Path.{refl, sym, _∙_}
 use mathlib.Core.Bool.{true, false}
 use Rattle.record.specs.Suffix.{flag}

@@ -1,3 +1,4 @@
+-- Only a live head is copied; the copy leaves the head's first byte alone.
 use mathlib.Core.Path.{subst}
 use Rattle.sweeping.specs.Planned.{Going, ready, copied, not-copied}
 use borrow.Author.Needs.{needs}

@@ -1,3 +1,4 @@
+-- The first two records from the head on are X and Y of the definition; with fewer there are no steps.
 use native.Mathlib.Omega.{arith}
 use mathlib.Core.Path.{refl}
 use Rattle.reading.proofs.Others.{other-step}

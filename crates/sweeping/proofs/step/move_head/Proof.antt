@@ -1,3 +1,4 @@
+-- A copy that was cut is the beginning of the move; after a whole one the image still reads from the same head.
 use native.Mathlib.Omega.{arith}
 use Rattle.sweeping.specs.Moving.{led-still, moved-cut, moved-over}
 use borrow.Author.Needs.{needs}

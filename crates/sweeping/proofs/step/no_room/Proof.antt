@@ -1,3 +1,4 @@
+-- The plan stops for want of room exactly where the definition says so.
 use mathlib.Core.Path.{sym, ap, _∙_}
 use Rattle.sweeping.specs.Planned.{full, full-is}
 use borrow.Author.Needs.{needs}

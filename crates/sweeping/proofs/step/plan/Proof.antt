@@ -1,3 +1,4 @@
+-- By the first record, whether it is live and fits, and whether a second stands behind it.
 use native.Mathlib.Omega.{arith}
 use mathlib.Core.Path.{refl}
 use Rattle.reading.proofs.Others.{other-step}

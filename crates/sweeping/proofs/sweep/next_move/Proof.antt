@@ -1,3 +1,4 @@
+-- No plan, no move; a cut move began as defined; a whole one leaves an image that is read again from its new head.
 use native.Mathlib.Omega.{arith}
 use mathlib.Core.Path.{refl, subst}
 use Rattle.sweeping.specs.Planned.{Planned, going-on}

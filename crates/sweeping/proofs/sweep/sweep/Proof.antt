@@ -1,3 +1,4 @@
+-- The invariant: what the moves that are left do, done from here, is what all of them do from the first image.
 use borrow.Author.Needs.{needs}
 use Prim.Native.Nat.{_+_, _-_, _≤_, min}
 use native.Mathlib.Omega.{arith}
