@@ -10,28 +10,15 @@ use borrow.Author.Tests.{le-leb, lt-leb}
 use Rattle.spec.specs.Step.{Image, Step, run}
 use Rattle.spec.specs.Basics.{Answer, refuse, give, onward}
 use Rattle.spec.specs.Chain.{Reading}
-use Rattle.spec.specs.Answers.{Numbers, Outcome, Plan, refusal, numbers-of, carry-out, doing, settled-reading}
+use Rattle.spec.specs.Answers.{Plan, refusal, numbers-of, carry-out, doing, settled-reading}
 use Rattle.flash.specs.declared.Meter.{Meter}
 use Rattle.flash.specs.Did.{Did}
 use Rattle.lilota.specs.declared.Written.{Written}
-use Rattle.lilota.specs.Numbers.{outcome, written}
+use Rattle.lilota.specs.Numbers.{given, outcome, written}
 
 -- "4: allowance used up before the last step"
 abbrev pub spent : Meter → Written
 spent m = elim (leb (m .asked) (m .allowance)) [ true ↦ Written.Done (m .asked) | false ↦ Written.Cut (m .allowance) ]
-
--- what C gets of an answer: the number, and the steps through a pointer
-abbrev pub numbered : ℕ → ℕ → Numbers
-numbered n steps = record { answer = n; first = 0; second = 0; third = 0; steps = steps }
-
-numbered-is : (w : Written) (n k : ℕ) → n ≡ written w .answer → k ≡ written w .steps → numbered n k ≡ written w
-numbered-is (Written.Done i) n k p q = ap₂ numbered p q
-numbered-is (Written.Cut i) n k p q = ap₂ numbered p q
-numbered-is (Written.Refused i) n k p q = ap₂ numbered p q
-
-pub numbered-as : (w : Written) (n k : ℕ) (t : Image) (o : Outcome) → n ≡ written w .answer → k ≡ written w .steps → outcome (written w) t ≡ o
-    → outcome (numbered n k) t ≡ o
-numbered-as w n k t o p q e = ap (λ (x : Numbers). outcome x t) (numbered-is w n k p q) ∙ e
 
 -- ---- a plan with no moves, carried out
 
@@ -48,8 +35,8 @@ spent-cut r h = sym (spent-is r false (lt-leb (r .asked) (r .allowance) h))
 answer-is : (ss : List Step) (k : ℕ) (r : Meter) (t : Bool) → r .asked ≡ length ss → r .allowance ≡ k → leb (length ss) k ≡ t
     → written (spent r) ≡ numbers-of k (doing ss 0 0 0)
 unfolding numbers-of
-answer-is ss k r true a b e = ap written (spent-is r true (ap₂ leb a b ∙ e)) ∙ rw (numbers-of, e) (ap (numbered 0) a)
-answer-is ss k r false a b e = ap written (spent-is r false (ap₂ leb a b ∙ e)) ∙ rw (numbers-of, e) (ap (numbered 4) b)
+answer-is ss k r true a b e = ap written (spent-is r true (ap₂ leb a b ∙ e)) ∙ rw (numbers-of, e) (ap (given 0 0 0 0) a)
+answer-is ss k r false a b e = ap written (spent-is r false (ap₂ leb a b ∙ e)) ∙ rw (numbers-of, e) (ap (given 4 0 0 0) b)
 
 pub carried : {s t : Image} {m r : Meter} {ss : List Step} (k : ℕ) → m .asked ≡ 0 → m .allowance ≡ k → Did s m ss t r
     → outcome (written (spent r)) t ≡ carry-out s k (give (doing ss 0 0 0))

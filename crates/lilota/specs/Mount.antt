@@ -14,28 +14,15 @@ use Rattle.spec.specs.Files.{files}
 use Rattle.spec.specs.Reading.{reading}
 use Rattle.spec.specs.Move.{Work}
 use Rattle.spec.specs.Mount.{mended}
-use Rattle.spec.specs.Answers.{Numbers, Outcome, Plan, refusal, numbers-of, carry-out, mount-work, mount-of, mount-plan, mount}
+use Rattle.spec.specs.Answers.{Numbers, Plan, refusal, numbers-of, carry-out, mount-work, mount-of, mount-plan, mount}
 use Rattle.reading.specs.declared.Survey.{Survey}
 use Rattle.reading.specs.Read.{reading-of}
 use Rattle.recovery.specs.declared.Mended.{Mended}
 use Rattle.recovery.specs.Counted.{Counted, Numbered}
 use Rattle.lilota.specs.declared.mount.Mounted.{Mounted}
-use Rattle.lilota.specs.Numbers.{given, outcome}
+use Rattle.lilota.specs.Numbers.{given, outcome, mounted}
 use Rattle.lilota.specs.Length.{good}
 use Rattle.lilota.specs.Settled.{read-again}
-
-abbrev pub mounted : Mounted → Numbers
-mounted (Mounted.Done h t n k) = given 0 h t n k
-mounted (Mounted.Cut k) = given 4 0 0 0 k
-mounted (Mounted.Refused n) = refusal n
-
--- five numbers that say what an answer says
-pub mounted-as : (w : Mounted) (a h t n k : ℕ) (i : Image) (o : Outcome) → a ≡ mounted w .answer → h ≡ mounted w .first → t ≡ mounted w .second
-    → n ≡ mounted w .third → k ≡ mounted w .steps →
-    outcome (mounted w) i ≡ o → outcome (given a h t n k) i ≡ o
-mounted-as (Mounted.Done x y z v) a h t n k i o p q r s u e = (λ j. outcome (given (p j) (q j) (r j) (s j) (u j)) i) ∙ e
-mounted-as (Mounted.Cut x) a h t n k i o p q r s u e = (λ j. outcome (given (p j) (q j) (r j) (s j) (u j)) i) ∙ e
-mounted-as (Mounted.Refused x) a h t n k i o p q r s u e = (λ j. outcome (given (p j) (q j) (r j) (s j) (u j)) i) ∙ e
 
 -- an image that was read as s
 pub record Legal (image : Image) (s : Survey) : Type 0 where

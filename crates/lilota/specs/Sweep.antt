@@ -11,7 +11,7 @@ use Rattle.spec.specs.Basics.{give, checked, onward, concat}
 use Rattle.spec.specs.Geometry.{good-length}
 use Rattle.spec.specs.Chain.{Reading, reading-from}
 use Rattle.spec.specs.Sweep.{no-room, moves}
-use Rattle.spec.specs.Answers.{Numbers, Outcome, refusal, finished, numbers-of, carry-out, sweeping, settled-reading, sweep-of, sweep-plan, sweep}
+use Rattle.spec.specs.Answers.{refusal, finished, numbers-of, carry-out, sweeping, settled-reading, sweep-of, sweep-plan, sweep}
 use Rattle.flash.specs.declared.Meter.{Meter}
 use Rattle.reading.specs.declared.Survey.{Survey}
 use Rattle.reading.specs.RuleLaws.{count-is}
@@ -19,25 +19,8 @@ use Rattle.reading.specs.Read.{reading-of, Surveyed}
 use Rattle.sweeping.specs.Began.{Moves, finished-all}
 use Rattle.sweeping.specs.Planned.{Headed}
 use Rattle.lilota.specs.declared.Swept.{Swept}
-use Rattle.lilota.specs.Numbers.{outcome}
+use Rattle.lilota.specs.Numbers.{given, outcome, swept}
 use Rattle.lilota.specs.Start.{settled-headed}
-
--- "4: steps used, and for sweep the finished moves"; "Sweep's success gives finished moves and steps"
-abbrev pub swept-numbers : Swept → Numbers
-swept-numbers (Swept.Done n k) = record { answer = 0; first = n; second = 0; third = 0; steps = k }
-swept-numbers (Swept.Cut n k) = record { answer = 4; first = n; second = 0; third = 0; steps = k }
-swept-numbers (Swept.Refused n) = refusal n
-
--- what C gets of an answer: the number, and the moves and the steps through pointers
-abbrev pub moved-numbers : ℕ → ℕ → ℕ → Numbers
-moved-numbers n moves steps = record { answer = n; first = moves; second = 0; third = 0; steps = steps }
-
-pub moved-as : (w : Swept) (n i k : ℕ) (t : Image) (o : Outcome) → n ≡ swept-numbers w .answer → i ≡ swept-numbers w .first
-    → k ≡ swept-numbers w .steps
-    → outcome (swept-numbers w) t ≡ o → outcome (moved-numbers n i k) t ≡ o
-moved-as (Swept.Done a b) n i k t o p q r e = rw (p, q, r) e
-moved-as (Swept.Cut a b) n i k t o p q r e = rw (p, q, r) e
-moved-as (Swept.Refused a) n i k t o p q r e = rw (p, q, r) e
 
 -- what the sweep of a settled image goes by
 pub record Readied (image : Image) (s : Survey) : Type 0 where
@@ -62,19 +45,19 @@ module _ {s t : Image} {m r : Meter} {ms : List (List Step)} {n : ℕ} (k : ℕ)
   count-as : n ≡ finished k 0 ms
   count-as = w .count ∙ ap₂ (λ (i j : ℕ). finished i j ms) a z
 
-  pub swept-done : r .asked ≤ r .allowance → outcome (swept-numbers (Swept.Done n (r .asked))) t ≡ carry-out s k (give (sweeping ms))
+  pub swept-done : r .asked ≤ r .allowance → outcome (swept (Swept.Done n (r .asked))) t ≡ carry-out s k (give (sweeping ms))
   unfolding carry-out numbers-of
   swept-done h =
       let e : r .asked ≡ length (concat ms) = w .begun .whole h ∙ omega arith in
       let l : length (concat ms) ≤ k = omega (arith, w .begun .same) in
       let f : n ≡ length ms = count-as ∙ finished-all k 0 ms (omega arith) in
-      rw (carry-out, numbers-of, le-leb (length (concat ms)) k l) (ap₂ outcome (ap₂ (moved-numbers 0) f e) left-is)
+      rw (carry-out, numbers-of, le-leb (length (concat ms)) k l) (ap₂ outcome (ap₂ (λ (i j : ℕ). given 0 i 0 0 j) f e) left-is)
 
-  pub swept-cut : r .allowance < r .asked → outcome (swept-numbers (Swept.Cut n (r .allowance))) t ≡ carry-out s k (give (sweeping ms))
+  pub swept-cut : r .allowance < r .asked → outcome (swept (Swept.Cut n (r .allowance))) t ≡ carry-out s k (give (sweeping ms))
   unfolding carry-out numbers-of
   swept-cut h =
       let l : k < length (concat ms) = omega (arith, w .begun .cut h) in
-      rw (carry-out, numbers-of, lt-leb (length (concat ms)) k l) (ap₂ outcome (ap₂ (moved-numbers 4) count-as (w .begun .same ∙ a)) left-is)
+      rw (carry-out, numbers-of, lt-leb (length (concat ms)) k l) (ap₂ outcome (ap₂ (λ (i j : ℕ). given 4 i 0 0 j) count-as (w .begun .same ∙ a)) left-is)
 
 -- ---- the plan
 

@@ -6,11 +6,10 @@ use crate::list_place;
 ghost use mathlib.Core.Path.{_≡_};
 ghost use Rattle.spec.specs.Answers.{format, get, list};
 ghost use Rattle.lilota.specs.Numbers.{given, outcome};
-ghost use Rattle.lilota.specs.Carry.{numbered};
 
 #[no_mangle]
 pub extern "C" fn lilota_format(image: &mut [u8], allowance: usize, steps: &mut usize) -> u32
-    ensures { λ r. ⌜ outcome (numbered r (now (steps .exit))) (now (image .exit)) ≡ format (now (image .entry)) allowance ⌝ }
+    ensures { λ r. ⌜ outcome (given r 0 0 0 (now (steps .exit))) (now (image .exit)) ≡ format (now (image .entry)) allowance ⌝ }
 {
     let w = format(image, allowance);
     *steps = w.steps();

@@ -13,8 +13,8 @@ ghost use Rattle.spec.specs.Geometry.{good-length};
 ghost use Rattle.spec.specs.Reading.{reading};
 ghost use Rattle.spec.specs.Answers.{carry-out, mount-of, mount};
 ghost use Rattle.reading.specs.Read.{reading-of};
-ghost use Rattle.lilota.specs.Numbers.{given, outcome};
-ghost use Rattle.lilota.specs.Mount.{mounted, Legal};
+ghost use Rattle.lilota.specs.Numbers.{given, outcome, mounted};
+ghost use Rattle.lilota.specs.Mount.{Legal};
 
 // What mount answers: done, with head, tail, live files and steps; cut, after this many steps; or refused.
 pub enum Mounted {

@@ -14,13 +14,13 @@ ghost use Rattle.spec.specs.Basics.{onward};
 ghost use Rattle.spec.specs.Geometry.{good-length};
 ghost use Rattle.spec.specs.Answers.{settled-reading, carry-out, sweep-of, sweep};
 ghost use Rattle.reading.specs.Read.{reading-of};
-ghost use Rattle.lilota.specs.Numbers.{outcome};
-ghost use Rattle.lilota.specs.Sweep.{swept-numbers, moved-numbers, Readied};
+ghost use Rattle.lilota.specs.Numbers.{given, outcome, swept};
+ghost use Rattle.lilota.specs.Sweep.{Readied};
 
 impl Swept {
     // Document 01's number.
     pub fn answer(self) -> u32
-        ensures { λ r. ⌜ r ≡ swept-numbers self .answer ⌝ }
+        ensures { λ r. ⌜ r ≡ swept self .answer ⌝ }
     {
         match self {
             Swept::Done(_, _) => 0,
@@ -31,7 +31,7 @@ impl Swept {
 
     // The finished moves.
     pub fn moves(self) -> usize
-        ensures { λ r. ⌜ r ≡ swept-numbers self .first ⌝ }
+        ensures { λ r. ⌜ r ≡ swept self .first ⌝ }
     {
         match self {
             Swept::Done(n, _) => n,
@@ -42,7 +42,7 @@ impl Swept {
 
     // The steps used.
     pub fn steps(self) -> usize
-        ensures { λ r. ⌜ r ≡ swept-numbers self .steps ⌝ }
+        ensures { λ r. ⌜ r ≡ swept self .steps ⌝ }
     {
         match self {
             Swept::Done(_, k) => k,
@@ -55,7 +55,7 @@ impl Swept {
 // The sweep of an image that was read: no room for the first move, or the moves.
 fn sweep_read(image: &mut [u8], s: Survey, allowance: usize) -> Swept
     requires { ⌜ Readied (now image) s ⌝ }
-    ensures { λ r. ⌜ outcome (swept-numbers r) (now (image .exit)) ≡ carry-out (now (image .entry)) allowance (sweep-of (now (image .entry)) (reading-of (now (image .entry)) s)) ⌝ }
+    ensures { λ r. ⌜ outcome (swept r) (now (image .exit)) ≡ carry-out (now (image .entry)) allowance (sweep-of (now (image .entry)) (reading-of (now (image .entry)) s)) ⌝ }
 {
     let place = s.place;
     let t = s.tally;
@@ -77,7 +77,7 @@ fn sweep_read(image: &mut [u8], s: Survey, allowance: usize) -> Swept
 // The sweep of an image of a good length.
 fn sweep_whole(image: &mut [u8], allowance: usize) -> Swept
     requires { ⌜ good-length (length (now image)) ≡ true ⌝ }
-    ensures { λ r. ⌜ outcome (swept-numbers r) (now (image .exit)) ≡ carry-out (now (image .entry)) allowance (onward (settled-reading (now (image .entry))) (sweep-of (now (image .entry)))) ⌝ }
+    ensures { λ r. ⌜ outcome (swept r) (now (image .exit)) ≡ carry-out (now (image .entry)) allowance (onward (settled-reading (now (image .entry))) (sweep-of (now (image .entry)))) ⌝ }
 {
     let x = read_settled(image);
     match x {
@@ -88,7 +88,7 @@ fn sweep_whole(image: &mut [u8], allowance: usize) -> Swept
 
 // Sweeps, within this allowance of flash steps.
 pub fn sweep(image: &mut [u8], allowance: usize) -> Swept
-    ensures { λ r. ⌜ outcome (swept-numbers r) (now (image .exit)) ≡ sweep (now (image .entry)) allowance ⌝ }
+    ensures { λ r. ⌜ outcome (swept r) (now (image .exit)) ≡ sweep (now (image .entry)) allowance ⌝ }
 {
     if good_length(image.len()) {
         return sweep_whole(image, allowance);
@@ -104,7 +104,7 @@ pub extern "C" fn lilota_sweep(
     moves: &mut usize,
     steps: &mut usize,
 ) -> u32
-    ensures { λ r. ⌜ outcome (moved-numbers r (now (moves .exit)) (now (steps .exit))) (now (image .exit)) ≡ sweep (now (image .entry)) allowance ⌝ }
+    ensures { λ r. ⌜ outcome (given r (now (moves .exit)) 0 0 (now (steps .exit))) (now (image .exit)) ≡ sweep (now (image .entry)) allowance ⌝ }
 {
     let w = sweep(image, allowance);
     *moves = w.moves();

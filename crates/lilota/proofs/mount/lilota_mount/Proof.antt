@@ -1,6 +1,6 @@
 -- `lilota::mount::lilota_mount` meets its contract: the five numbers say all that mount's answer says.
 use borrow.Author.Needs.{needs}
-use Rattle.lilota.specs.Mount.{mounted-as}
+use Rattle.lilota.specs.Numbers.{mounted-given}
 use Rattle.lilota.proofs.mount.lilota_mount.Statement.{statement}
 use Rattle.lilota.proofs.mount.lilota_mount.Tie as tie
 
@@ -29,7 +29,7 @@ returns : tie.Need-returns
 returns c =
     let c4 = c .before .before .before .before in
     let c7 = c4 .before .before .before in
-    mounted-as (c7 .mount .result) _ _ _ _ _ _ _ (c .answer .ensures) (c4 .head .ensures) (c .before .before .before .tail .ensures)
+    mounted-given (c7 .mount .result) _ _ _ _ _ _ _ (c .answer .ensures) (c4 .head .ensures) (c .before .before .before .tail .ensures)
         (c .before .before .files .ensures) (c .before .steps .ensures) (c7 .mount .ensures)
 
 pub lilota-mount-spec : {M : Type 1} → statement M

@@ -1,5 +1,5 @@
 -- The numbers of put's answer, through pointers.
-use Rattle.lilota.specs.Carry.{numbered-as}
+use Rattle.lilota.specs.Numbers.{written-given}
 use borrow.Author.Needs.{needs}
 use Rattle.lilota.proofs.put.lilota_put.Statement.{statement}
 use Rattle.lilota.proofs.put.lilota_put.Tie as tie
@@ -19,7 +19,7 @@ same-length c = search needs
 returns : tie.Need-returns
 returns c =
     let c4 = c .before .before .before .before in
-    numbered-as (c4 .put .result) _ _ _ _ (c .answer .ensures) (c .before .steps .ensures) (c4 .put .ensures)
+    written-given (c4 .put .result) _ _ _ _ (c .answer .ensures) (c .before .steps .ensures) (c4 .put .ensures)
 
 pub lilota-put-spec : {M : Type 1} → statement M
 lilota-put-spec =

@@ -1,5 +1,5 @@
 -- The numbers of sweep's answer, through pointers.
-use Rattle.lilota.specs.Sweep.{moved-as}
+use Rattle.lilota.specs.Numbers.{swept-given}
 use borrow.Author.Needs.{needs}
 use Rattle.lilota.proofs.sweep.lilota_sweep.Statement.{statement}
 use Rattle.lilota.proofs.sweep.lilota_sweep.Tie as tie
@@ -22,7 +22,7 @@ same-length c = search needs
 returns : tie.Need-returns
 returns c =
     let c5 = c .before .before .before .before .before in
-    moved-as (c5 .sweep .result) _ _ _ _ _ (c .answer .ensures) (c .before .before .moves .ensures) (c .before .steps .ensures) (c5 .sweep .ensures)
+    swept-given (c5 .sweep .result) _ _ _ _ _ (c .answer .ensures) (c .before .before .moves .ensures) (c .before .steps .ensures) (c5 .sweep .ensures)
 
 pub lilota-sweep-spec : {M : Type 1} → statement M
 lilota-sweep-spec =
