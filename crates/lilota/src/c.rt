@@ -1,10 +1,13 @@
-// The C interface of format, get and list: numbers and byte slices; what a call gives back besides the answer goes through lent numbers.
-// Put and remove have theirs beside them.
+// The C interface: each call with numbers and byte slices; it gives the answer back, and its other numbers through lent ones.
 use crate::format;
 use crate::get_place;
 use crate::list_place;
+use crate::mount::mount;
+use crate::put::put;
+use crate::remove::remove;
+use crate::sweep::sweep;
 ghost use mathlib.Core.Path.{_≡_};
-ghost use Rattle.spec.specs.Answers.{format, get, list};
+ghost use Rattle.spec.specs.Answers.{format, mount, put, get, list, remove, sweep};
 ghost use Rattle.lilota.specs.Numbers.{given, outcome};
 
 #[no_mangle]
@@ -12,6 +15,40 @@ pub extern "C" fn lilota_format(image: &mut [u8], allowance: usize, steps: &mut 
     ensures { λ r. ⌜ outcome (given r 0 0 0 (now (steps .exit))) (now (image .exit)) ≡ format (now (image .entry)) allowance ⌝ }
 {
     let w = format(image, allowance);
+    *steps = w.steps();
+    w.answer()
+}
+
+#[no_mangle]
+pub extern "C" fn lilota_mount(
+    image: &mut [u8],
+    allowance: usize,
+    head: &mut usize,
+    tail: &mut usize,
+    files: &mut usize,
+    steps: &mut usize,
+) -> u32
+    ensures { λ r. ⌜ outcome (given r (now (head .exit)) (now (tail .exit)) (now (files .exit)) (now (steps .exit))) (now (image .exit)) ≡ mount (now (image .entry)) allowance ⌝ }
+{
+    let w = mount(image, allowance);
+    *head = w.head();
+    *tail = w.tail();
+    *files = w.files();
+    *steps = w.steps();
+    w.answer()
+}
+
+#[no_mangle]
+pub extern "C" fn lilota_put(
+    image: &mut [u8],
+    name: &[u8],
+    content: &[u8],
+    allowance: usize,
+    steps: &mut usize,
+) -> u32
+    ensures { λ r. ⌜ outcome (given r 0 0 0 (now (steps .exit))) (now (image .exit)) ≡ put (now (image .entry)) (now (name .entry)) (now (content .entry)) allowance ⌝ }
+{
+    let w = put(image, name, content, allowance);
     *steps = w.steps();
     w.answer()
 }
@@ -41,4 +78,33 @@ pub extern "C" fn lilota_list(
     *length = l.length;
     *size = l.content;
     l.answer
+}
+
+#[no_mangle]
+pub extern "C" fn lilota_remove(
+    image: &mut [u8],
+    name: &[u8],
+    allowance: usize,
+    steps: &mut usize,
+) -> u32
+    ensures { λ r. ⌜ outcome (given r 0 0 0 (now (steps .exit))) (now (image .exit)) ≡ remove (now (image .entry)) (now (name .entry)) allowance ⌝ }
+{
+    let w = remove(image, name, allowance);
+    *steps = w.steps();
+    w.answer()
+}
+
+#[no_mangle]
+pub extern "C" fn lilota_sweep(
+    image: &mut [u8],
+    allowance: usize,
+    moves: &mut usize,
+    steps: &mut usize,
+) -> u32
+    ensures { λ r. ⌜ outcome (given r (now (moves .exit)) 0 0 (now (steps .exit))) (now (image .exit)) ≡ sweep (now (image .entry)) allowance ⌝ }
+{
+    let w = sweep(image, allowance);
+    *moves = w.moves();
+    *steps = w.steps();
+    w.answer()
 }

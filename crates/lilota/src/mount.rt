@@ -13,7 +13,7 @@ ghost use Rattle.spec.specs.Geometry.{good-length};
 ghost use Rattle.spec.specs.Reading.{reading};
 ghost use Rattle.spec.specs.Answers.{carry-out, mount-of, mount};
 ghost use Rattle.reading.specs.Read.{reading-of};
-ghost use Rattle.lilota.specs.Numbers.{given, outcome, mounted};
+ghost use Rattle.lilota.specs.Numbers.{outcome, mounted};
 ghost use Rattle.lilota.specs.Mount.{Legal};
 
 // What mount answers: done, with head, tail, live files and steps; cut, after this many steps; or refused.
@@ -64,26 +64,6 @@ pub fn mount(image: &mut [u8], allowance: usize) -> Mounted
         return mount_read(image, allowance);
     }
     Mounted::Refused(22)
-}
-
-// The same for C: the number, and the others through pointers.
-#[no_mangle]
-pub extern "C" fn lilota_mount(
-    image: &mut [u8],
-    allowance: usize,
-    head: &mut usize,
-    tail: &mut usize,
-    files: &mut usize,
-    steps: &mut usize,
-) -> u32
-    ensures { λ r. ⌜ outcome (given r (now (head .exit)) (now (tail .exit)) (now (files .exit)) (now (steps .exit))) (now (image .exit)) ≡ mount (now (image .entry)) allowance ⌝ }
-{
-    let w = mount(image, allowance);
-    *head = w.head();
-    *tail = w.tail();
-    *files = w.files();
-    *steps = w.steps();
-    w.answer()
 }
 
 impl Mounted {

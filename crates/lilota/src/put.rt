@@ -32,7 +32,7 @@ ghost use Rattle.reading.specs.Rest.{rest};
 ghost use Rattle.reading.specs.FileLaws.{is-file};
 ghost use Rattle.reading.specs.Read.{reading-of};
 ghost use Rattle.writing.specs.Old.{old-of, Lies};
-ghost use Rattle.lilota.specs.Numbers.{given, written, outcome};
+ghost use Rattle.lilota.specs.Numbers.{written, outcome};
 ghost use Rattle.lilota.specs.Settled.{Settled};
 
 // Whether there is room for a file of this name, beside the other files.
@@ -105,20 +105,4 @@ pub fn put(image: &mut [u8], name: &[u8], content: &[u8], allowance: usize) -> W
         }
     }
     Written::Refused(22)
-}
-
-// The same for C: the number, and the steps through a pointer.
-#[no_mangle]
-pub extern "C" fn lilota_put(
-    image: &mut [u8],
-    name: &[u8],
-    content: &[u8],
-    allowance: usize,
-    steps: &mut usize,
-) -> u32
-    ensures { λ r. ⌜ outcome (given r 0 0 0 (now (steps .exit))) (now (image .exit)) ≡ put (now (image .entry)) (now (name .entry)) (now (content .entry)) allowance ⌝ }
-{
-    let w = put(image, name, content, allowance);
-    *steps = w.steps();
-    w.answer()
 }

@@ -19,7 +19,7 @@ ghost use Rattle.spec.specs.Basics.{onward};
 ghost use Rattle.spec.specs.Geometry.{good-length};
 ghost use Rattle.spec.specs.Answers.{settled-reading, carry-out, file-of, removing, remove};
 ghost use Rattle.reading.specs.Read.{reading-of};
-ghost use Rattle.lilota.specs.Numbers.{given, written, outcome};
+ghost use Rattle.lilota.specs.Numbers.{written, outcome};
 ghost use Rattle.lilota.specs.Settled.{Settled};
 
 // The removal on an image that was read: no such file, or the one step.
@@ -61,19 +61,4 @@ pub fn remove(image: &mut [u8], name: &[u8], allowance: usize) -> Written
         }
     }
     Written::Refused(22)
-}
-
-// The same for C: the number, and the steps through a pointer.
-#[no_mangle]
-pub extern "C" fn lilota_remove(
-    image: &mut [u8],
-    name: &[u8],
-    allowance: usize,
-    steps: &mut usize,
-) -> u32
-    ensures { λ r. ⌜ outcome (given r 0 0 0 (now (steps .exit))) (now (image .exit)) ≡ remove (now (image .entry)) (now (name .entry)) allowance ⌝ }
-{
-    let w = remove(image, name, allowance);
-    *steps = w.steps();
-    w.answer()
 }

@@ -14,7 +14,7 @@ ghost use Rattle.spec.specs.Basics.{onward};
 ghost use Rattle.spec.specs.Geometry.{good-length};
 ghost use Rattle.spec.specs.Answers.{settled-reading, carry-out, sweep-of, sweep};
 ghost use Rattle.reading.specs.Read.{reading-of};
-ghost use Rattle.lilota.specs.Numbers.{given, outcome, swept};
+ghost use Rattle.lilota.specs.Numbers.{outcome, swept};
 ghost use Rattle.lilota.specs.Sweep.{Readied};
 
 impl Swept {
@@ -94,20 +94,4 @@ pub fn sweep(image: &mut [u8], allowance: usize) -> Swept
         return sweep_whole(image, allowance);
     }
     Swept::Refused(22)
-}
-
-// The same for C: the number, and the finished moves and the steps through pointers.
-#[no_mangle]
-pub extern "C" fn lilota_sweep(
-    image: &mut [u8],
-    allowance: usize,
-    moves: &mut usize,
-    steps: &mut usize,
-) -> u32
-    ensures { λ r. ⌜ outcome (given r (now (moves .exit)) 0 0 (now (steps .exit))) (now (image .exit)) ≡ sweep (now (image .entry)) allowance ⌝ }
-{
-    let w = sweep(image, allowance);
-    *moves = w.moves();
-    *steps = w.steps();
-    w.answer()
 }

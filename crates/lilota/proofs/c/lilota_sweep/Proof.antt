@@ -1,8 +1,8 @@
 -- The numbers of sweep's answer, through pointers.
 use Rattle.lilota.specs.Numbers.{swept-given}
 use borrow.Author.Needs.{needs}
-use Rattle.lilota.proofs.sweep.lilota_sweep.Statement.{statement}
-use Rattle.lilota.proofs.sweep.lilota_sweep.Tie as tie
+use Rattle.lilota.proofs.c.lilota_sweep.Statement.{statement}
+use Rattle.lilota.proofs.c.lilota_sweep.Tie as tie
 
 sweep-requires : tie.Need-sweep-requires
 sweep-requires c κs = search needs

@@ -1,8 +1,8 @@
 -- `lilota::mount::lilota_mount` meets its contract: the five numbers say all that mount's answer says.
 use borrow.Author.Needs.{needs}
 use Rattle.lilota.specs.Numbers.{mounted-given}
-use Rattle.lilota.proofs.mount.lilota_mount.Statement.{statement}
-use Rattle.lilota.proofs.mount.lilota_mount.Tie as tie
+use Rattle.lilota.proofs.c.lilota_mount.Statement.{statement}
+use Rattle.lilota.proofs.c.lilota_mount.Tie as tie
 
 mount-requires : tie.Need-mount-requires
 mount-requires c κs = search needs

@@ -1,8 +1,8 @@
 -- The numbers of remove's answer, through pointers.
 use Rattle.lilota.specs.Numbers.{written-given}
 use borrow.Author.Needs.{needs}
-use Rattle.lilota.proofs.remove.lilota_remove.Statement.{statement}
-use Rattle.lilota.proofs.remove.lilota_remove.Tie as tie
+use Rattle.lilota.proofs.c.lilota_remove.Statement.{statement}
+use Rattle.lilota.proofs.c.lilota_remove.Tie as tie
 
 remove-requires : tie.Need-remove-requires
 remove-requires c κs = search needs

@@ -1,8 +1,8 @@
 -- The numbers of put's answer, through pointers.
 use Rattle.lilota.specs.Numbers.{written-given}
 use borrow.Author.Needs.{needs}
-use Rattle.lilota.proofs.put.lilota_put.Statement.{statement}
-use Rattle.lilota.proofs.put.lilota_put.Tie as tie
+use Rattle.lilota.proofs.c.lilota_put.Statement.{statement}
+use Rattle.lilota.proofs.c.lilota_put.Tie as tie
 
 put-requires : tie.Need-put-requires
 put-requires c κs = search needs
