@@ -4,3 +4,4 @@ pub mod Blank
 pub mod Bytes
 pub mod Toward
 pub mod Sectors
+pub mod Began

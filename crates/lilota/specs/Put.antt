@@ -8,6 +8,7 @@ use mathlib.Core.List.{List}
 use lib.ListN.{length, getD}
 use lib.Seq.{getD-drop}
 use Rattle.spec.specs.declared.Place.{Place}
+use Rattle.spec.specs.declared.Status.{Status}
 use Rattle.spec.specs.Step.{Image}
 use Rattle.spec.specs.Basics.{give, checked, onward, keep, first-such, any}
 use Rattle.spec.specs.Geometry.{good-length}
@@ -52,8 +53,9 @@ room-fits p s l h = go (fits p s) refl h where
 
 -- ---- the old file
 
-pub old-is : (image : Image) (e : Spot) (o : Option Entry) → found-in image (Found.At e) ≡ o → old-as.At (e .at) (getD image (e .at + 2) 0) ≡ old-of o
-old-is image e o q = ap (old-as.At (e .at)) (sym (getD-drop (e .at) image 2 0)) ∙ ap old-of q
+pub old-is : (image : Image) (e : Spot) (o : Option Entry) (st : Status) → st .byte ≡ getD image (e .at + 2) 0 → found-in image (Found.At e) ≡ o
+    → old-as.At (e .at) st ≡ old-of o
+old-is image e o st b q = ap (λ (i : ℕ). old-as.At (e .at) (record { byte = i })) (b ∙ sym (getD-drop (e .at) image 2 0)) ∙ ap old-of q
 
 pub old-named : (image : Image) (s : Survey) (p : Place) (old : Old) (name content : List ℕ) → Settled image s
     → old ≡ old-of (first-such (has-name name) (keep is-file (reading-of image s .entries)))

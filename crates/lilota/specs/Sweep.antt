@@ -16,7 +16,7 @@ use Rattle.flash.specs.declared.Meter.{Meter}
 use Rattle.reading.specs.declared.Survey.{Survey}
 use Rattle.reading.specs.RuleLaws.{count-is}
 use Rattle.reading.specs.Read.{reading-of, Surveyed}
-use Rattle.sweeping.specs.Began.{Moves, finished-all}
+use Rattle.sweeping.specs.Moves.{Moves, finished-all}
 use Rattle.sweeping.specs.Planned.{Headed}
 use Rattle.lilota.specs.declared.Swept.{Swept}
 use Rattle.lilota.specs.Numbers.{given, outcome, swept}

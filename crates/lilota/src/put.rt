@@ -12,6 +12,7 @@ use reading::image::first_cursor;
 use reading::image::read_settled;
 use reading::largest::largest_other;
 use record::name::name_ok;
+use spec::Status;
 use writing::Old;
 use writing::has_room_for;
 use writing::write_file;
@@ -55,7 +56,7 @@ fn old_file(image: &[u8], start: Cursor, name: &[u8]) -> Old
         return Old::None;
     };
     let a = e.at + 2;
-    Old::At(e.at, image[a])
+    Old::At(e.at, Status::from_byte(image[a]))
 }
 
 // Put's steps, where there is room.

@@ -1,4 +1,4 @@
-pub mod Began
+pub mod Moves
 pub mod Way
 pub mod First
 pub mod Steps

@@ -10,7 +10,7 @@ use Rattle.spec.specs.Move.{Work, begin, move}
 use Rattle.flash.specs.declared.Meter.{Meter}
 use Rattle.flash.specs.Did.{Did, did-all}
 use Rattle.sweeping.specs.declared.Moved.{Moved}
-use Rattle.sweeping.specs.Began.{Began, began-did, began-both, began-cut}
+use Rattle.flash.specs.Began.{Began, began-did, began-both, began-cut}
 use Rattle.sweeping.specs.Steps.{copying, handing, heading, move-is}
 use Rattle.sweeping.specs.Standing.{Led, stands}
 use Rattle.sweeping.specs.Handed.{Handed}

@@ -11,7 +11,7 @@ ghost use mathlib.Core.Path.{_≡_};
 ghost use Prim.Native.Nat.{_≤_, _^_, min};
 ghost use Rattle.spec.specs.Chain.{reading-from};
 ghost use Rattle.spec.specs.Sweep.{moves};
-ghost use Rattle.sweeping.specs.Began.{Moves};
+ghost use Rattle.sweeping.specs.Moves.{Moves};
 ghost use Rattle.sweeping.specs.Planned.{Headed};
 ghost use Rattle.sweeping.specs.Sweeping.{Turned-as};
 

@@ -10,6 +10,7 @@ use lib.ListN.{length, drop, getD, length-drop}
 use lib.Seq.{length-take-le, getD-drop}
 use lib.Dec.{eqb}
 use Rattle.spec.specs.declared.Place.{Place}
+use Rattle.spec.specs.declared.Status.{Status}
 use Rattle.spec.specs.declared.Placed.the-variants as placed-as
 use Rattle.spec.specs.Geometry.{up8}
 use Rattle.spec.specs.Step.{Image, Step, program, moved}
@@ -54,9 +55,9 @@ copy-apart p z h e = go (way p z e) where
   go (at-start t u a l) = rw a (inr (omega arith))
 
 -- the steps before it leave its name and its data alone
-migrate-avoids : (a st n : ℕ) → Avoids (a + 8) n (migrate-steps (entry-of (At a st)))
+migrate-avoids : (a : ℕ) (st : Status) (n : ℕ) → Avoids (a + 8) n (migrate-steps (entry-of (At a st)))
 unfolding is-committed
-migrate-avoids a st n = go (eqb st 0xFC) where
+migrate-avoids a st n = go (eqb (st .byte) 0xFC) where
   go : (t : Bool) → Avoids (a + 8) n (elim t [ true ↦ program (a + 2) 0xF8 ∷ [] | false ↦ [] ])
   go true = (inl (omega arith), tt)
   go false = tt
@@ -81,10 +82,10 @@ copy-count s a from n d h =
 
 module _ {s s₁ s₂ t : Image} {m a b r : Meter} (p : Place) (n d at : ℕ) (k : Bool) (q : Place)
     (ends : HeadEnds p (size-of n d)) (whole : p .length ≡ length s) (taken : fits p (size-of n d) ≡ true)
-        (e : placed p (size-of n d) ≡ placed-as.At at k q) where
-  pub copy-phases : Did s m (migrate-steps (entry-of (At (p .head) (getD s (p .head + 2) 0))) ++ marks k (p .tail)) s₁ a
+        (e : placed p (size-of n d) ≡ placed-as.At at k q) (st : Status) (is : st .byte ≡ getD s (p .head + 2) 0) where
+  pub copy-phases : Did s m (migrate-steps (entry-of (At (p .head) st)) ++ marks k (p .tail)) s₁ a
       → Did s₁ a (moved at (record-steps (rec-of (drop (p .head) s₁) n d .name) (rec-of (drop (p .head) s₁) n d .content))) s₂ b
-      → Did s₂ b (delete-steps (entry-of (At (p .head) (getD s (p .head + 2) 0)))) t r
+      → Did s₂ b (delete-steps (entry-of (At (p .head) st))) t r
       → Did s m (put-steps p (some (entry-at s (p .head) n d)) (name-of (entry-at s (p .head) n d)) (content-of (entry-at s (p .head) n d))) t r
   copy-phases before middle behind =
       let h = p .head in
@@ -93,15 +94,15 @@ module _ {s s₁ s₂ t : Image} {m a b r : Meter} (p : Place) (n d at : ℕ) (k
       let marked : k ≡ true → h + 8 + size ≤
           p .tail = (λ x. omega (arith, ends .before (marker-before-turn p (size-of n d) taken (placed-parts p (size-of n d) at k q e .2 ∙ x) .0))) in
       let kept = same-body h n d before
-          (avoids-append (h + 8) size (migrate-steps (entry-of (At h (getD s (h + 2) 0)))) (marks k (p .tail))
-          (migrate-avoids h (getD s (h + 2) 0) size) (marks-avoid (h + 8) size (p .tail) k marked)) in
+          (avoids-append (h + 8) size (migrate-steps (entry-of (At h st))) (marks k (p .tail))
+          (migrate-avoids h st size) (marks-avoid (h + 8) size (p .tail) k marked)) in
       let middle′ : Did s₁ a (moved at (record-steps (own .name) (own .content))) s₂ b = rw
           (same-name n d (drop h s) (drop h s₁) kept, same-content n d (drop h s) (drop h s₁) kept) at middle in
       let name-long : length (own .name) ≡ n = length-take-le n (drop 8 (drop h s)) (simp length-drop (omega (arith, ends .inside))) in
       let content-long : length (own .content) ≡ d = length-take-le d (drop (up8 (n + 1)) (drop 8 (drop h s)))
           (simp length-drop (omega (arith, ends .inside))) in
       let long : placed p (size-of (length (own .name)) (length (own .content))) ≡ placed-as.At at k q = rw (name-long, content-long) e in
-      let status : getD s (h + 2) 0 ≡ own .status = sym (getD-drop h s 2 0) in
-      let same = ap (λ (st : ℕ). put-steps p (entry-of (At h st)) (own .name) (own .content)) status
+      let status : st .byte ≡ own .status = is ∙ sym (getD-drop h s 2 0) in
+      let same = ap (λ (b : ℕ). put-steps p (entry-of (At h (record { byte = b }))) (own .name) (own .content)) status
           ∙ put-old p (some (entry-at s h n d)) (own .name) (own .content) in
-      rw same at (put-phases p (entry-of (At h (getD s (h + 2) 0))) (own .name) (own .content) at k q long before middle′ behind)
+      rw same at (put-phases p (entry-of (At h st)) (own .name) (own .content) at k q long before middle′ behind)

@@ -18,12 +18,12 @@ use Rattle.writing.specs.declared.Old.the-variants.{None, At}
 -- address and status are all that the steps ask of an entry
 abbrev pub old-of : Option Entry → Old
 old-of none = None
-old-of (some e) = At (e .at) (e .it .status)
+old-of (some e) = At (e .at) (record { byte = e .it .status })
 
 -- an entry with this address and status
 abbrev pub entry-of : Old → Option Entry
 entry-of None = none
-entry-of (At a st) = some (record { at = a; it = record { low = 0; status = st; name = []; content = [] } })
+entry-of (At a st) = some (record { at = a; it = record { low = 0; status = st .byte; name = []; content = [] } })
 
 pub put-old : (p : Place) (o : Option Entry) (name content : List ℕ) → put-steps p (entry-of (old-of o)) name content ≡ put-steps p o name content
 unfolding put-steps
@@ -39,7 +39,7 @@ Lies (At a st) N = a + 2 < N
 pub migrate-few : (o : Old) → length (migrate-steps (entry-of o)) ≤ 1
 unfolding is-committed
 migrate-few None = omega arith
-migrate-few (At a st) = go (eqb st 0xFC) where
+migrate-few (At a st) = go (eqb (st .byte) 0xFC) where
   go : (t : Bool) → length {A = Step} (elim t [ true ↦ program (a + 2) 0xF8 ∷ [] | false ↦ [] ]) ≤ 1
   go true = omega arith
   go false = omega arith

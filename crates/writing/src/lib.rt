@@ -30,7 +30,7 @@ ghost use Rattle.writing.specs.Head.{HeadEnds, entry-at, copy-of};
 // The file that a put replaces: its address and its status, or none.
 pub enum Old {
     None,
-    At(usize, u8),
+    At(usize, Status),
 }
 
 // Whether a record of this size and then two of the largest size fit one after the other.
@@ -90,7 +90,7 @@ fn migrate(image: &mut [u8], old: Old, m: Meter) -> Meter
     let Old::At(at, status) = old else {
         return m;
     };
-    if status == Status::COMMITTED.byte {
+    if status.byte == Status::COMMITTED.byte {
         return set_status(image, at, Status::MIGRATING, m);
     }
     m
@@ -135,7 +135,7 @@ pub fn copy_head(image: &mut [u8], place: Place, n: usize, d: usize, m: Meter) -
         return m;
     };
     let head = place.head;
-    let old = Old::At(head, image[head + 2]);
+    let old = Old::At(head, Status::from_byte(image[head + 2]));
     let a = prepare(image, old, place.tail, marker, m);
     let b = copy_record(image, head, at, n, d, a);
     delete(image, old, b)

@@ -31,53 +31,57 @@ returns c =
     absurd (never-full (a .place) _ (c5 .pre .0 .taken)
         (rw (c .before .before .before .size .ensures) at (sym (c .before .before .after .ensures) ∙ c .enum-told .given .1)))
 
-add-t13 : tie.Need-add-t13
-add-t13 c = search needs
+add-from-byte : tie.Need-add-from-byte
+add-from-byte c = search needs
 
-slice-read-t15 : tie.Need-slice-read-t15
-slice-read-t15 c = search needs
+slice-read-from-byte : tie.Need-slice-read-from-byte
+slice-read-from-byte c = search needs
+
+from-byte-requires : tie.Need-from-byte-requires
+from-byte-requires c κs = search needs
 
 prepare-requires : tie.Need-prepare-requires
 prepare-requires c κs =
-    let c5 = c .before .before .before .before .before in
-    let c6 = c5 .before in
-    let c8 = c6 .before .before in
-    let a = c8 .args in
-    let r = c8 .pre .0 in
-    let e = rw (c6 .size .ensures) at (sym (c5 .after .ensures) ∙ c .before .before .before .at .given .1) in
-    (omega (arith, r .whole, c8 .pre .1 .inside), (λ k. omega (arith, marker-spot (a .place) _ _ _ _ _ _ _ r e k)), omega (arith, r .few))
+    let c6 = c .before .before .before .before .before .before in
+    let c7 = c6 .before in
+    let c9 = c7 .before .before in
+    let a = c9 .args in
+    let r = c9 .pre .0 in
+    let e = rw (c7 .size .ensures) at (sym (c6 .after .ensures) ∙ c .before .before .before .before .at .given .1) in
+    (omega (arith, r .whole, c9 .pre .1 .inside), (λ k. omega (arith, marker-spot (a .place) _ _ _ _ _ _ _ r e k)), omega (arith, r .few))
 
 copy-record-requires : tie.Need-copy-record-requires
 copy-record-requires c κs =
-    let c12 = c .before .before .before .before .before .before .before .before .before .before .before .before in
-    let a = c12 .args in
-    let r = c12 .pre .0 in
-    let placed = c .before .before .before .before .before .before .before .at .given in
-    let e = rw (c .before .before .before .before .before .before .before .before .before .before .size .ensures) at (sym (c .before .before .before .before .before .before .before .before .before .after .ensures) ∙ placed .1) in
+    let c13 = c .before .before .before .before .before .before .before .before .before .before .before .before .before in
+    let a = c13 .args in
+    let r = c13 .pre .0 in
+    let placed = c .before .before .before .before .before .before .before .before .at .given in
+    let sized = c .before .before .before .before .before .before .before .before .before .before .before .size .ensures in
+    let e = rw sized at (sym (c .before .before .before .before .before .before .before .before .before .before .after .ensures) ∙ placed .1) in
     let z = size-of (a .n) (a .d) in
-    let apart = rw (placed-parts (a .place) z _ _ _ e .1) at (copy-apart (a .place) z (c12 .pre .1) (r .taken)) in
+    let apart = rw (placed-parts (a .place) z _ _ _ e .1) at (copy-apart (a .place) z (c13 .pre .1) (r .taken)) in
     (
       r .named,
-      omega (arith, r .whole, c12 .pre .1 .inside),
+      omega (arith, r .whole, c13 .pre .1 .inside),
       omega (arith, spot (a .place) _ _ _ _ _ _ _ r e),
       apart,
-      omega (arith, r .few, prepare-few (At (a .place .head) (getD (a .image .now) (a .place .head + 2) 0)) (placed .0 .1 .0) (a .place .tail)),
+      omega (arith, r .few, prepare-few (At (a .place .head) (c .before .before .before .before .before .from-byte .result)) (placed .0 .1 .0) (a .place .tail)),
     )
 
 delete-requires : tie.Need-delete-requires
 delete-requires c κs =
     let c7 = c .before .before .before .before .before .before .before in
-    let c11 = c7 .before .before .before .before in
-    let c16 = c11 .before .before .before .before .before in
-    let a = c16 .args in
-    let r = c16 .pre .0 in
+    let c12 = c7 .before .before .before .before .before in
+    let c17 = c12 .before .before .before .before .before in
+    let a = c17 .args in
+    let r = c17 .pre .0 in
     omega (
       arith,
       r .whole,
       r .few,
-      c16 .pre .1 .inside,
-      prepare-few (At (a .place .head) (getD (a .image .now) (a .place .head + 2) 0)) (c11 .at .given .0 .1 .0) (a .place .tail),
-      copy-count (c7 .prepare .last .0) (c11 .at .given .0 .0) (a .place .head) (a .n) (a .d) (omega (arith, r .whole, c16 .pre .1 .inside)),
+      c17 .pre .1 .inside,
+      prepare-few (At (a .place .head) (c7 .before .before .from-byte .result)) (c12 .at .given .0 .1 .0) (a .place .tail),
+      copy-count (c7 .prepare .last .0) (c12 .at .given .0 .0) (a .place .head) (a .n) (a .d) (omega (arith, r .whole, c17 .pre .1 .inside)),
     )
 
 same-length : tie.Need-same-length
@@ -87,14 +91,15 @@ returns-2 : tie.Need-returns-2
 returns-2 c =
     let c6 = c .before .before .before .before .before .before in
     let c10 = c6 .before .before .before .before in
-    let c14 = c10 .before .before .before .before in
-    let c16 = c14 .before .before in
-    let c17 = c16 .before in
-    let c19 = c17 .before .before in
-    let a = c19 .args in
-    let r = c19 .pre .0 in
-    copy-phases (a .place) (a .n) (a .d) _ _ _ (c19 .pre .1) (r .whole) (r .taken)
-        (rw (c17 .size .ensures) at (sym (c16 .after .ensures) ∙ c14 .at .given .1))
+    let c12 = c10 .before .before in
+    let c15 = c12 .before .before .before in
+    let c17 = c15 .before .before in
+    let c18 = c17 .before in
+    let c20 = c18 .before .before in
+    let a = c20 .args in
+    let r = c20 .pre .0 in
+    copy-phases (a .place) (a .n) (a .d) _ _ _ (c20 .pre .1) (r .whole) (r .taken)
+        (rw (c18 .size .ensures) at (sym (c17 .after .ensures) ∙ c15 .at .given .1)) (c12 .from-byte .result) (c12 .from-byte .ensures)
     (c10 .prepare .ensures) (c6 .copy-record .ensures) (c .before .before .delete .ensures)
 
 pub copy-head-spec : {M : Type 1} → statement M
@@ -106,8 +111,9 @@ copy-head-spec =
     enum-known-at
     enum-told
     returns
-    add-t13
-    slice-read-t15
+    add-from-byte
+    slice-read-from-byte
+    from-byte-requires
     prepare-requires
     copy-record-requires
     delete-requires

@@ -18,9 +18,9 @@ returns c = let a = c .before .before .before .args in rw (c .enum-told .given .
 
 set-status-requires : tie.Need-set-status-requires
 set-status-requires c κs =
-    let c4 = c .before .before .before .before in
-    let c7 = c4 .before .before .before in
-    let l = rw (c4 .old .given .1) at (c7 .pre .0) in omega arith
+    let c5 = c .before .before .before .before .before in
+    let l = rw (c5 .old .given .1) at (c5 .before .before .before .pre .0) in
+    omega arith
 
 same-length : tie.Need-same-length
 same-length c = search needs
@@ -29,16 +29,15 @@ returns-2 : tie.Need-returns-2
 unfolding is-committed
 returns-2 c =
     let c4 = c .before .before .before .before in
-    let c7 = c4 .before .before .before in
-    let st = c7 .old .given .0 .1 .0 in
-    rw (c7 .old .given .1, eq-eqb st 0xFC (c4 .if1 .taken)) (c .before .before .set-status .ensures)
+    let old = c4 .before .before .before .before .old .given in
+    rw (old .1, eq-eqb (old .0 .1 .0 .byte) 0xFC (c4 .if1 .taken)) (c .before .before .set-status .ensures)
 
 returns-3 : tie.Need-returns-3
 unfolding is-committed
 returns-3 c =
-    let a = c .before .before .before .before .before .before .args in
-    let st = c .before .before .before .old .given .0 .1 .0 in
-    rw (c .before .before .before .old .given .1, ne-eqb st 0xFC (c .if1 .left)) (did-none (a .image .now) (a .m))
+    let a = c .before .before .before .before .before .before .before .args in
+    let old = c .before .before .before .before .old .given in
+    rw (old .1, ne-eqb (old .0 .1 .0 .byte) 0xFC (c .if1 .left)) (did-none (a .image .now) (a .m))
 
 pub migrate-spec : {M : Type 1} → statement M
 migrate-spec =
