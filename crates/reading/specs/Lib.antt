@@ -3,6 +3,7 @@ pub mod Cursor
 pub mod CursorLaws
 pub mod Rest
 pub mod Bridge
+pub mod Ends
 pub mod Fold
 pub mod FileLaws
 pub mod Seek
@@ -14,5 +15,5 @@ pub mod NamesLaw
 pub mod SettledLaws
 pub mod FreeLaws
 pub mod Read
+pub mod Survey
 pub mod RuleLaws
-pub mod ReadLaws

@@ -23,7 +23,7 @@ use Rattle.reading.specs.RuleLaws.{head-none, head-low}
 use Rattle.reading.specs.Read.{first-cursor}
 use Rattle.recovery.specs.Toward.{later-on}
 use Rattle.recovery.specs.Sectors.{dirty-same}
-use Rattle.recovery.specs.Survey.{Seen}
+use Rattle.reading.specs.Survey.{Seen}
 use Rattle.recovery.specs.Repairs.{steps-1}
 
 -- ---- the sectors behind those that were erased are judged as before
