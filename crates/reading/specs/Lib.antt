@@ -1,5 +1,6 @@
 pub mod HeadLaws
 pub mod Cursor
+pub mod Fits
 pub mod CursorLaws
 pub mod Rest
 pub mod Bridge

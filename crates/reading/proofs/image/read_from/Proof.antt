@@ -1,5 +1,4 @@
 -- read_from: the survey is the reading, and `legal` judges it.
-use mathlib.Core.Path.{ap, _∙_}
 use Rattle.record.specs.Suffix.{flag}
 use Rattle.spec.specs.Reading.{judged}
 use borrow.Author.Needs.{needs}
