@@ -9,87 +9,18 @@ use lib.ListN.{length, take, drop, getD, length-drop, length-take, List·getD-eq
 use lib.Seq.{getD-drop}
 use lib.Dec.{ltb, eqb}
 use borrow.Author.Tests.{ltb-true, ltb-false, eqb-true}
-use Rattle.spec.specs.declared.Kind.{Kind}
 use Rattle.spec.specs.declared.Next.{Next}
 use Rattle.spec.specs.declared.Place.{Place}
 use Rattle.spec.specs.Step.{Image}
-use Rattle.spec.specs.Basics.{Answer, refuse, give, long, blank}
-use Rattle.spec.specs.Bytes.{is-start, is-clean, is-high, is-unfinished, is-name-begun}
+use Rattle.spec.specs.Basics.{Answer, refuse, give}
+use Rattle.spec.specs.Bytes.{is-start, is-clean, is-high, is-unfinished}
 use Rattle.spec.specs.Geometry.{floor}
-use Rattle.spec.specs.Record.{size-of, name-length, data-len-of, low-of, high-of, status-of, spare-of, start-here, clean-here, wrap-here}
-use Rattle.spec.specs.Next.{sized, torn-at, torn-wrap-at, clear-at, next-at, next, kind}
+use Rattle.spec.specs.Record.{size-of, low-of, high-of, status-of, start-here, clean-here, wrap-here}
+use Rattle.spec.specs.Next.{next}
 use Rattle.spec.specs.Head.{sought, walk, chosen, head}
 use Rattle.spec.specs.Chain.{Chain, allowed, chain, Reading, unturned, turned, turn-torn, joined, from-head, from-zero, read-on, reading-from}
 use Rattle.spec.specs.Reading.{limit, whole}
-use Rattle.record.specs.Suffix.{long-true, long-le}
-
--- ---- what stands at the front of s, and how long s is then
-
-abbrev Spans : Next → ℕ → Type 0
-Spans (Next.Record n d) l = size-of n d ≤ l
-Spans Next.Wrap l = Unit {0}
-Spans Next.TornWrap l = Unit {0}
-Spans Next.Clear l = 8 ≤ l
-Spans Next.Over l = l < 1
-Spans Next.Bad l = Unit {0}
-
-module _ (s : List ℕ) where
-  sized-spans : (n d : ℕ) (t u : Bool) → ltb n 64 ≡ t → long (size-of n d) s ≡ u → Spans (sized s n d) (length s)
-  unfolding sized
-  sized-spans n d true true e f = rw (sized, e, f) (long-true (size-of n d) s f)
-  sized-spans n d true false e f = rw (sized, e, f) tt
-  sized-spans n d false u e f = rw (sized, e) tt
-
-  torn-spans : (t u : Bool) → long 16 s ≡ t → is-name-begun (getD s 8 0) ≡ u → Spans (torn-at s) (length s)
-  unfolding torn-at
-  torn-spans true true e f = rw (torn-at, e, f) (long-true 16 s e)
-  torn-spans true false e f = rw (torn-at, e, f) tt
-  torn-spans false u e f = rw (torn-at, e) tt
-
-  torn-wrap-spans : (t : Bool) → blank (drop 3 s) ≡ t → Spans (torn-wrap-at s) (length s)
-  unfolding torn-wrap-at
-  torn-wrap-spans true e = rw (torn-wrap-at, e) tt
-  torn-wrap-spans false e = rw (torn-wrap-at, e) tt
-
-  module _ (l : 8 ≤ length s) where
-    clear-spans : (t : Bool) → blank (take 8 s) ≡ t → Spans (clear-at s) (length s)
-    unfolding clear-at
-    clear-spans true e = rw (clear-at, e) l
-    clear-spans false e = rw (clear-at, e) tt
-
-    next-at-spans : (k : Kind) → Spans (next-at k s) (length s)
-    unfolding next-at
-    next-at-spans Kind.Record = sized-spans (name-length 64 false (drop 8 s)) (data-len-of s) _ _ refl refl
-    next-at-spans Kind.Reserved = sized-spans (name-length 64 true (drop 8 s)) (data-len-of s) _ _ refl refl
-    next-at-spans Kind.Torn = torn-spans _ _ refl refl
-    next-at-spans Kind.Marker = tt
-    next-at-spans Kind.TornMarker = torn-wrap-spans _ refl
-    next-at-spans Kind.Clear = clear-spans _ refl
-    next-at-spans Kind.Bad = tt
-
-  empty-is : long 1 s ≡ false → length s < 1
-  empty-is e = go (ltb (length s) 1) refl where
-    go : (t : Bool) → ltb (length s) 1 ≡ t → length s < 1
-    go true h = ltb-true (length s) 1 h
-    go false h = absurd (false≢true (sym e ∙ long-le 1 s (ltb-false (length s) 1 h)))
-
-  next-spans-by : (t u : Bool) → long 1 s ≡ t → long 8 s ≡ u → Spans (next s) (length s)
-  unfolding next
-  next-spans-by false u e f = rw (next, e) (empty-is e)
-  next-spans-by true false e f = rw (next, e, f) tt
-  next-spans-by true true e f = rw (next, e, f) (next-at-spans (long-true 8 s f) (kind (low-of s) (high-of s) (status-of s) (spare-of s)))
-
-  next-spans : Spans (next s) (length s)
-  next-spans = next-spans-by _ _ refl refl
-
-allowed-spans : (held : Bool) (x : Next) (l : ℕ) → Spans x l → Spans (allowed held x) l
-allowed-spans false x l w = w
-allowed-spans true (Next.Record n d) l w = tt
-allowed-spans true Next.Wrap l w = tt
-allowed-spans true Next.TornWrap l w = tt
-allowed-spans true Next.Clear l w = w
-allowed-spans true Next.Over l w = w
-allowed-spans true Next.Bad l w = tt
+use Rattle.reading.specs.Fits.{Fits, allowed-fits}
 
 -- ---- a stretch of the chain: with x at t, before address e where the stretch ends
 
@@ -107,8 +38,8 @@ Ended c e = Ends (c .last) (c .tail) e
 chain-ends : (k : ℕ) (held : Bool) (at : ℕ) (s : List ℕ) → Ended (chain k held at s) (at + length s)
 unfolding chain
 chain-ends zero held at s = tt
-chain-ends (suc k) held at s = go (allowed held (next s)) refl (allowed-spans held (next s) (length s) (next-spans s)) (chain-ends k) where
-  go : (x : Next) → allowed held (next s) ≡ x → Spans x (length s) → ((h : Bool) (a : ℕ) (r : List ℕ) → Ended (chain k h a r) (a + length r))
+chain-ends (suc k) held at s = go (allowed held (next s)) refl (allowed-fits held s) (chain-ends k) where
+  go : (x : Next) → allowed held (next s) ≡ x → Fits x (length s) → ((h : Bool) (a : ℕ) (r : List ℕ) → Ended (chain k h a r) (a + length r))
       → Ended (chain (suc k) held at s) (at + length s)
   go (Next.Record n d) e f ih =
       let q : at + size-of n d + length (drop (size-of n d) s) ≡ at + length s = rw length-drop (omega arith) in

@@ -2,7 +2,7 @@
 use Prim.Native.Nat.{ℕ, zero, suc, _+_, _-_, _≤_, _<_}
 use native.Mathlib.Omega.{arith}
 use native.Mathlib.Nat.{not-suc-le-zero}
-use mathlib.Core.Path.{_≡_, refl, sym, ap, ap₂, subst, _∙_}
+use mathlib.Core.Path.{_≡_, refl, sym, ap, ap₂, _∙_}
 use mathlib.Core.Bool.{Bool, true, false}
 use mathlib.Core.List.{List, _++_}
 use lib.ListN.{length, take, drop}
@@ -20,7 +20,8 @@ use Rattle.reading.specs.declared.Cursor.{Cursor}
 use Rattle.reading.specs.declared.Step.{Step}
 use Rattle.reading.specs.Cursor.{start, window, look, goes-on, turn, past, torn-end, stops, unfinished-at, settle, advance}
 use Rattle.reading.specs.CursorLaws.{advance-on, advance-here, part-window}
-use Rattle.reading.specs.Rest.{Run, entry-of, ahead, done, followed, rest, rest-step, Fits, look-inside}
+use Rattle.reading.specs.Fits.{look-inside}
+use Rattle.reading.specs.Rest.{Run, entry-of, ahead, done, followed, rest, rest-step}
 
 -- ---- a record reads the same in a part that holds it
 
@@ -124,7 +125,7 @@ module _ (image : List ℕ) where
       let z : ℕ = size-of n d in
       let w : List ℕ = window image c in
       let u : Cursor = past c z (unfinished-at image (c .at)) in
-      let l : z ≤ c .end - c .at = subst (λ (x : Next). Fits x (c .end - c .at)) e (look-inside image c) in
+      let l : z ≤ c .end - c .at = look-inside image c n d e in
       let p : w ≡ take (c .end - c .at) (drop (c .at) image) = sym (part-window (c .at) (c .end) image o) in
       let st : status-of w ≡ status-of (drop (c .at) image) = ap status-of p ∙ getD-take (c .end - c .at) (drop (c .at) image) 2 0 (omega arith) in
       let r : rec-of w n d ≡ rec-of (drop (c .at) image) n d = ap (λ (l : List ℕ). rec-of l n d) p
@@ -149,7 +150,7 @@ module _ (image : List ℕ) where
     go : (x : Next) → look image c ≡ x → ((n d : ℕ) (b : Bool) → size-of n d ≤ c .end - c .at → Chained k (past c (size-of n d) b))
         → Chained (suc k) c
     go (Next.Record n d) e ih =
-        linked k c n d o e e (ih n d (unfinished-at image (c .at)) (subst (λ (x : Next). Fits x (c .end - c .at)) e (look-inside image c)))
+        linked k c n d o e e (ih n d (unfinished-at image (c .at)) (look-inside image c n d e))
     go Next.Wrap e ih = stopped c Next.Wrap k e (chain-wrap k (c .held) (c .at) (window image c) e) refl
     go Next.TornWrap e ih = stopped c Next.TornWrap k e (chain-torn-wrap k (c .held) (c .at) (window image c) e) (torn-done c _ refl)
     go Next.Clear e ih = stopped c Next.Clear k e (chain-clear k (c .held) (c .at) (window image c) e) refl

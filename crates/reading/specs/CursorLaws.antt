@@ -32,15 +32,6 @@ pub look-is : (image : List ℕ) (c : Cursor) (x y : Next) → c .at ≤ c .end 
 unfolding look
 look-is image c x y h e f = f ∙ ap (allowed (c .held)) (e ∙ ap next (part-window (c .at) (c .end) image h))
 
-pub allowed-within : (held : Bool) (x : Next) (l : ℕ) → Within x l → Within (allowed held x) l
-allowed-within false x l w = w
-allowed-within true (Next.Record n d) l w = tt
-allowed-within true Next.Wrap l w = tt
-allowed-within true Next.TornWrap l w = tt
-allowed-within true Next.Clear l w = tt
-allowed-within true Next.Over l w = tt
-allowed-within true Next.Bad l w = tt
-
 -- ---- bounds
 
 module _ (image : List ℕ) where

@@ -1,5 +1,5 @@
 -- Every record that is read is the one that stands at its spot.
-use Prim.Native.Nat.{ℕ, zero, suc, _-_}
+use Prim.Native.Nat.{ℕ, zero, suc}
 use native.Mathlib.Omega.{arith}
 use mathlib.Core.Path.{_≡_, refl, ap}
 use mathlib.Core.Bool.{Bool, true, false}
@@ -12,7 +12,8 @@ use Rattle.reading.specs.declared.Cursor.{Cursor}
 use Rattle.reading.specs.declared.Step.{Step}
 use Rattle.reading.specs.Cursor.{look, goes-on, turn, torn-end, settle, advance, Sound}
 use Rattle.reading.specs.CursorLaws.{advance-on, advance-here, sound-turn}
-use Rattle.reading.specs.Rest.{Run, Fits, look-inside, entry-of, followed, rest-by, rest}
+use Rattle.reading.specs.Fits.{look-inside}
+use Rattle.reading.specs.Rest.{Run, entry-of, followed, rest-by, rest}
 use Rattle.reading.specs.Fold.{spot-of, spot-is, Whole}
 
 abbrev pub Stands : List ℕ → Entry → Type 0
@@ -31,10 +32,10 @@ module _ (image : List ℕ) where
   torn-kept c true e = rw (torn-end, e) tt
   torn-kept c false e = rw (torn-end, e) tt
 
-  settle-kept : (c : Cursor) (x : Next) → Sound image c → Fits x (c .end - c .at) → Kept (settle image c x)
+  settle-kept : (c : Cursor) (x : Next) → Sound image c → look image c ≡ x → Kept (settle image c x)
   settle-kept c (Next.Record n d) s f = (
-    record { fits = omega (arith, s .ordered, s .inside) },
-    record { ordered = omega (arith, s .ordered); inside = s .inside; room = s .room; small = s .small },
+    record { fits = omega (arith, s .ordered, s .inside, look-inside image c n d f) },
+    record { ordered = omega (arith, s .ordered, look-inside image c n d f); inside = s .inside; room = s .room; small = s .small },
   )
   settle-kept c Next.Wrap s f = tt
   settle-kept c Next.TornWrap s f = torn-kept c _ refl
@@ -45,8 +46,8 @@ module _ (image : List ℕ) where
   advance-kept : (c : Cursor) (t : Bool) → Sound image c → goes-on (c .room) (look image c) ≡ t → Kept (advance image c)
   advance-kept c true s e =
       let u : Cursor = turn (c .room) (c .held) in
-      rw (advance-on image c e) (settle-kept u (look image u) (sound-turn image c s) (look-inside image u))
-  advance-kept c false s e = rw (advance-here image c e) (settle-kept c (look image c) s (look-inside image c))
+      rw (advance-on image c e) (settle-kept u (look image u) (sound-turn image c s) refl)
+  advance-kept c false s e = rw (advance-here image c e) (settle-kept c (look image c) s refl)
 
   by-step : (r : Step) (f : Cursor → Run) → Kept r → ((d : Cursor) → Sound image d → Each (Stands image) (f d .entries))
       → Each (Stands image) (followed image r f .entries)

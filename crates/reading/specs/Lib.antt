@@ -1,8 +1,10 @@
 pub mod HeadLaws
 pub mod Cursor
+pub mod Fits
 pub mod CursorLaws
 pub mod Rest
 pub mod Bridge
+pub mod Ends
 pub mod Fold
 pub mod FileLaws
 pub mod Seek
@@ -14,5 +16,5 @@ pub mod NamesLaw
 pub mod SettledLaws
 pub mod FreeLaws
 pub mod Read
+pub mod Survey
 pub mod RuleLaws
-pub mod ReadLaws

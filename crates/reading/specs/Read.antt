@@ -1,10 +1,9 @@
 -- What the answers of a reading say in document 01's words.
 use Prim.Native.Nat.{ℕ}
 use mathlib.Core.Path.{_≡_}
-use mathlib.Core.Bool.{Bool, false}
+use mathlib.Core.Bool.{false}
 use mathlib.Core.List.{List}
 use lib.ListN.{length}
-use Rattle.spec.specs.declared.Ending.{Ending}
 use Rattle.spec.specs.Basics.{Answer, refuse, give, any}
 use Rattle.spec.specs.Geometry.{floor}
 use Rattle.spec.specs.Chain.{Reading}
@@ -21,9 +20,6 @@ use Rattle.reading.specs.FreeLaws.{In-image}
 -- the cursor at the head h
 abbrev pub first-cursor : List ℕ → ℕ → Cursor
 first-cursor image h = start h (floor h) (length image)
-
-abbrev pub survey-of : ℕ → ℕ → Bool → ℕ → Ending → Tally → Survey
-survey-of h T turned N ending t = record { place = record { head = h; tail = T; turned = turned; length = N }; ending = ending; tally = t }
 
 -- the reading that a survey stands for
 abbrev pub reading-of : List ℕ → Survey → Reading

@@ -7,7 +7,7 @@ use mathlib.Core.Bool.{Bool, true, false, _&&_, not}
 use mathlib.Core.List.{List, [], _∷_}
 use lib.ListN.{length}
 use lib.Dec.{eqb}
-use Rattle.spec.specs.Basics.{Answer, refuse, give, onward, any, Each}
+use Rattle.spec.specs.Basics.{Answer, refuse, give, checked, onward, any, Each}
 use Rattle.spec.specs.Geometry.{floor}
 use Rattle.spec.specs.Bytes.{is-clean}
 use Rattle.spec.specs.Record.{Entry}
@@ -16,6 +16,7 @@ use Rattle.spec.specs.Chain.{Reading, reading-from}
 use Rattle.spec.specs.Files.{live, superseded}
 use Rattle.spec.specs.Reading.{head-clean, free-ok, whole, marked, second-ok, marks-ok, names-ok, single, legal, judged, reading}
 use Rattle.spec.specs.Mount.{settled}
+use Rattle.spec.specs.Answers.{if-settled, settled-reading}
 use Rattle.reading.specs.declared.Cursor.{Cursor}
 use Rattle.reading.specs.declared.Spot.{Spot}
 use Rattle.reading.specs.declared.Tally.{Tally}
@@ -110,6 +111,10 @@ unfolding free-ok
 free-is image r true e = rw (free-ok, e)
 free-is image r false e = rw (free-ok, e)
 
+pub legal-whole : (image : List ℕ) (r : Reading) → whole (r .ending) ≡ false → false ≡ legal image r
+unfolding legal
+legal-whole image r e = rw (legal, e)
+
 module _ (image : List ℕ) (r : Reading) (e : whole (r .ending) ≡ true) where
   pub legal-names : names-ok (r .entries) ≡ false → false ≡ legal image r
   unfolding legal
@@ -128,10 +133,6 @@ module _ (image : List ℕ) (r : Reading) (e : whole (r .ending) ≡ true) where
       → x ≡ legal image r
   unfolding legal
   legal-free k x a b c d f = rw (legal, e, a, b, c) (f ∙ free-is image r k (sym d))
-
-pub broken-refused : (image : List ℕ) (r : Reading) → whole (r .ending) ≡ false → refuse 5 ≡ judged image r
-unfolding judged legal
-broken-refused image r e = rw (judged, legal, e)
 
 -- ---- settled
 
@@ -181,3 +182,12 @@ reading-by image h e = ap (λ (a : Answer ℕ). onward a (λ (h : ℕ). judged i
 pub reading-refused : (image : List ℕ) (n : ℕ) → refuse n ≡ head image → refuse n ≡ reading image
 unfolding reading
 reading-refused image n e = ap (λ (a : Answer ℕ). onward a (λ (h : ℕ). judged image (reading-from image h))) e
+
+pub settled-none : (image : List ℕ) (n : ℕ) → refuse n ≡ reading image → refuse n ≡ settled-reading image
+unfolding settled-reading
+settled-none image n e = ap (λ (a : Answer Reading). onward a (if-settled image)) e
+
+pub settled-by : (image : List ℕ) (r : Reading) (t : Bool) → give r ≡ reading image → settled image r ≡ t
+    → checked t 16 (give r) ≡ settled-reading image
+unfolding settled-reading if-settled
+settled-by image r t e s = ap (λ (b : Bool). checked b 16 (give r)) (sym s) ∙ ap (λ (a : Answer Reading). onward a (if-settled image)) e

@@ -1,4 +1,4 @@
-// The whole reading of an image: the survey that the calls go by, or a refusal.
+// The whole reading of an image: the survey from a head on, which repairs and moves go by, and the judgement of its rules.
 use crate::Cursor;
 use crate::Headed;
 use crate::Read;
@@ -14,13 +14,13 @@ use crate::scan::pass;
 use spec::Ending;
 use spec::Place;
 ghost use mathlib.Core.Path.{_≡_};
-ghost use mathlib.Core.Bool.{true};
 ghost use Prim.Native.Nat.{_≤_, _^_};
 ghost use lib.ListN.{length};
 ghost use Rattle.spec.specs.Chain.{reading-from};
-ghost use Rattle.spec.specs.Reading.{whole, judged, reading};
+ghost use Rattle.spec.specs.Reading.{judged, reading};
 ghost use Rattle.spec.specs.Answers.{settled-reading};
-ghost use Rattle.reading.specs.Read.{first-cursor, survey-of, reading-of, Surveyed, answered, Told, Quiet};
+ghost use Rattle.reading.specs.Read.{first-cursor, answered, Told, Quiet};
+ghost use Rattle.reading.specs.Survey.{Seen, told, survey-of};
 
 // The cursor at a head in this image.
 pub fn first_cursor(image: &[u8], h: usize) -> Cursor
@@ -29,37 +29,42 @@ pub fn first_cursor(image: &[u8], h: usize) -> Cursor
     start_at(h, floor(h), image.len())
 }
 
-fn judged(image: &[u8], start: Cursor, s: Survey) -> Read
-    requires { ⌜ Surveyed (now image) s × (start ≡ first-cursor (now image) (s .place .head)) × (whole (s .ending) ≡ true) ⌝ }
-    ensures { λ r. ⌜ (answered (now (image .entry)) r ≡ judged (now (image .entry)) (reading-of (now (image .entry)) s)) × Told (now (image .entry)) r ⌝ }
+fn told(n: usize, h: usize, tail: usize, turned: bool, ending: Ending, tally: Tally) -> Survey
+    ensures { λ r. ⌜ r ≡ told n h tail turned ending tally ⌝ }
 {
-    if legal(image, start, s) {
-        return Read::Good(s);
-    }
-    Read::Refused(5)
-}
-
-fn survey(
-    head: usize,
-    tail: usize,
-    turned: bool,
-    length: usize,
-    ending: Ending,
-    tally: Tally,
-) -> Survey
-    ensures { λ r. ⌜ r ≡ survey-of head tail turned length ending tally ⌝ }
-{
-    let place = Place {
-        head: head,
-        tail: tail,
-        turned: turned,
-        length: length,
-    };
     Survey {
-        place: place,
+        place: Place {
+            head: h,
+            tail: tail,
+            turned: turned,
+            length: n,
+        },
         ending: ending,
         tally: tally,
     }
+}
+
+// The chain from h on ends so.
+fn survey_of(n: usize, h: usize, end: Step, t: Tally) -> Survey
+    ensures { λ r. ⌜ r ≡ survey-of n h end t ⌝ }
+{
+    match end {
+        Step::Record(_, _) => told(n, h, 0, false, Ending::Broken, t),
+        Step::End(tail, turned) => told(n, h, tail, turned, Ending::Tail, t),
+        Step::TornWrap(at) => told(n, h, 0, true, Ending::TornWrap(at), t),
+        Step::Broken(tail, turned) => told(n, h, tail, turned, Ending::Broken, t),
+    }
+}
+
+// What stands from the head h on, broken or not.
+pub fn survey(image: &[u8], h: usize) -> Survey
+    requires { ⌜ (h ≤ length (now image)) × (16 ≤ length (now image)) × (length (now image) ≤ 2 ^ 24) ⌝ }
+    ensures { λ r. ⌜ Seen (now (image .entry)) h r ⌝ }
+{
+    let p = pass(image, first_cursor(image, h));
+    let end = p.end;
+    let t = p.tally;
+    survey_of(image.len(), h, end, t)
 }
 
 // What is read from the head h on.
@@ -67,25 +72,11 @@ pub fn read_from(image: &[u8], h: usize) -> Read
     requires { ⌜ (h ≤ length (now image)) × (16 ≤ length (now image)) × (length (now image) ≤ 2 ^ 24) ⌝ }
     ensures { λ r. ⌜ (answered (now (image .entry)) r ≡ judged (now (image .entry)) (reading-from (now (image .entry)) h)) × Told (now (image .entry)) r ⌝ }
 {
-    let start = first_cursor(image, h);
-    let p = pass(image, start);
-    let t = p.tally;
-    let end = p.end;
-    let length = image.len();
-    match end {
-        Step::Record(_, _) => Read::Refused(5),
-        Step::End(tail, turned) => judged(
-            image,
-            start,
-            survey(h, tail, turned, length, Ending::Tail, t),
-        ),
-        Step::TornWrap(at) => judged(
-            image,
-            start,
-            survey(h, 0, true, length, Ending::TornWrap(at), t),
-        ),
-        Step::Broken(_, _) => Read::Refused(5),
+    let s = survey(image, h);
+    if legal(image, first_cursor(image, h), s) {
+        return Read::Good(s);
     }
+    Read::Refused(5)
 }
 
 // What an image reads as.

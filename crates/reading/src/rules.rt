@@ -8,12 +8,12 @@ use crate::files::doubled;
 use crate::files::is_live;
 use crate::free::floor;
 use crate::free::free_ok;
+use crate::scan::low_of;
 use crate::scan::marked;
 use spec::CLEAN;
 use spec::Ending;
 use spec::Status;
 ghost use mathlib.Core.Path.{_≡_};
-ghost use mathlib.Core.Bool.{true};
 ghost use Rattle.spec.specs.Reading.{head-clean, second-ok, marks-ok, single, whole, legal};
 ghost use Rattle.spec.specs.Mount.{settled};
 ghost use Rattle.reading.specs.Cursor.{Sound};
@@ -31,8 +31,7 @@ fn head_clean(image: &[u8], start: Cursor, t: Tally) -> bool
         return false;
     }
     let e = t.first;
-    let at = e.at;
-    image[at] == CLEAN
+    low_of(image, e) == CLEAN
 }
 
 // Of the first record x and the second y: a START or CLEAN may follow only a record that is not live, and a START only in its sector.
@@ -44,8 +43,7 @@ fn second_ok(image: &[u8], start: Cursor, x: Spot, y: Spot) -> bool
         if is_live(image, start, x) {
             return false;
         }
-        let at = y.at;
-        if image[at] == CLEAN {
+        if low_of(image, y) == CLEAN {
             return true;
         }
         return floor(y.at) == floor(x.at);
@@ -82,17 +80,31 @@ fn single(image: &[u8], start: Cursor) -> bool
     true
 }
 
-// The chain, which ends as it may, breaks none of the other rules.
+// The chain ends as it may.
+fn whole(ending: Ending) -> bool
+    ensures { λ r. ⌜ r ≡ whole ending ⌝ }
+{
+    match ending {
+        Ending::Tail => true,
+        Ending::TornWrap(_) => true,
+        Ending::Broken => false,
+    }
+}
+
+// The chain breaks no rule.
 pub fn legal(image: &[u8], start: Cursor, s: Survey) -> bool
-    requires { ⌜ Surveyed (now image) s × (start ≡ first-cursor (now image) (s .place .head)) × (whole (s .ending) ≡ true) ⌝ }
+    requires { ⌜ Surveyed (now image) s × (start ≡ first-cursor (now image) (s .place .head)) ⌝ }
     ensures { λ r. ⌜ r ≡ legal (now (image .entry)) (reading-of (now (image .entry)) s) ⌝ }
 {
     let t = s.tally;
     let p = s.place;
-    if t.fine {
-        if single(image, start) {
-            if marks_ok(image, start, t) {
-                return free_ok(image, head_clean(image, start, t), p);
+    let ending = s.ending;
+    if whole(ending) {
+        if t.fine {
+            if single(image, start) {
+                if marks_ok(image, start, t) {
+                    return free_ok(image, head_clean(image, start, t), p);
+                }
             }
         }
     }

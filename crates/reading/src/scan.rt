@@ -42,16 +42,25 @@ fn fine_with(image: &[u8], fine: bool, e: Spot) -> bool
     false
 }
 
+// The first byte of the record at e.
+pub fn low_of(image: &[u8], e: Spot) -> u8
+    requires { ⌜ Whole (now image) e ⌝ }
+    ensures { λ r. ⌜ r ≡ entry-of (now (image .entry)) e .it .low ⌝ }
+{
+    let at = e.at;
+    image[at]
+}
+
 // A START or a CLEAN.
 pub fn marked(image: &[u8], e: Spot) -> bool
     requires { ⌜ Whole (now image) e ⌝ }
     ensures { λ r. ⌜ r ≡ marked (entry-of (now (image .entry)) e) ⌝ }
 {
-    let at = e.at;
-    if image[at] == START {
+    let low = low_of(image, e);
+    if low == START {
         return true;
     }
-    image[at] == CLEAN
+    low == CLEAN
 }
 
 fn further_with(image: &[u8], further: bool, records: usize, e: Spot) -> bool

@@ -12,7 +12,7 @@ use Rattle.reading.specs.declared.Survey.{Survey}
 use Rattle.reading.specs.Rest.{rest}
 use Rattle.reading.specs.Read.{first-cursor, reading-of}
 use Rattle.recovery.specs.declared.Mended.{Mended}
-use Rattle.recovery.specs.Survey.{Seen}
+use Rattle.reading.specs.Survey.{Seen}
 use Rattle.recovery.specs.Mended.{Mends}
 
 -- the numbers of the reading that the repairs leave

@@ -25,7 +25,7 @@ use Rattle.reading.specs.Faithful.{Stands, faithful}
 use Rattle.reading.specs.Tally.{none-yet, noted, tally}
 use Rattle.reading.specs.RuleLaws.{count-is}
 use Rattle.reading.specs.Read.{Tallied, first-cursor}
-use Rattle.recovery.specs.Survey.{Seen}
+use Rattle.reading.specs.Survey.{Seen}
 use Rattle.recovery.specs.Repairs.{steps-3}
 
 -- the four length bytes of a record, from its start

@@ -1,8 +1,6 @@
 pub mod Sectors
 pub mod Clean
 pub mod Close
-pub mod Ends
-pub mod Survey
 pub mod Repairs
 pub mod Free
 pub mod Pair

@@ -22,7 +22,7 @@ use Rattle.reading.specs.Tally.{none-yet, tally}
 use Rattle.reading.specs.TallyLaws.{first-is, second-is}
 use Rattle.reading.specs.RuleLaws.{count-is}
 use Rattle.reading.specs.Read.{first-cursor}
-use Rattle.recovery.specs.Survey.{Seen}
+use Rattle.reading.specs.Survey.{Seen}
 use Rattle.recovery.specs.Repairs.{pair-steps, pair-head, steps-2, head-2}
 
 -- what repair 2 did, and the head that it left

@@ -15,7 +15,8 @@ use Rattle.reading.specs.declared.Spot.{Spot}
 use Rattle.reading.specs.declared.Step.{Step}
 use Rattle.reading.specs.Cursor.{look, goes-on, turn, past, settle, advance, left}
 use Rattle.reading.specs.CursorLaws.{advance-on, advance-here}
-use Rattle.reading.specs.Rest.{Run, Less, advance-less, look-inside, entry-of, ahead, followed, rest, rest-step}
+use Rattle.reading.specs.Fits.{look-inside}
+use Rattle.reading.specs.Rest.{Run, Less, advance-less, entry-of, ahead, followed, rest, rest-step}
 use Rattle.recovery.specs.Trail.{Stood, way, stood-fits, Tidy, Ahead, Off, tidy-next, ahead-back, window-kept, entry-kept, unfinished-kept, look-kept, here-again, there-again}
 
 -- ---- the records from c up to d
@@ -99,7 +100,7 @@ pub record Passed (c : Cursor) (a : ℕ) : Type 0 where
 module _ (s : Image) (a b : ℕ) where
   settle-same : (v : Cursor) (x : Next) → look s v ≡ x → Off a (v .at) (v .end - v .at) → settle (set s a b) v x ≡ settle s v x
   settle-same v (Next.Record n d) l o =
-      let f : size-of n d ≤ v .end - v .at = rw l at (look-inside s v) in
+      let f : size-of n d ≤ v .end - v .at = look-inside s v n d l in
       ap (λ (h : Bool). Step.Record (record { at = v .at; n = n; d = d }) (past v (size-of n d) h))
       (unfinished-kept s a b (v .at) (λ q. ⊎-elim (λ (u : a < v .at). omega arith) (λ (u : v .at + (v .end - v .at) ≤ a). omega arith) o))
   settle-same v Next.Wrap l o = refl

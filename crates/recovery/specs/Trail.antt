@@ -1,7 +1,7 @@
 -- The chain after one byte was written: what is read before that byte stays as it was.
 use Prim.Native.Nat.{ℕ, _+_, _-_, _≤_, _<_}
 use native.Mathlib.Omega.{arith}
-use mathlib.Core.Path.{_≡_, refl, sym, ap, ap₂, subst, _∙_}
+use mathlib.Core.Path.{_≡_, refl, sym, ap, ap₂, _∙_}
 use mathlib.Core.Logic.{_⊎_, inl, inr, ⊎-elim}
 use mathlib.Core.Bool.{Bool, true, false}
 use mathlib.Core.List.{List}
@@ -19,7 +19,8 @@ use Rattle.reading.specs.declared.Spot.{Spot}
 use Rattle.reading.specs.declared.Step.{Step}
 use Rattle.reading.specs.Cursor.{window, look, goes-on, turn, past, torn-end, unfinished-at, settle, advance}
 use Rattle.reading.specs.CursorLaws.{part-window, advance-on, advance-here}
-use Rattle.reading.specs.Rest.{Fits, look-inside, entry-of}
+use Rattle.reading.specs.Fits.{look-inside}
+use Rattle.reading.specs.Rest.{entry-of}
 use Rattle.reading.specs.Bridge.{rec-part}
 use Rattle.recovery.specs.Kept.{next-kept, kind-dropped}
 
@@ -67,7 +68,7 @@ module _ (image : Image) (e : Spot) (behind : Cursor) where
 
   -- a record lies within its stretch
   pub stood-fits : (v : Cursor) → Stood image v (look image v) e behind → size-of (e .n) (e .d) ≤ v .end - v .at
-  stood-fits v s = subst (λ (x : Next). Fits x (v .end - v .at)) (s .what) (look-inside image v)
+  stood-fits v s = look-inside image v (e .n) (e .d) (s .what)
 
 -- ---- cursors
 
@@ -154,7 +155,7 @@ allowed-record true Next.Bad n d h = absurd (let z : _≡_ {A = ℕ} 0 1 = cc in
 
 module _ (s : Image) (c : Cursor) (n d : ℕ) (h : look s c ≡ Next.Record n d) where
   fits : size-of n d ≤ c .end - c .at
-  fits = subst (λ (x : Next). Fits x (c .end - c .at)) h (look-inside s c)
+  fits = look-inside s c n d h
 
   -- the record is read again, if no byte of it is written
   pub look-kept : (a b : ℕ) → Off a (c .at) (size-of n d) → look (set s a b) c ≡ Next.Record n d

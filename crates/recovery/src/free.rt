@@ -1,10 +1,10 @@
 // Repair 1: behind a CLEAN head the free run is erased where it isn't FF, and the head becomes START.
 use crate::sectors::erase_dirty;
-use crate::survey::low_of;
-use crate::survey::survey;
 use flash::Meter;
 use flash::program;
 use reading::free::floor;
+use reading::image::survey;
+use reading::scan::low_of;
 use spec::CLEAN;
 use spec::Place;
 use spec::SECTOR;

@@ -1,10 +1,10 @@
 // Repair 2: a move that was cut is brought to its end, and the head handed over to the second record.
 use crate::Progress;
 use crate::close::close;
-use crate::survey::low_of;
-use crate::survey::survey;
 use flash::Meter;
 use flash::program;
+use reading::image::survey;
+use reading::scan::low_of;
 use spec::CLEAN;
 use spec::START;
 ghost use mathlib.Core.Path.{_≡_};

@@ -1,9 +1,9 @@
 // Repair 3: the last thing of the chain, which is torn, reserved or a torn wrap.
-use crate::survey::survey;
 use flash::Meter;
 use flash::program;
 use reading::Spot;
 use reading::Tally;
+use reading::image::survey;
 use spec::Ending;
 use spec::HIGH;
 use spec::Status;
@@ -17,7 +17,7 @@ ghost use Rattle.flash.specs.Did.{Did};
 ghost use Rattle.reading.specs.Rest.{entry-of, rest};
 ghost use Rattle.reading.specs.Fold.{Whole};
 ghost use Rattle.reading.specs.Read.{Tallied, first-cursor};
-ghost use Rattle.recovery.specs.Survey.{Torn-inside};
+ghost use Rattle.reading.specs.Survey.{Torn-inside};
 ghost use Rattle.recovery.specs.Last.{zero-steps};
 ghost use Rattle.recovery.specs.Repairs.{steps-3};
 

@@ -6,7 +6,6 @@ mod hand;
 mod last;
 pub mod sectors;
 mod superseded;
-pub mod survey;
 
 use flash::Meter;
 use free::erase_free;
@@ -14,8 +13,8 @@ use hand::hand_over;
 use last::void_last;
 use reading::files::count_files;
 use reading::image::first_cursor;
+use reading::image::survey;
 use superseded::drop_superseded;
-use survey::survey;
 ghost use Prim.Native.Nat.{_≤_, _<_, _^_};
 ghost use lib.ListN.{length};
 ghost use Rattle.recovery.specs.Mended.{Mends};

@@ -18,7 +18,7 @@ use Rattle.reading.specs.Rest.{Run, rest}
 use Rattle.reading.specs.Bridge.{shown, reading-is}
 use Rattle.reading.specs.Fold.{Turned, turned}
 use Rattle.reading.specs.Read.{first-cursor}
-use Rattle.reading.specs.ReadLaws.{first-sound}
+use Rattle.reading.specs.Survey.{first-sound}
 use Rattle.sweeping.specs.Way.{On, Lands, Ends-on, never, ends-on, reached}
 use Rattle.sweeping.specs.First.{Low, first-at, past-on-way}
 

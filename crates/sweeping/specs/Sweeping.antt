@@ -11,7 +11,7 @@ use Rattle.spec.specs.Chain.{Reading, reading-from}
 use Rattle.spec.specs.Sweep.{stuck, moves}
 use Rattle.flash.specs.declared.Meter.{Meter}
 use Rattle.reading.specs.declared.Survey.{Survey}
-use Rattle.recovery.specs.Survey.{Seen}
+use Rattle.reading.specs.Survey.{Seen}
 use Rattle.sweeping.specs.declared.Moved.{Moved}
 use Rattle.sweeping.specs.declared.Turn.{Turn}
 use Rattle.flash.specs.Began.{Began}

@@ -15,7 +15,8 @@ use Rattle.reading.specs.declared.Spot.{Spot}
 use Rattle.reading.specs.declared.Step.{Step}
 use Rattle.reading.specs.Cursor.{look, goes-on, turn, past, torn-end, unfinished-at, settle, advance, left}
 use Rattle.reading.specs.CursorLaws.{advance-on, advance-here}
-use Rattle.reading.specs.Rest.{Less, advance-less, Fits, look-inside, followed, rest, rest-step}
+use Rattle.reading.specs.Fits.{look-inside}
+use Rattle.reading.specs.Rest.{Less, advance-less, followed, rest, rest-step}
 
 -- ---- one step
 
@@ -50,8 +51,8 @@ module _ (image : Image) (c : Cursor) where
     torn-way true e = rw (torn-end, e) tt
     torn-way false e = rw (torn-end, e) record { seen = d; from = f; at = refl; turned = refl }
 
-    settle-way : (x : Next) → Fits x (d .end - d .at) → Way image c (settle image d x)
-    settle-way (Next.Record n l) h = record { seen = d; from = f; at = refl; next-is = refl; fits = h }
+    settle-way : (x : Next) → look image d ≡ x → Way image c (settle image d x)
+    settle-way (Next.Record n l) h = record { seen = d; from = f; at = refl; next-is = refl; fits = look-inside image d n l h }
     settle-way Next.Wrap h = record { seen = d; from = f; at = refl; turned = refl }
     settle-way Next.TornWrap h = torn-way _ refl
     settle-way Next.Clear h = record { seen = d; from = f; at = refl; turned = refl }
@@ -61,8 +62,8 @@ module _ (image : Image) (c : Cursor) where
   advance-by : (t : Bool) → goes-on (c .room) (look image c) ≡ t → Way image c (advance image c)
   advance-by true e =
       let u : Cursor = turn (c .room) (c .held) in
-      rw (advance-on image c e) (settle-way u (turned e) (look image u) (look-inside image u))
-  advance-by false e = rw (advance-here image c e) (settle-way c here (look image c) (look-inside image c))
+      rw (advance-on image c e) (settle-way u (turned e) (look image u) refl)
+  advance-by false e = rw (advance-here image c e) (settle-way c here (look image c) refl)
 
   pub way : Way image c (advance image c)
   way = advance-by _ refl

@@ -5,7 +5,7 @@ use crate::Turn;
 use crate::step::move_head;
 use crate::step::plan;
 use flash::Meter;
-use recovery::survey::survey;
+use reading::image::survey;
 use spec::Place;
 ghost use mathlib.Core.Path.{_≡_};
 ghost use Prim.Native.Nat.{_≤_, _^_, min};

@@ -4,7 +4,7 @@ use native.Mathlib.Omega.{arith}
 use lib.ListN.{length}
 use Rattle.spec.specs.Files.{files}
 use Rattle.reading.specs.Rest.{rest}
-use Rattle.reading.specs.ReadLaws.{first-sound}
+use Rattle.reading.specs.Survey.{first-sound}
 use Rattle.recovery.specs.Counted.{counted-done}
 use borrow.Author.Needs.{needs}
 use Rattle.recovery.proofs.mend.Statement.{statement}

@@ -1,8 +1,7 @@
 use mathlib.Core.Path.{sym, ap, _∙_}
 use mathlib.Core.Bool.{true, false}
 use Rattle.record.specs.Suffix.{flag}
-use Rattle.reading.specs.RuleLaws.{settled-quiet}
-use Rattle.reading.specs.ReadLaws.{settled-none, settled-by}
+use Rattle.reading.specs.RuleLaws.{settled-quiet, settled-none, settled-by}
 use Rattle.reading.specs.Read.{first-cursor, reading-of, answered}
 use borrow.Author.Needs.{needs}
 use Rattle.reading.proofs.image.read_settled.Statement.{statement}

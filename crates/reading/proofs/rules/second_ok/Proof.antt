@@ -1,13 +1,11 @@
+-- second_ok: each test of the code is one of the rule's.
 use mathlib.Core.Path.{ap₂, _∙_}
 use Rattle.record.specs.Suffix.{flag}
 use Rattle.reading.specs.RuleLaws.{second-plain, second-live, second-clean, second-start}
 use borrow.Author.Tests.{eq-eqb, ne-eqb}
 use Prim.Native.Nat.{ℕ}
-use native.Mathlib.Nat.{add-zero}
-use lib.Seq.{getD-drop}
 use lib.Dec.{eqb}
 use Rattle.spec.specs.Bytes.{is-clean}
-use native.Mathlib.Omega.{arith}
 use borrow.Author.Needs.{needs}
 use Rattle.reading.proofs.rules.second_ok.Statement.{statement}
 use Rattle.reading.proofs.rules.second_ok.Tie as tie
@@ -23,8 +21,8 @@ returns c =
     second-live _ _ _ (flag (c .before .before .before .marked .ensures) (c .before .before .if1 .taken))
         (flag (c .before .is-live .ensures) (c .if2 .taken))
 
-shared-slice-read-if3 : tie.Need-shared-slice-read-if3
-shared-slice-read-if3 c = omega (arith, c .before .before .before .before .before .before .pre .2 .fits)
+low-of-requires : tie.Need-low-of-requires
+low-of-requires c κs = search needs
 
 returns-2 : tie.Need-returns-2
 unfolding is-clean
@@ -32,7 +30,7 @@ returns-2 c =
     let c4 = c .before .before .before .before in
     let c5 = c4 .before in
     second-clean _ _ _ (flag (c5 .marked .ensures) (c4 .if1 .taken))
-        (flag (c .before .before .before .is-live .ensures) (c .before .before .if2 .left)) (rw (getD-drop, add-zero) (eq-eqb _ _ (c .if3 .taken)))
+        (flag (c .before .before .before .is-live .ensures) (c .before .before .if2 .left)) (rw (← c .before .low-of .ensures) (eq-eqb _ _ (c .if3 .taken)))
 
 floor-requires : tie.Need-floor-requires
 floor-requires c κs = search needs
@@ -49,7 +47,7 @@ returns-3 c =
     let c7 = c6 .before in
     ap₂ (λ (a b : ℕ). eqb a b) (c .before .floor .ensures .0) (c .floor2 .ensures .0)
     ∙ second-start _ _ _ (flag (c7 .marked .ensures) (c6 .if1 .taken)) (flag (c5 .is-live .ensures) (c4 .if2 .left))
-        (rw (getD-drop, add-zero) (ne-eqb _ _ (c .before .before .if3 .left)))
+        (rw (← c .before .before .before .low-of .ensures) (ne-eqb _ _ (c .before .before .if3 .left)))
 
 returns-4 : tie.Need-returns-4
 returns-4 c = second-plain _ _ _ (flag (c .before .marked .ensures) (c .if1 .left))
@@ -61,7 +59,7 @@ second-ok-spec =
     marked-requires
     is-live-requires
     returns
-    shared-slice-read-if3
+    low-of-requires
     returns-2
     floor-requires
     floor-requires-2

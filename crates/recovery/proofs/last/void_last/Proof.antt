@@ -1,6 +1,6 @@
 -- The last record, then the torn wrap.
 use lib.ListN.{length}
-use Rattle.recovery.specs.Survey.{torn-same}
+use Rattle.reading.specs.Survey.{torn-same}
 use native.Mathlib.Omega.{arith}
 use Rattle.recovery.specs.Last.{ended-last}
 use borrow.Author.Needs.{needs}

@@ -8,7 +8,7 @@ use lib.ListN.{length}
 use Rattle.reading.specs.Cursor.{Sound, left}
 use Rattle.reading.specs.Fold.{turned}
 use Rattle.reading.specs.Read.{first-cursor}
-use Rattle.reading.specs.ReadLaws.{first-sound}
+use Rattle.reading.specs.Survey.{first-sound}
 use Rattle.reading.proofs.Others.{other-step}
 use Rattle.recovery.specs.Drop.{Dropping, dropping-start, dropping-more, dropping-end, tidy-first, sound-same, entries-of}
 use Rattle.recovery.proofs.superseded.drop_superseded.Statement.{statement}

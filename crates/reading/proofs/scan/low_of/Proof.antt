@@ -4,8 +4,8 @@ use native.Mathlib.Nat.{add-zero}
 use lib.ListN.{getD}
 use lib.Seq.{getD-drop}
 use borrow.Author.Needs.{needs}
-use Rattle.recovery.proofs.survey.low_of.Statement.{statement}
-use Rattle.recovery.proofs.survey.low_of.Tie as tie
+use Rattle.reading.proofs.scan.low_of.Statement.{statement}
+use Rattle.reading.proofs.scan.low_of.Tie as tie
 
 shared-slice-read-result : tie.Need-shared-slice-read-result
 shared-slice-read-result c = search needs

@@ -1,9 +1,8 @@
 -- What the pass found, as a survey.
-use Rattle.reading.specs.ReadLaws.{first-sound}
-use Rattle.recovery.specs.Survey.{seen}
+use Rattle.reading.specs.Survey.{first-sound, seen}
 use borrow.Author.Needs.{needs}
-use Rattle.recovery.proofs.survey.survey.Statement.{statement}
-use Rattle.recovery.proofs.survey.survey.Tie as tie
+use Rattle.reading.proofs.image.survey.Statement.{statement}
+use Rattle.reading.proofs.image.survey.Tie as tie
 
 first-cursor-requires : tie.Need-first-cursor-requires
 first-cursor-requires c κs = search needs
@@ -20,12 +19,11 @@ survey-of-requires c κs = search needs
 returns : tie.Need-returns
 returns c =
     let c2 = c .before .before in
-    let c3 = c2 .before in
-    let c5 = c3 .before .before in
+    let c5 = c2 .before .before .before in
     let a = c5 .args in
     rw (c .survey-of .ensures)
-        (seen (a .image .now) (a .h) (c5 .pre .0) (c5 .pre .2) (c3 .first-cursor .result) (c2 .pass .result) (c3 .first-cursor .ensures)
-        (c2 .pass .ensures .0) (c2 .pass .ensures .1) (c2 .pass .ensures .2))
+        (seen (a .image .now) (a .h) (c5 .pre .0) (c5 .pre .2) (c2 .pass .result) (rw (c2 .before .first-cursor .ensures) at (c2 .pass .ensures .0))
+        (c2 .pass .ensures .1) (c2 .pass .ensures .2))
 
 pub survey-spec : {M : Type 1} → statement M
 survey-spec = tie.close (tie.spec first-cursor-requires pass-requires survey-of-requires returns)

@@ -8,37 +8,17 @@ use mathlib.Core.List.{List}
 use lib.ListN.{length, length-drop, length-take}
 use lib.Dec.{ltb}
 use Rattle.spec.specs.declared.Next.{Next}
-use Rattle.spec.specs.Basics.{long}
-use Rattle.spec.specs.Next.{next}
-use Rattle.spec.specs.Chain.{allowed}
-use Rattle.record.specs.Suffix.{long-true}
 use Rattle.reading.specs.declared.Cursor.{Cursor}
 use Rattle.reading.specs.declared.Step.{Step}
 use Rattle.reading.specs.Cursor.{window, look, goes-on, turn, torn-end, settle, advance, left}
 use Rattle.reading.specs.CursorLaws.{advance-on, advance-here}
+use Rattle.reading.specs.Fits.{look-fits}
 use Rattle.reading.specs.Rest.{Less, advance-less, followed, rest, rest-step}
 
--- ---- a torn wrap has eight bytes
-
-next-torn : (s : List ℕ) (t u : Bool) → long 1 s ≡ t → long 8 s ≡ u → next s ≡ Next.TornWrap → 8 ≤ length s
-unfolding next
-next-torn s false u e f h = absurd (let q : Next.Over ≡ Next.TornWrap = rw (e, next) at h in let z : _≡_ {A = ℕ} 0 1 = cc in omega arith)
-next-torn s true false e f h = absurd (let q : Next.Bad ≡ Next.TornWrap = rw (e, f, next) at h in let z : _≡_ {A = ℕ} 0 1 = cc in omega arith)
-next-torn s true true e f h = long-true 8 s f
-
-allowed-torn : (held : Bool) (x : Next) → allowed held x ≡ Next.TornWrap → x ≡ Next.TornWrap
-allowed-torn false x e = e
-allowed-torn true (Next.Record n d) e = cc
-allowed-torn true Next.Wrap e = cc
-allowed-torn true Next.TornWrap e = refl
-allowed-torn true Next.Clear e = cc
-allowed-torn true Next.Over e = cc
-allowed-torn true Next.Bad e = cc
-
+-- a torn wrap has eight bytes
 look-torn : (image : List ℕ) (c : Cursor) → look image c ≡ Next.TornWrap → c .at + 8 ≤ length image
-unfolding look
 look-torn image c e =
-    let h : 8 ≤ length (window image c) = next-torn (window image c) _ _ refl refl (allowed-torn (c .held) (next (window image c)) e) in
+    let h : 8 ≤ length (window image c) = rw e at (look-fits image c) in
     omega (arith, rw (length-drop, length-take) at h)
 
 -- ---- from a cursor on

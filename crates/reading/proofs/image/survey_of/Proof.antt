@@ -1,9 +1,9 @@
 -- By how the chain ends.
 use mathlib.Core.Path.{sym, ap, _∙_}
-use Rattle.recovery.specs.Survey.{survey-of}
+use Rattle.reading.specs.Survey.{survey-of}
 use borrow.Author.Needs.{needs}
-use Rattle.recovery.proofs.survey.survey_of.Statement.{statement}
-use Rattle.recovery.proofs.survey.survey_of.Tie as tie
+use Rattle.reading.proofs.image.survey_of.Statement.{statement}
+use Rattle.reading.proofs.image.survey_of.Tie as tie
 
 enum-told : tie.Need-enum-told
 enum-told c = search needs
