@@ -1,6 +1,6 @@
 -- Steps of which the later ones depend on bytes that the earlier ones wrote: they are all done and counted, or the
 -- allowance ended among them and they were left off there.
-use Prim.Native.Nat.{ℕ, _+_, _-_, _≤_, _<_}
+use Prim.Native.Nat.{_+_, _-_, _≤_, _<_}
 use native.Mathlib.Omega.{arith}
 use mathlib.Core.Path.{_≡_, refl, sym, ap, _∙_}
 use mathlib.Core.List.{List, _++_}

@@ -10,7 +10,7 @@ use borrow.Author.Tests.{le-leb, lt-leb}
 use Rattle.spec.specs.Step.{Image, Step, run}
 use Rattle.spec.specs.Basics.{Answer, refuse, give, onward}
 use Rattle.spec.specs.Chain.{Reading}
-use Rattle.spec.specs.Answers.{Plan, refusal, numbers-of, carry-out, doing, settled-reading}
+use Rattle.spec.specs.Answers.{Plan, refusal, numbers-of, carry-out, doing}
 use Rattle.flash.specs.declared.Meter.{Meter}
 use Rattle.flash.specs.Did.{Did}
 use Rattle.lilota.specs.declared.Written.{Written}
@@ -52,11 +52,11 @@ unfolding carry-out
 refused s k n = refl
 
 -- the reading's refusal stands, whatever the call is
-pub read-refused : (s : Image) (k n : ℕ) (f : Reading → Answer Plan) → refuse n ≡ settled-reading s
-    → outcome (refusal n) s ≡ carry-out s k (onward (settled-reading s) f)
-read-refused s k n f e = refused s k n ∙ ap (λ (a : Answer Reading). carry-out s k (onward a f)) e
+pub read-refused : (s : Image) (k n : ℕ) {a : Answer Reading} (f : Reading → Answer Plan) → refuse n ≡ a
+    → outcome (refusal n) s ≡ carry-out s k (onward a f)
+read-refused s k n f e = refused s k n ∙ ap (λ (x : Answer Reading). carry-out s k (onward x f)) e
 
 -- what was read goes on to the call
-pub read-on : (s : Image) (k : ℕ) (r : Reading) (f : Reading → Answer Plan) → give r ≡ settled-reading s
-    → carry-out s k (f r) ≡ carry-out s k (onward (settled-reading s) f)
-read-on s k r f e = ap (λ (a : Answer Reading). carry-out s k (onward a f)) e
+pub read-on : (s : Image) (k : ℕ) (r : Reading) {a : Answer Reading} (f : Reading → Answer Plan) → give r ≡ a
+    → carry-out s k (f r) ≡ carry-out s k (onward a f)
+read-on s k r f e = ap (λ (x : Answer Reading). carry-out s k (onward x f)) e

@@ -7,9 +7,9 @@ use mathlib.Core.Bool.{true, false}
 use lib.ListN.{length, take}
 use borrow.Author.Tests.{le-leb, lt-leb}
 use Rattle.spec.specs.Step.{Image, run}
-use Rattle.spec.specs.Basics.{Answer, refuse, give, onward}
+use Rattle.spec.specs.Basics.{give, onward}
 use Rattle.spec.specs.Geometry.{good-length}
-use Rattle.spec.specs.Chain.{Reading, reading-from}
+use Rattle.spec.specs.Chain.{reading-from}
 use Rattle.spec.specs.Files.{files}
 use Rattle.spec.specs.Reading.{reading}
 use Rattle.spec.specs.Move.{Work}
@@ -58,42 +58,32 @@ module _ (image t : Image) (k : ℕ) (s : Survey) (l : Legal image s) (r : Mende
   work-is = ap (mended image) (sym (l .same))
 
   bytes-are : t ≡ run image (take k (mended image (reading-of image s) .steps))
-  bytes-are = c .bytes ∙ ap₂ (λ (n : ℕ) (w : Work). run image (take n (w .steps))) (sub-zero k) work-is
+  bytes-are = c .begun .bytes ∙ ap₂ (λ (n : ℕ) (w : Work). run image (take n (w .steps))) (sub-zero k) work-is
 
   pub mount-cut : r .meter .allowance < r .meter .asked
       → outcome (mounted (Mounted.Cut (r .meter .allowance))) t ≡ carry-out image k (mount-of image (reading-of image s))
   mount-cut h =
-      let short : k < length (mended image (reading-of image s) .steps) = omega (arith, c .cut h, ap (λ (w : Work). length (w .steps)) work-is) in
+      let short : k < length (mended image (reading-of image s) .steps) = omega (arith, c .begun .cut h, ap (λ (w : Work). length (w .steps)) work-is) in
       carried image t k (mount-work (mended image (reading-of image s))) (given 4 0 0 0 (r .meter .allowance))
-      (plan-cut image k (mended image (reading-of image s)) short ∙ ap (given 4 0 0 0) (sym (c .same))) bytes-are
+      (plan-cut image k (mended image (reading-of image s)) short ∙ ap (given 4 0 0 0) (sym (c .begun .same))) bytes-are
 
   pub mount-done : r .meter .asked ≤ r .meter .allowance →
       outcome (mounted (Mounted.Done (r .head) (r .tail) (r .files) (r .meter .asked))) t ≡ carry-out image k (mount-of image (reading-of image s))
-  mount-done h = go (mended image (reading-from image (s .place .head))) (c .done h) work-is
+  mount-done h = go (mended image (reading-from image (s .place .head))) (c .done h) (c .begun .whole h ∙ omega arith) work-is
     where
-      go : (w : Work) → Numbered w (record { allowance = k; asked = 0 }) r → w ≡ mended image (reading-of image s) →
+      go : (w : Work) → Numbered w r → r .meter .asked ≡ length (w .steps) → w ≡ mended image (reading-of image s) →
           outcome (mounted (Mounted.Done (r .head) (r .tail) (r .files) (r .meter .asked))) t ≡ carry-out image k
               (mount-of image (reading-of image s))
-      go w n e =
-          let count : r .meter .asked ≡ length (w .steps) = omega (arith, n .count) in
+      go w n count e =
           let steps : length (w .steps) ≡ length (mended image (reading-of image s) .steps) = ap (λ (x : Work). length (x .steps)) e in
           carried image t k (mount-work (mended image (reading-of image s))) (given 0 (r .head) (r .tail) (r .files) (r .meter .asked))
-          (plan-done image k (mount-work (mended image (reading-of image s))) (omega (arith, count, steps, c .same, h))
+          (plan-done image k (mount-work (mended image (reading-of image s))) (omega (arith, count, steps, c .begun .same, h))
           ∙ sym (λ i. given 0 ((n .head ∙ ap (λ (x : Work). x .reading .place .head) e) i)
               ((n .tail ∙ ap (λ (x : Work). x .reading .place .tail) e) i)
           ((n .files ∙ ap (λ (x : Work). length (files (x .reading .entries))) e) i) ((count ∙ steps) i)))
           bytes-are
 
 -- ---- the refusals
-
-pub mount-refused : (image : Image) (k n : ℕ) → refuse n ≡ reading image
-    → outcome (refusal n) image ≡ carry-out image k (onward (reading image) (mount-of image))
-unfolding carry-out
-mount-refused image k n e = ap (λ (a : Answer Reading). carry-out image k (onward a (mount-of image))) e
-
-pub mount-good : (image : Image) (k : ℕ) (s : Survey) → give (reading-of image s) ≡ reading image →
-    carry-out image k (mount-of image (reading-of image s)) ≡ carry-out image k (onward (reading image) (mount-of image))
-mount-good image k s e = ap (λ (a : Answer Reading). carry-out image k (onward a (mount-of image))) e
 
 pub mount-length : (image : Image) (k : ℕ) → good-length (length image) ≡ false → outcome (refusal 22) image ≡ mount image k
 unfolding mount-plan carry-out

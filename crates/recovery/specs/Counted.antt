@@ -1,8 +1,9 @@
 -- What mount answers once its repairs are done.
-use Prim.Native.Nat.{ℕ, _+_, _-_, _≤_, _<_}
+use Prim.Native.Nat.{ℕ, _-_, _≤_, _<_}
+use native.Mathlib.Omega.{arith}
 use mathlib.Core.Path.{_≡_, sym, ap, _∙_}
-use lib.ListN.{length, take}
-use Rattle.spec.specs.Step.{Image, run}
+use lib.ListN.{length}
+use Rattle.spec.specs.Step.{Image}
 use Rattle.spec.specs.Chain.{Reading, reading-from}
 use Rattle.spec.specs.Files.{files}
 use Rattle.spec.specs.Move.{Work}
@@ -13,39 +14,36 @@ use Rattle.reading.specs.Rest.{rest}
 use Rattle.reading.specs.Read.{first-cursor, reading-of}
 use Rattle.recovery.specs.declared.Mended.{Mended}
 use Rattle.reading.specs.Survey.{Seen}
+use Rattle.flash.specs.Began.{Began}
 use Rattle.recovery.specs.Mended.{Mends}
 
 -- the numbers of the reading that the repairs leave
-pub record Numbered (w : Work) (m : Meter) (r : Mended) : Type 0 where
-  pub count : r .meter .asked ≡ m .asked + length (w .steps)
+pub record Numbered (w : Work) (r : Mended) : Type 0 where
   pub head : r .head ≡ w .reading .place .head
   pub tail : r .tail ≡ w .reading .place .tail
   pub files : r .files ≡ length (files (w .reading .entries))
 
 -- the repairs on s, read from h on, gave t: all of them, with their numbers, or their first steps up to the allowance
 pub record Counted (s : Image) (h : ℕ) (m : Meter) (t : Image) (r : Mended) : Type 0 where
-  pub bytes : t ≡ run s (take (m .allowance - m .asked) (mended s (reading-from s h) .steps))
-  pub same : r .meter .allowance ≡ m .allowance
-  pub done : r .meter .asked ≤ r .meter .allowance → Numbered (mended s (reading-from s h)) m r
-  pub cut : r .meter .allowance < r .meter .asked → m .allowance < m .asked + length (mended s (reading-from s h) .steps)
+  pub begun : Began s m (mended s (reading-from s h) .steps) t (r .meter)
+  pub done : r .meter .asked ≤ r .meter .allowance → Numbered (mended s (reading-from s h)) r
 
 module _ {s t : Image} {h k : ℕ} {m q : Meter} (w : Mends s h m t k q) where
+  pub counted-cut : q .allowance < q .asked → Counted s h m t (record { head = 0; tail = 0; files = 0; meter = q })
+  counted-cut l = record { begun = w .mending .begun; done = λ b. absurd (omega arith) }
+
   pub counted-done : (v : Survey) (n : ℕ) → q .asked ≤ q .allowance → Seen t k v → n ≡ length (files (rest t (first-cursor t k) .entries))
       → Counted s h m t (record { head = k; tail = v .place .tail; files = n; meter = q })
   counted-done v n l f e =
-      let d = w .mending .done l in
-      let r : mended s (reading-from s h) .reading ≡ reading-of t v = d .reading ∙ sym (f .same) in
+      let r : mended s (reading-from s h) .reading ≡ reading-of t v = w .mending .reading l ∙ sym (f .same) in
       record {
-        bytes = w .mending .bytes;
-        same = w .mending .same;
+        begun = w .mending .begun;
         done =
             λ b. record {
-              count = d .count;
               head = sym (ap (λ (x : Reading). x .place .head) r ∙ f .head);
               tail = sym (ap (λ (x : Reading). x .place .tail) r);
               files =
                   e ∙ sym (ap (λ (x : Reading). length (files (x .entries))) r
                       ∙ ap (λ (i : ℕ). length (files (rest t (first-cursor t i) .entries))) (f .head));
             };
-        cut = w .mending .cut;
       }

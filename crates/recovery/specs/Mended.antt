@@ -76,30 +76,30 @@ moves N h (x ∷ (y ∷ es)) = pair-moves N h x y _ _ refl refl
 
 module _ {s t : Image} {m r : Meter} {w : Work} {h : ℕ} (v : Mending s m w t h r) where
   head-is : r .asked ≤ r .allowance → h ≤ length t → w .reading .place .head ≡ h
-  head-is l i = ap (λ (x : Reading). x .place .head) (v .done l .reading) ∙ place-head t h i
+  head-is l i = ap (λ (x : Reading). x .place .head) (v .reading l) ∙ place-head t h i
 
   module _ {u : Image} {q : Meter} (l : r .asked ≤ r .allowance) (i : h ≤ length t) where
     pub repaired-1 : Did t r (steps-1 t (reading-from t h)) u q → Mending s m (repair-1 w) u h q
     repaired-1 d =
         rw (repair-1-is w ∙ ap (after w (steps-1 (w .image) (w .reading))) (head-is l i))
-        (mending-more v (steps-1 (w .image) (w .reading)) h l (rw (ap₂ steps-1 (v .done l .image) (v .done l .reading)) d) (inr refl))
+        (mending-more v (steps-1 (w .image) (w .reading)) h l (rw (ap₂ steps-1 (v .image l) (v .reading l)) d) (inr refl))
 
     pub repaired-3 : Did t r (steps-3 t (reading-from t h)) u q → Mending s m (repair-3 w) u h q
     repaired-3 d =
         rw (repair-3-is w ∙ ap (after w (steps-3 (w .image) (w .reading))) (head-is l i))
-        (mending-more v (steps-3 (w .image) (w .reading)) h l (rw (ap₂ steps-3 (v .done l .image) (v .done l .reading)) d) (inr refl))
+        (mending-more v (steps-3 (w .image) (w .reading)) h l (rw (ap₂ steps-3 (v .image l) (v .reading l)) d) (inr refl))
 
     pub repaired-4 : Did t r (drop-steps (reading-from t h .entries)) u q → Mending s m (repair-4 w) u h q
     repaired-4 d =
         rw (repair-4-is w ∙ ap (after w (drop-steps (w .reading .entries))) (head-is l i))
-        (mending-more v (drop-steps (w .reading .entries)) h l (rw (ap (λ (x : Reading). drop-steps (x .entries)) (v .done l .reading)) d) (inr refl))
+        (mending-more v (drop-steps (w .reading .entries)) h l (rw (ap (λ (x : Reading). drop-steps (x .entries)) (v .reading l)) d) (inr refl))
 
     pub repaired-2 : (k : ℕ) → Handed t h r u k q → Mending s m (repair-2-on w) u k q
     repaired-2 k d =
         let N : ℕ = w .reading .place .length in
         let es : List Entry = w .reading .entries in
-        let n : N ≡ length t = ap (λ (x : Reading). x .place .length) (v .done l .reading) ∙ place-length t h i in
-        let e : es ≡ reading-from t h .entries = ap (λ (x : Reading). x .entries) (v .done l .reading) in
+        let n : N ≡ length t = ap (λ (x : Reading). x .place .length) (v .reading l) ∙ place-length t h i in
+        let e : es ≡ reading-from t h .entries = ap (λ (x : Reading). x .entries) (v .reading l) in
         let a : head-2 h es ≡ k = ap (head-2 h) e ∙ sym (d .handed) in
         rw (repair-2-is w h es, a)
         (mending-more v (steps-2 N es) k l (rw (ap₂ steps-2 n e) (d .did)) (rw (← a) (moves N h es)))

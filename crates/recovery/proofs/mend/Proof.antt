@@ -5,7 +5,7 @@ use lib.ListN.{length}
 use Rattle.spec.specs.Files.{files}
 use Rattle.reading.specs.Rest.{rest}
 use Rattle.reading.specs.Survey.{first-sound}
-use Rattle.recovery.specs.Counted.{counted-done}
+use Rattle.recovery.specs.Counted.{counted-cut, counted-done}
 use borrow.Author.Needs.{needs}
 use Rattle.recovery.proofs.mend.Statement.{statement}
 use Rattle.recovery.proofs.mend.Tie as tie
@@ -17,7 +17,7 @@ same-length : tie.Need-same-length
 same-length c = search needs
 
 returns : tie.Need-returns
-returns c = search needs
+returns c = counted-cut (c .before .before .before .before .before .repair .ensures .0) (c .if1 .taken)
 
 survey-requires : tie.Need-survey-requires
 survey-requires c κs = search needs

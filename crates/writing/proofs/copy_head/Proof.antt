@@ -4,8 +4,6 @@ use Rattle.writing.specs.Put.{never-full, spot, marker-spot, prepare-few
 use Rattle.writing.specs.Room.{placed-parts}
 use Rattle.writing.specs.declared.Old.the-variants.{At}
 use Rattle.spec.specs.Record.{size-of}
-use Prim.Native.Nat.{_+_}
-use lib.ListN.{getD}
 use mathlib.Core.Path.{sym, _∙_}
 use native.Mathlib.Omega.{arith}
 use borrow.Author.Needs.{needs}

@@ -3,9 +3,11 @@ use native.Mathlib.Omega.{arith}
 use mathlib.Core.Path.{sym, ap, _∙_}
 use lib.ListN.{length}
 use borrow.Author.Needs.{needs}
-use Rattle.reading.specs.Read.{answered}
+use Rattle.spec.specs.Answers.{mount-of}
+use Rattle.reading.specs.Read.{answered, reading-of}
 use Rattle.lilota.specs.Length.{good}
-use Rattle.lilota.specs.Mount.{legal-of, mount-good, mount-refused}
+use Rattle.lilota.specs.Carry.{read-refused, read-on}
+use Rattle.lilota.specs.Mount.{legal-of}
 use Rattle.lilota.proofs.mount.mount_read.Statement.{statement}
 use Rattle.lilota.proofs.mount.mount_read.Tie as tie
 
@@ -35,7 +37,7 @@ returns c =
     let a = c7 .before .before .before .args in
     let x = c .before .before .before .before .before .x .given in
     let told = sym (ap (answered (a .image .now)) (x .1)) ∙ c7 .read .ensures .0 in
-    c .before .before .mount-from .ensures ∙ mount-good (a .image .now) (a .allowance) (x .0 .0) told
+    c .before .before .mount-from .ensures ∙ read-on (a .image .now) (a .allowance) (reading-of (a .image .now) (x .0 .0)) (mount-of (a .image .now)) told
 
 same-length-2 : tie.Need-same-length-2
 same-length-2 c = search needs
@@ -45,7 +47,7 @@ returns-2 c =
     let a = c .before .before .before .before .before .before .args in
     let x = c .before .x2 .given in
     let told = sym (ap (answered (a .image .now)) (x .1)) ∙ c .before .before .before .read .ensures .0 in
-    mount-refused (a .image .now) (a .allowance) (x .0 .0) told
+    read-refused (a .image .now) (a .allowance) (x .0 .0) (mount-of (a .image .now)) told
 
 pub mount-read-spec : {M : Type 1} → statement M
 mount-read-spec =

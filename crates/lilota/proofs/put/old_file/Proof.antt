@@ -29,19 +29,23 @@ add-a c =
     let w = rw (c .before .before .f .given .1) at (c4 .file-named .ensures .1) in
     omega (arith, w .fits, c7 .pre .small)
 
-shared-slice-read-t8 : tie.Need-shared-slice-read-t8
-shared-slice-read-t8 c =
+shared-slice-read-from-byte : tie.Need-shared-slice-read-from-byte
+shared-slice-read-from-byte c =
     let c5 = c .before .before .before .before .before in
     let w = rw (c .before .before .before .f .given .1) at (c5 .file-named .ensures .1) in
     omega (arith, w .fits)
 
+from-byte-requires : tie.Need-from-byte-requires
+from-byte-requires c κs = search needs
+
 returns-2 : tie.Need-returns-2
 returns-2 c =
-    let c5 = c .before .before .before .before .before in
-    let a = c5 .before .before .before .args in
-    let f = c .before .before .before .f .given in
-    let w = rw (f .1) at (c5 .file-named .ensures .1) in
-    (old-is (a .image .now) (f .0 .0) _ (sym (ap (found-in (a .image .now)) (f .1)) ∙ c5 .file-named .ensures .0), omega (arith, w .fits))
+    let c6 = c .before .before .before .before .before .before in
+    let a = c6 .before .before .before .args in
+    let f = c .before .before .before .before .f .given in
+    let w = rw (f .1) at (c6 .file-named .ensures .1) in
+    let found = sym (ap (found-in (a .image .now)) (f .1)) ∙ c6 .file-named .ensures .0 in
+    (old-is (a .image .now) (f .0 .0) _ (c .from-byte .result) (c .from-byte .ensures) found, omega (arith, w .fits))
 
 pub old-file-spec : {M : Type 1} → statement M
 old-file-spec =
@@ -52,5 +56,6 @@ old-file-spec =
     enum-told
     returns
     add-a
-    shared-slice-read-t8
+    shared-slice-read-from-byte
+    from-byte-requires
     returns-2)
