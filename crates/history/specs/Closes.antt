@@ -14,17 +14,18 @@ use Rattle.spec.specs.Reading.{tail-blank}
 use Rattle.spec.specs.Move.{clean-steps, vacated, vacate-steps, close-steps}
 use Rattle.spec.specs.Mount.{erase-steps}
 use Rattle.spec.specs.History.{Ledger}
-use Rattle.history.specs.Lay.{blanks, low-start}
-use Rattle.history.specs.Seg.{seg-none}
-use Rattle.history.specs.StraightErase.{Cleaned}
-use Rattle.history.specs.StraightEdit.{relow}
-use Rattle.history.specs.Steps.{run-append}
-use Rattle.history.specs.Erase.{erases, length-erases, take-erases}
-use Rattle.history.specs.Laid.{Laid, Tail, low-high}
-use Rattle.history.specs.Safe.{Safe, safe-append, safe-from, safe-map, safe-end}
+use Rattle.history.specs.Blanks.{blanks}
 use Rattle.history.specs.Store.{alive, Unmarked}
-use Rattle.history.specs.Kinds.{Ok, place, clean, both, vacated as vacated-kind, Inv, Rested}
+use Rattle.history.specs.Lay.{low-start}
+use Rattle.history.specs.Markless.{Cleaned}
+use Rattle.history.specs.Seg.{seg-none}
+use Rattle.history.specs.Steps.{run-append}
+use Rattle.history.specs.Safe.{Safe, safe-append, safe-from, safe-map, safe-end}
+use Rattle.history.specs.Erase.{erases, length-erases, take-erases}
+use Rattle.history.specs.Laid.{Laid, Tail, low-high, place}
+use Rattle.history.specs.StraightEdit.{relow}
 use Rattle.history.specs.LaidEdit.{laid-head, relow-laid, entry-inside}
+use Rattle.history.specs.Kinds.{Ok, clean, both, vacated as vacated-kind, Inv, Rested}
 use Rattle.history.specs.OkLaws.{ok-same, ok-behead}
 use Rattle.history.specs.Vacant.{Here, tail-here, tail-along, rested-of, first-is, relow-alive, vacant-inv, bare-safe, bare-rested, rested-inv}
 use Rattle.history.specs.LaidClean.{anew, Swept, sweep-data}

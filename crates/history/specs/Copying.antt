@@ -16,20 +16,20 @@ use Rattle.spec.specs.Files.{named}
 use Rattle.spec.specs.Place.{fits, address, with-marker}
 use Rattle.spec.specs.Write.{migrate-steps, turn-steps, record-steps, put-steps}
 use Rattle.spec.specs.History.{File, Ledger, without, with-file, one-if-fc, three-if}
-use Rattle.history.specs.Lay.{blanks}
-use Rattle.history.specs.Seg.{seg-none}
-use Rattle.history.specs.Steps.{run-append}
-use Rattle.history.specs.Laid.{Laid}
-use Rattle.history.specs.LaidEdit.{laid-first, status-at, entry-inside}
-use Rattle.history.specs.LaidRead.{laid-reads}
-use Rattle.history.specs.Safe.{Safe, safe-append, safe-end, safe-map}
+use Rattle.history.specs.Lists.{keep-no, some-behind}
+use Rattle.history.specs.Blanks.{blanks}
 use Rattle.history.specs.Store.{alive}
 use Rattle.history.specs.Ledger.{as-file, Matches}
-use Rattle.history.specs.Lists.{keep-no, some-behind}
-use Rattle.history.specs.OkLaws.{old-some, ok-perm, ok-again}
+use Rattle.history.specs.Seg.{seg-none}
+use Rattle.history.specs.Steps.{run-append}
+use Rattle.history.specs.Safe.{Safe, safe-append, safe-end, safe-map}
+use Rattle.history.specs.Laid.{Laid}
+use Rattle.history.specs.LaidEdit.{laid-first, status-at, entry-inside}
 use Rattle.history.specs.Kinds.{Ok, Kind, quiet, half, shadow, clean, both, vacated, Inv, Rested}
-use Rattle.history.specs.Puts.{Commits, put-commits}
+use Rattle.history.specs.OkLaws.{old-some, ok-perm, ok-again}
+use Rattle.history.specs.LaidRead.{laid-reads}
 use Rattle.history.specs.Vacant.{first-is}
+use Rattle.history.specs.Puts.{Commits, put-commits}
 
 -- ---- the ledger in another order
 

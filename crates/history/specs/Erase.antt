@@ -9,11 +9,10 @@ use lib.Seq.{drop-drop, length-take-le, take-at, drop-at}
 use borrow.Author.Tests.{le-leb, lt-leb}
 use Rattle.spec.specs.Step.{Step, erase, sector, apply, run}
 use Rattle.spec.specs.Geometry.{sectors-by, sectors}
-use Rattle.history.specs.Lay.{blanks, drop-past}
+use Rattle.history.specs.Blanks.{blanks, blank-split}
+use Rattle.history.specs.Lay.{drop-past, body, onto}
+use Rattle.history.specs.Markless.{markless-blanks, markless-append, markless-drop, markless-take, Markless}
 use Rattle.spec.specs.Record.{Rec}
-use Rattle.history.specs.Lay.{body, onto}
-use Rattle.history.specs.Walk.{Quiet}
-use Rattle.history.specs.Quiet.{blank-split, quiet-blanks, quiet-append, quiet-drop, quiet-take}
 
 -- the erases of k sectors from a on
 abbrev pub erases : ℕ → ℕ → List Step
@@ -112,38 +111,38 @@ erase-cut i k a pre q s e l h =
         ∙ ap (λ (x : List ℕ). pre ++ x) (sym (append-assoc (blanks (4096 * i)) (take m d) (drop (4096 * k) q ++ s)))
 
 -- from the second sector on q has no mark: so neither has what is left
-module _ (k r : ℕ) (q : List ℕ) (long : length q ≡ 4096 * suc k + 8 * r) (quiet : Quiet (512 * k + r) (drop 4096 q)) where
-  later : (i : ℕ) → i ≤ k → Quiet (512 * (k - i) + r) (drop (4096 * suc i) q)
+module _ (k r : ℕ) (q : List ℕ) (long : length q ≡ 4096 * suc k + 8 * r) (markless : Markless (512 * k + r) (drop 4096 q)) where
+  later : (i : ℕ) → i ≤ k → Markless (512 * (k - i) + r) (drop (4096 * suc i) q)
   later i h =
       let e : 512 * k + r ≡ 512 * i + (512 * (k - i) + r) = omega arith in
       let d : 4096 + 8 * (512 * i) ≡ 4096 * suc i = omega arith in
-      subst (λ (n : ℕ). Quiet (512 * (k - i) + r) (drop n q)) d
+      subst (λ (n : ℕ). Markless (512 * (k - i) + r) (drop n q)) d
       (rw (drop-drop (8 * (512 * i)) 4096 q) at
-          (quiet-drop (512 * i) (512 * (k - i) + r) (drop 4096 q) (subst (λ (n : ℕ). Quiet n (drop 4096 q)) e quiet)))
+          (markless-drop (512 * i) (512 * (k - i) + r) (drop 4096 q) (subst (λ (n : ℕ). Markless n (drop 4096 q)) e markless)))
 
   -- what is left behind the sectors has no mark
-  pub quiet-lost : Quiet r (drop (4096 * suc k) q)
-  quiet-lost = let e : 512 * (k - k) + r ≡ r = omega arith in subst (λ (n : ℕ). Quiet n (drop (4096 * suc k) q)) e (later k (omega arith))
+  pub markless-lost : Markless r (drop (4096 * suc k) q)
+  markless-lost = let e : 512 * (k - k) + r ≡ r = omega arith in subst (λ (n : ℕ). Markless n (drop (4096 * suc k) q)) e (later k (omega arith))
 
   -- nor have the sectors, after the first erase
-  pub half-erased-quiet : (i : ℕ) → i ≤ k → Quiet (512 * suc k) (half-erased (suc i) (suc k) q)
-  half-erased-quiet i h =
+  pub half-erased-markless : (i : ℕ) → i ≤ k → Markless (512 * suc k) (half-erased (suc i) (suc k) q)
+  half-erased-markless i h =
       let d : List ℕ = drop (4096 * suc i) q in
       let m : ℕ = 4096 * (suc k - suc i) in
       let lm : length (take m d) ≡ 8 * (512 * (k - i)) = length-take-le m d (omega (arith, length-drop (4096 * suc i) q)) ∙ omega arith in
-      let a : Quiet (512 * (k - i)) (take m d) = quiet-take (512 * (k - i)) r (take m d) (drop m d) lm (rw (take-append-drop m d) (later i h)) in
+      let a : Markless (512 * (k - i)) (take m d) = markless-take (512 * (k - i)) r (take m d) (drop m d) lm (rw (take-append-drop m d) (later i h)) in
       let u : 8 * (512 * suc i) ≡ 4096 * suc i = omega arith in
       let v : 512 * suc i + 512 * (k - i) ≡ 512 * suc k = omega arith in
-      let b : Quiet (512 * suc i) (blanks (4096 * suc i)) = subst (λ (n : ℕ). Quiet (512 * suc i) (blanks n)) u (quiet-blanks (512 * suc i)) in
-      subst (λ (n : ℕ). Quiet n (half-erased (suc i) (suc k) q)) v
-      (quiet-append (512 * suc i) (512 * (k - i)) (blanks (4096 * suc i)) (take m d) (length-replicate (4096 * suc i) 255 ∙ omega arith) b a)
+      let b : Markless (512 * suc i) (blanks (4096 * suc i)) = subst (λ (n : ℕ). Markless (512 * suc i) (blanks n)) u (markless-blanks (512 * suc i)) in
+      subst (λ (n : ℕ). Markless n (half-erased (suc i) (suc k) q)) v
+      (markless-append (512 * suc i) (512 * (k - i)) (blanks (4096 * suc i)) (take m d) (length-replicate (4096 * suc i) 255 ∙ omega arith) b a)
 
 -- the head's first sector holds its header, so the rest of it has no mark
-pub quiet-second : (x : Rec) (lost z : List ℕ) (l w : ℕ) → length lost ≡ 8 * l → 8 * l < 4096 → Quiet (511 - l + w) (body (x .name) (x .content) z)
-    → Quiet w (drop 4096 (lost ++ onto x z))
-quiet-second x lost z l w e h q =
+pub markless-second : (x : Rec) (lost z : List ℕ) (l w : ℕ) → length lost ≡ 8 * l → 8 * l < 4096 → Markless (511 - l + w) (body (x .name) (x .content) z)
+    → Markless w (drop 4096 (lost ++ onto x z))
+markless-second x lost z l w e h q =
     let n : 4096 - 8 * l ≡ 8 + 8 * (511 - l) = omega arith in
     let d : drop 4096 (lost ++ onto x z) ≡ drop (8 * (511 - l)) (body (x .name) (x .content) z) =
     drop-past lost (onto x z) 4096 (4096 - 8 * l) (omega arith)
     ∙ ap (λ (m : ℕ). drop m (onto x z)) n ∙ sym (drop-drop (8 * (511 - l)) 8 (onto x z)) in
-    rw d (quiet-drop (511 - l) w (body (x .name) (x .content) z) q)
+    rw d (markless-drop (511 - l) w (body (x .name) (x .content) z) q)

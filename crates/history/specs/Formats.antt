@@ -15,15 +15,16 @@ use Rattle.spec.specs.Record.{Rec, Entry}
 use Rattle.spec.specs.Files.{named}
 use Rattle.spec.specs.Write.{first-steps, format-steps}
 use Rattle.spec.specs.Answers.{Plan, Outcome, doing, carry-out, format-plan, format}
-use Rattle.history.specs.Lay.{blanks, onto, lay, length-lay, low-start, st-00}
-use Rattle.history.specs.Quiet.{blank-split, quiet-blanks}
+use Rattle.history.specs.Lists.{and-left, and-right}
+use Rattle.history.specs.Blanks.{blanks, blank-split}
+use Rattle.history.specs.Store.{alive}
+use Rattle.history.specs.Lay.{onto, lay, length-lay, low-start, st-00}
+use Rattle.history.specs.Markless.{markless-blanks}
 use Rattle.history.specs.Seg.{seg-none}
 use Rattle.history.specs.Steps.{run-append}
 use Rattle.history.specs.Erase.{erase-run, sectors-are}
 use Rattle.history.specs.Straight.{Straight}
 use Rattle.history.specs.Laid.{laid-straight, tail-clear}
-use Rattle.history.specs.Lists.{and-left, and-right}
-use Rattle.history.specs.Store.{alive}
 use Rattle.history.specs.Kinds.{Ok, quiet, Inv}
 use Rattle.history.specs.Top.{carried-done, carried-cut}
 
@@ -61,10 +62,10 @@ fresh-straight f =
       is = refl;
       at = refl;
       gap-length = refl;
-      gap-quiet = tt;
+      gap-markless = tt;
       lost-length = refl;
       lost-small = omega arith;
-      lost-quiet = tt;
+      lost-markless = tt;
       front = no-front;
       fine = (record { low-ok = low-start; status-ok = st-00; fit = record { short = omega arith; plain = tt; small = omega arith } }, tt);
     }
@@ -91,7 +92,7 @@ fresh-inv f one g =
     record {
       good = ap good-length (length-lay (first ∷ []) (blanks (8 * f)) ∙ ap (λ (n : ℕ). 16 + n) (length-replicate {A = ℕ} (8 * f) 255)) ∙ g;
       kind =
-          quiet 0 (8 * f) (laid-straight f (fresh-straight f) refl refl refl (length-replicate {A = ℕ} (8 * f) 255) (quiet-blanks f))
+          quiet 0 (8 * f) (laid-straight f (fresh-straight f) refl refl refl (length-replicate {A = ℕ} (8 * f) 255) (markless-blanks f))
           (tail-clear (blanks (8 * f - 8)) (blank-split 8 (8 * f - 8) (8 * f) (omega arith)) refl refl) (refl, tt) fresh-ok;
     }
 

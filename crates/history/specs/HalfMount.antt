@@ -15,25 +15,26 @@ use Rattle.spec.specs.Move.{Work, begin, after}
 use Rattle.spec.specs.Mount.{torn-wrap-steps, repair-3}
 use Rattle.spec.specs.Demand.{Steps-sound}
 use Rattle.spec.specs.History.{Ledger}
-use Rattle.history.specs.Lay.{blanks, sizes, entries-of, Fine, rsize}
+use Rattle.history.specs.Lists.{some-behind}
+use Rattle.history.specs.Blanks.{blanks}
+use Rattle.history.specs.Store.{calm-ruled, Finished}
+use Rattle.history.specs.Lay.{sizes, entries-of, Fine, rsize}
 use Rattle.history.specs.Last.{Begun, begun-ff, begun-5a, torn-wrap}
 use Rattle.history.specs.Seg.{seg-none}
+use Rattle.history.specs.Safe.{sound-past}
 use Rattle.history.specs.Straight.{Straight}
-use Rattle.history.specs.StraightEdit.{other, front-part, front-length, split-at, run-behind}
 use Rattle.history.specs.Turned.{Turned, marker}
+use Rattle.history.specs.Marker.{turned-gap}
 use Rattle.history.specs.Whole.{torn-wrap-whole}
 use Rattle.history.specs.Laid.{laid-turned, clear-ff}
-use Rattle.history.specs.Safe.{sound-past}
-use Rattle.history.specs.Store.{calm-ruled, Finished}
-use Rattle.history.specs.Settled.{one-none, last-none}
-use Rattle.history.specs.Kinds.{Ok, Starts, half, Inv, Rested}
-use Rattle.history.specs.Closes.{Rests}
-use Rattle.history.specs.Rules.{calm-of, fine-finished}
-use Rattle.history.specs.Idle.{Mends, mends-3, starts-clean, two-plain}
-use Rattle.history.specs.Vacant.{rested-of, rested-inv}
+use Rattle.history.specs.StraightEdit.{other, front-part, front-length, split-at, run-behind}
 use Rattle.history.specs.Entries.{entries-fine}
-use Rattle.history.specs.Lists.{some-behind}
-use Rattle.history.specs.Marker.{turned-gap}
+use Rattle.history.specs.Kinds.{Ok, Starts, half, Inv, Rested}
+use Rattle.history.specs.Rules.{calm-of, fine-finished}
+use Rattle.history.specs.Settled.{one-none, last-none}
+use Rattle.history.specs.Vacant.{rested-of, rested-inv}
+use Rattle.history.specs.Closes.{Rests}
+use Rattle.history.specs.Idle.{Mends, mends-3, starts-clean, two-plain}
 
 -- from its second byte on
 abbrev finish : List Step

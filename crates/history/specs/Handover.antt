@@ -13,17 +13,18 @@ use Rattle.spec.specs.Move.{close-steps, vacated-end}
 use Rattle.spec.specs.Chain.{Reading}
 use Rattle.spec.specs.History.{Ledger}
 use Rattle.spec.specs.Demand.{Sound}
-use Rattle.history.specs.Lay.{blanks, rsize, entries-of, low-clean}
-use Rattle.history.specs.Seg.{Seg, seg-none}
-use Rattle.history.specs.StraightEdit.{relow}
-use Rattle.history.specs.Laid.{Laid, laid-straight, laid-turned, Lowered, low-high, low-zero}
-use Rattle.history.specs.LaidEdit.{laid-fine, relow-laid, low-at, entry-inside}
+use Rattle.history.specs.Blanks.{blanks}
 use Rattle.history.specs.Store.{alive}
-use Rattle.history.specs.OkLaws.{ok-same}
+use Rattle.history.specs.Lay.{rsize, entries-of, low-clean}
+use Rattle.history.specs.Seg.{Seg, seg-none}
+use Rattle.history.specs.Laid.{Laid, laid-straight, laid-turned, Lowered, low-high, low-zero}
+use Rattle.history.specs.StraightEdit.{relow}
+use Rattle.history.specs.LaidEdit.{laid-fine, relow-laid, low-at, entry-inside}
 use Rattle.history.specs.Kinds.{Ok, Starts, Rested}
-use Rattle.history.specs.Closes.{Rests, close-rests}
-use Rattle.history.specs.Vacant.{relow-alive, rested-inv}
+use Rattle.history.specs.OkLaws.{ok-same}
 use Rattle.history.specs.LaidRead.{low-plain}
+use Rattle.history.specs.Vacant.{relow-alive, rested-inv}
+use Rattle.history.specs.Closes.{Rests, close-rests}
 
 -- the second record stands behind the head, or at 0 after the turn
 second-at : (h : ℕ) (x y : Entry) (es : List Entry) (r : Rec) (ys low : List Rec) → x ∷ y ∷ es ≡ entries-of h (r ∷ ys) ++ entries-of 0 low

@@ -13,10 +13,11 @@ use Rattle.spec.specs.Bytes.{is-record, is-wrap, is-start, is-clean, is-high, i
 use Rattle.spec.specs.Record.{start-here, clean-here, wrap-here, size-of, Rec}
 use Rattle.spec.specs.Head.{torn-here, walk, search, sought, chosen, head}
 use Rattle.spec.specs.Move.{mark-here}
-use Rattle.history.specs.Lay.{blanks, onto, lay, sizes, Fit, All-fine, drop-onto, length-lay, drop-lay, lots}
+use Rattle.history.specs.Blanks.{blanks}
+use Rattle.history.specs.Lay.{onto, lay, sizes, Fit, All-fine, drop-onto, length-lay, drop-lay, lots}
 use Rattle.history.specs.Last.{Begun, begun-ff, begun-5a, Name-begun, begun-none, begun-end, torn, held, begun, drop-begun}
-use Rattle.history.specs.Walk.{Quiet, Walks, walks-record, walks-clean, Walked, walk-lay, walk-begun, walk-held, Lands, Lands₁, lands-more, lands-quiet, lands-torn-like, lands-head, Head-low, is-START, is-CLEAN, no-start, no-clean, mark-append, search-found, search-none}
-use Rattle.history.specs.Quiet.{mark-nil}
+use Rattle.history.specs.Markless.{mark-nil, no-start, no-clean, Markless, mark-append}
+use Rattle.history.specs.Walk.{Walks, walks-record, walks-clean, Walked, walk-lay, walk-begun, walk-held, Lands, Lands₁, lands-more, lands-markless, lands-torn-like, lands-head, Head-low, is-START, is-CLEAN, search-found, search-none}
 
 -- ---- the choice
 
@@ -69,7 +70,7 @@ pub record Reaching (L : ℕ → ℕ → List ℕ → List ℕ → Type 0) (at :
   pub j : ℕ
   pub land : L at by s (g ++ t)
   pub whole : length g ≡ 8 * j
-  pub quiet : Quiet j g
+  pub markless : Markless j g
   pub far : by + 8 * j ≡ m
 
 -- with fuel for one step of the walk
@@ -81,15 +82,15 @@ abbrev pub Reaches : ℕ → List ℕ → List ℕ → ℕ → Type 0
 Reaches at s t m = Reaching Lands at s t m
 
 pub reaches-more : {at m : ℕ} {s t : List ℕ} → Reaches₁ at s t m → Reaches at s t m
-reaches-more r = record { by = r .by; g = r .g; j = r .j; land = lands-more (r .land); whole = r .whole; quiet = r .quiet; far = r .far }
+reaches-more r = record { by = r .by; g = r .g; j = r .j; land = lands-more (r .land); whole = r .whole; markless = r .markless; far = r .far }
 
 -- the head stands right there
 reaches-head : {b : ℕ} (at : ℕ) (t : List ℕ) → Head-low b → (at ≡ 0 → ⊥) → Reaches₁ at (b ∷ 90 ∷ t) (b ∷ 90 ∷ t) 0
-reaches-head at t b h = record { by = 0; g = []; j = 0; land = lands-head at t b h; whole = refl; quiet = tt; far = refl }
+reaches-head at t b h = record { by = 0; g = []; j = 0; land = lands-head at t b h; whole = refl; markless = tt; far = refl }
 
 -- a region without marks, at least a word
-pub reaches-quiet : (at j : ℕ) (g t : List ℕ) → length g ≡ 8 * suc j → Quiet (suc j) g → Reaches₁ at (g ++ t) t (8 * suc j)
-reaches-quiet at j g t e q = go (torn-here (g ++ t)) refl
+pub reaches-markless : (at j : ℕ) (g t : List ℕ) → length g ≡ 8 * suc j → Markless (suc j) g → Reaches₁ at (g ++ t) t (8 * suc j)
+reaches-markless at j g t e q = go (torn-here (g ++ t)) refl
   where
     go : (b : Bool) → torn-here (g ++ t) ≡ b → Reaches₁ at (g ++ t) t (8 * suc j)
     go false h =
@@ -97,9 +98,9 @@ reaches-quiet at j g t e q = go (torn-here (g ++ t)) refl
           by = 0;
           g = g;
           j = suc j;
-          land = lands-quiet at (g ++ t) (mark-append g t (omega arith) ∙ q .0) h;
+          land = lands-markless at (g ++ t) (mark-append g t (omega arith) ∙ q .0) h;
           whole = e;
-          quiet = q;
+          markless = q;
           far = zero-add (8 * suc j);
         }
     go true h =
@@ -109,16 +110,16 @@ reaches-quiet at j g t e q = go (torn-here (g ++ t)) refl
           j = j;
           land = subst (λ (l : List ℕ). Lands₁ at 8 (g ++ t) l) (drop-append-le 8 g t (omega arith)) (lands-torn-like at (g ++ t) h);
           whole = length-drop 8 g ∙ omega arith;
-          quiet = q .1;
+          markless = q .1;
           far = omega arith;
         }
 
 -- the same, or nothing before a head that isn't at 0
-pub reaches-gap : {b : ℕ} (at j : ℕ) (g t : List ℕ) → length g ≡ 8 * j → Quiet j g → Head-low b → (at ≡ 0 → ⊥)
+pub reaches-gap : {b : ℕ} (at j : ℕ) (g t : List ℕ) → length g ≡ 8 * j → Markless j g → Head-low b → (at ≡ 0 → ⊥)
     → Reaches₁ at (g ++ (b ∷ 90 ∷ t)) (b ∷ 90 ∷ t) (8 * j)
 reaches-gap at zero [] t e q h n = reaches-head at t h n
 reaches-gap at zero (x ∷ g) t e q h n = absurd (omega arith)
-reaches-gap {b} at (suc j) g t e q h n = reaches-quiet at j g (b ∷ 90 ∷ t) e q
+reaches-gap {b} at (suc j) g t e q h n = reaches-markless at j g (b ∷ 90 ∷ t) e q
 
 -- an unfinished thing before that
 torn-lands : {c : ℕ} (t x y z w : ℕ) (s : List ℕ) → Begun c → torn-here (torn c (x ∷ y ∷ z ∷ w ∷ []) t s) ≡ true
@@ -126,13 +127,13 @@ unfolding is-erased is-record is-high-begun
 torn-lands t x y z w s begun-ff = refl
 torn-lands t x y z w s begun-5a = refl
 
-quiet-name-begun : {t : ℕ} (s : List ℕ) → Name-begun t → mark-here (t ∷ (blanks 7 ++ s)) ≡ false
+markless-name-begun : {t : ℕ} (s : List ℕ) → Name-begun t → mark-here (t ∷ (blanks 7 ++ s)) ≡ false
 unfolding is-start is-clean is-record is-high
-quiet-name-begun s begun-none = refl
-quiet-name-begun s begun-end = refl
+markless-name-begun s begun-none = refl
+markless-name-begun s begun-end = refl
 
 -- behind a torn record
-pub reaches-torn : {c t : ℕ} (at x y z w j : ℕ) (g s : List ℕ) → Begun c → Name-begun t → length g ≡ 8 * j → Quiet j g
+pub reaches-torn : {c t : ℕ} (at x y z w j : ℕ) (g s : List ℕ) → Begun c → Name-begun t → length g ≡ 8 * j → Markless j g
     → Reaches₁ at (torn c (x ∷ y ∷ z ∷ w ∷ []) t (g ++ s)) s (16 + 8 * j)
 reaches-torn {c} {t} at x y z w j g s b n e q =
     record {
@@ -141,7 +142,7 @@ reaches-torn {c} {t} at x y z w j g s b n e q =
       j = suc j;
       land = lands-torn-like at (torn c (x ∷ y ∷ z ∷ w ∷ []) t (g ++ s)) (torn-lands t x y z w (g ++ s) b);
       whole = omega arith;
-      quiet = (quiet-name-begun g n, q);
+      markless = (markless-name-begun g n, q);
       far = omega arith;
     }
 
@@ -158,7 +159,7 @@ reaches-begun at d n s t f r =
         there = sym (drop-drop (r .by) (size-of (length n) d) (begun d n s)) ∙ ap (drop (r .by)) (drop-begun d n s) ∙ r .land .there;
       };
       whole = r .whole;
-      quiet = r .quiet;
+      markless = r .markless;
       far = omega (arith, r .far);
     }
 
@@ -176,7 +177,7 @@ reaches-held at n c s t f z =
             sym (drop-drop (z .by) (size-of (length n) (length c)) (onto (held n c) s)) ∙ ap (drop (z .by)) (drop-onto (held n c) s) ∙ z .land .there;
       };
       whole = z .whole;
-      quiet = z .quiet;
+      markless = z .markless;
       far = omega (arith, z .far);
     }
 
@@ -230,7 +231,7 @@ found {b} low s t m f w h r =
     
     let p : 8 * r .j + 2 + length t + r .by ≤ length s = omega (arith, r .whole) in
     searched low (r .by) s (r .g ++ (b ∷ 90 ∷ t)) f w (r .land) (omega (arith, length-lay low s)) (sizes low + m)
-    (search-found (r .j) (length (lay low s)) (sizes low + r .by) (r .g) t (r .whole) (r .quiet) h (omega (arith, length-lay low s))
+    (search-found (r .j) (length (lay low s)) (sizes low + r .by) (r .g) t (r .whole) (r .markless) h (omega (arith, length-lay low s))
         ∙ omega (arith, r .far))
 
 there-is : {b : ℕ} (low : List Rec) (s t : List ℕ) (m : ℕ) → Reaches (sizes low) s (b ∷ 90 ∷ t) m → drop (sizes low + m) (lay low s) ≡ b ∷ 90 ∷ t
@@ -276,10 +277,10 @@ unfolding is-erased
 nil-no-torn = refl
 
 -- nothing but what has no mark
-pub reaches-end : (at j : ℕ) (g : List ℕ) → length g ≡ 8 * j → Quiet j g → Reaches₁ at g [] (8 * j)
-reaches-end at zero [] e q = record { by = 0; g = []; j = 0; land = lands-quiet at [] mark-nil nil-no-torn; whole = refl; quiet = tt; far = refl }
+pub reaches-end : (at j : ℕ) (g : List ℕ) → length g ≡ 8 * j → Markless j g → Reaches₁ at g [] (8 * j)
+reaches-end at zero [] e q = record { by = 0; g = []; j = 0; land = lands-markless at [] mark-nil nil-no-torn; whole = refl; markless = tt; far = refl }
 reaches-end at zero (x ∷ g) e q = absurd (omega arith)
-reaches-end at (suc j) g e q = subst (λ (l : List ℕ). Reaches₁ at l [] (8 * suc j)) (append-nil g) (reaches-quiet at j g [] e q)
+reaches-end at (suc j) g e q = subst (λ (l : List ℕ). Reaches₁ at l [] (8 * suc j)) (append-nil g) (reaches-markless at j g [] e q)
 
 nothing : (low : List Rec) (s : List ℕ) (m : ℕ) → All-fine low → Walked 0 low → 1 ≤ length (lay low s) → Reaches (sizes low) s [] m →
     sought-at (lay low s) ≡ sizes low + m
@@ -287,7 +288,7 @@ nothing low s m f w l r =
     let e : length s - r .by ≡ length (r .g) + 0 = sym (length-drop (r .by) s) ∙ ap length (r .land .there) ∙ length-append (r .g) [] in
     searched low (r .by) s (r .g ++ []) f w (r .land) l (sizes low + m)
     (ap (search (length (lay low s)) (sizes low + r .by)) (append-nil (r .g))
-    ∙ search-none (r .j) (length (lay low s)) (sizes low + r .by) (r .g) (r .whole) (r .quiet) (omega (arith, length-lay low s, r .whole))
+    ∙ search-none (r .j) (length (lay low s)) (sizes low + r .by) (r .g) (r .whole) (r .markless) (omega (arith, length-lay low s, r .whole))
         ∙ omega (arith, r .far))
 
 none-there : (low : List Rec) (s : List ℕ) (m : ℕ) → Reaches (sizes low) s [] m → drop (sizes low + m) (lay low s) ≡ []

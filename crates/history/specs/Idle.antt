@@ -11,14 +11,14 @@ use Rattle.spec.specs.Reading.{head-clean, reading}
 use Rattle.spec.specs.Move.{Work, begin, reread, after}
 use Rattle.spec.specs.Mount.{repair-1, repair-2, repair-2-on, repair-3, repair-4, mended}
 use Rattle.spec.specs.History.{Ledger}
-use Rattle.history.specs.Safe.{Safe}
 use Rattle.history.specs.Store.{Finished, Unique}
-use Rattle.history.specs.Settled.{one-none, two-none, three-none, four-none}
+use Rattle.history.specs.Safe.{Safe}
 use Rattle.history.specs.Whole.{is-clean-0}
-use Rattle.history.specs.Kinds.{Starts, Inv, Rested}
 use Rattle.history.specs.LaidEdit.{laid-fine}
-use Rattle.history.specs.Closes.{Rests}
+use Rattle.history.specs.Kinds.{Starts, Inv, Rested}
 use Rattle.history.specs.Rules.{fine-finished}
+use Rattle.history.specs.Settled.{one-none, two-none, three-none, four-none}
+use Rattle.history.specs.Closes.{Rests}
 
 -- the head is START, so it is not CLEAN
 pub starts-clean : (es : List Entry) → Starts es → head-clean es ≡ false

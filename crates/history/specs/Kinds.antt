@@ -15,7 +15,6 @@ use mathlib.Core.Path.{_≡_}
 use mathlib.Core.Bool.{Bool, true, false}
 use mathlib.Core.List.{List, [], _∷_, _++_}
 use lib.ListN.{length}
-use Rattle.spec.specs.declared.Place.{Place}
 use Rattle.spec.specs.Step.{Image}
 use Rattle.spec.specs.Basics.{Each}
 use Rattle.spec.specs.Geometry.{good-length, floor}
@@ -24,15 +23,16 @@ use Rattle.spec.specs.declared.Ending.{Ending}
 use Rattle.spec.specs.Chain.{Reading, read}
 use Rattle.spec.specs.Reading.{tail-blank}
 use Rattle.spec.specs.History.{Ledger}
-use Rattle.history.specs.Lay.{blanks, entries-of}
+use Rattle.history.specs.Blanks.{blanks}
+use Rattle.history.specs.Store.{alive, Unique, Well-named, Unmarked}
+use Rattle.history.specs.Ledger.{Matches}
+use Rattle.history.specs.Shadow.{Shadowed}
+use Rattle.history.specs.Lay.{entries-of}
 use Rattle.history.specs.Last.{Begun, torn-wrap}
+use Rattle.history.specs.Markless.{Cleaned}
 use Rattle.history.specs.Seg.{Seg, seg-none}
 use Rattle.history.specs.Straight.{Straight}
-use Rattle.history.specs.StraightErase.{Cleaned}
-use Rattle.history.specs.Laid.{Laid, Tail}
-use Rattle.history.specs.Store.{alive, Unique, Well-named, Unmarked}
-use Rattle.history.specs.Shadow.{Shadowed}
-use Rattle.history.specs.Ledger.{Matches}
+use Rattle.history.specs.Laid.{Laid, Tail, place}
 
 -- each is a byte
 abbrev pub Bytes : List ℕ → Type 0
@@ -53,10 +53,6 @@ pub record Ok (es : List Entry) (l : Ledger) : Type 0 where
 abbrev pub Starts : List Entry → Type 0
 Starts [] = ⊥
 Starts (x ∷ es) = (x .it .low ≡ 0) × Each Unmarked es
-
--- head, tail, turn and length as a place
-abbrev pub place : Image → ℕ → ℕ → Bool → Place
-place im h T t = record { head = h; tail = T; turned = t; length = length im }
 
 -- the six kinds
 pub data Kind (im : Image) (l : Ledger) : Type 0 where

@@ -10,12 +10,17 @@ use Rattle.spec.specs.Geometry.{floor}
 use Rattle.spec.specs.Record.{Rec, Entry}
 use native.Mathlib.Omega.{arith}
 use native.Mathlib.Nat.{add-zero}
-use Rattle.history.specs.Lay.{blanks, onto, rsize, sizes, entries-of, Fine}
-use Rattle.history.specs.Walk.{Quiet}
+use Rattle.history.specs.Blanks.{blanks, blank-split}
+use Rattle.history.specs.Lay.{onto, rsize, sizes, entries-of, Fine}
+use Rattle.history.specs.Markless.{Markless}
 use Rattle.history.specs.Seg.{Seg, seg-none, seg-onto, seg-size}
 use Rattle.history.specs.Straight.{Straight}
 use Rattle.history.specs.Turned.{Turned, End, Opens}
-use Rattle.history.specs.Quiet.{blank-split}
+use Rattle.spec.specs.declared.Place.{Place}
+
+-- head, tail, turn and length as a place
+abbrev pub place : Image → ℕ → ℕ → Bool → Place
+place im h T t = record { head = h; tail = T; turned = t; length = length im }
 
 -- An image with head h. es are its finished records in chain order; the next thing stands at S: seg, what is unfinished there, and behind it
 -- free, up to N before the turn (t false) and up to floor(h) after it. below are the bytes of [0, floor(h)) before the turn.
@@ -23,7 +28,7 @@ pub data Laid (im : Image) (h S : ℕ) (t : Bool) (es : List Entry) (seg : Seg) 
   laid-straight :
       {a l : ℕ} {lost : List ℕ} {x : Rec} {ys : List Rec} (f : ℕ) → Straight im a l below lost h (x ∷ ys) seg free → t ≡ false
           → S ≡ h + sizes (x ∷ ys) →
-      es ≡ entries-of h (x ∷ ys) → length free ≡ 8 * f → Quiet f free → Laid im h S t es seg below free
+      es ≡ entries-of h (x ∷ ys) → length free ≡ 8 * f → Markless f free → Laid im h S t es seg below free
   laid-turned :
       {a l f : ℕ} {lost : List ℕ} {low : List Rec} {x : Rec} {ys : List Rec} {end : End} → Turned im a l lost h low seg f free (x ∷ ys) end → t ≡ true
           → S ≡ sizes low →
@@ -38,11 +43,11 @@ pub record Hole (im : Image) (h S : ℕ) (t : Bool) (es : List Entry) (seg : Seg
   pub is : im ≡ pre ++ seg-onto seg (free ++ post)
   pub at : length pre ≡ S
   pub plug :
-      (g : Seg) (f : ℕ) (new : List ℕ) (x : Next) → length new ≡ 8 * f → Quiet f new → Opens new x
+      (g : Seg) (f : ℕ) (new : List ℕ) (x : Next) → length new ≡ 8 * f → Markless f new → Opens new x
           → seg-size g + length new ≡ seg-size seg + length free →
       Laid (pre ++ seg-onto g (new ++ post)) h S t es g below new
   pub grow :
-      (r : Rec) (f : ℕ) (new : List ℕ) (x : Next) → Fine r → r .low ≡ 165 → length new ≡ 8 * f → Quiet f new → Opens new x
+      (r : Rec) (f : ℕ) (new : List ℕ) (x : Next) → Fine r → r .low ≡ 165 → length new ≡ 8 * f → Markless f new → Opens new x
           → rsize r + length new ≡ seg-size seg + length free →
       Laid (pre ++ onto r (new ++ post)) h (S + rsize r) t (es ++ (record { at = S; it = r } ∷ [])) seg-none below new
 

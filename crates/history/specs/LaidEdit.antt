@@ -13,19 +13,19 @@ use Rattle.spec.specs.Geometry.{floor}
 use Rattle.spec.specs.Record.{Rec, Entry}
 use Rattle.spec.specs.Reading.{limit}
 use Rattle.spec.specs.Write.{marker-steps}
-use Rattle.history.specs.Lay.{blanks, onto, rsize, sizes, entries-of, length-lay, Fine, Low, Stat}
+use Rattle.history.specs.Lists.{not-both}
+use Rattle.history.specs.Blanks.{blanks}
+use Rattle.history.specs.Lay.{onto, rsize, sizes, entries-of, length-lay, Fine, Low, Stat}
+use Rattle.history.specs.Markless.{Markless}
 use Rattle.history.specs.Seg.{Seg, seg-none, seg-size}
 use Rattle.history.specs.Steps.{set-past}
 use Rattle.history.specs.Straight.{bottom}
-use Rattle.history.specs.StraightEdit.{restatus, relow, straight-length}
 use Rattle.history.specs.Marker.{turned-by, turned-exact}
+use Rattle.history.specs.Laid.{Laid, laid-straight, laid-turned, Hole, Inside, Lowered, low-same, place}
+use Rattle.history.specs.StraightEdit.{restatus, relow, straight-length}
 use Rattle.history.specs.Entries.{entries-fine, Found, in-first, in-second, find, among}
-use Rattle.history.specs.Laid.{Laid, laid-straight, laid-turned, Hole, Inside, Lowered, low-same}
 use Rattle.history.specs.StraightLaid.{straight-hole, straight-inside}
 use Rattle.history.specs.TurnedLaid.{turned-hole, high-inside, low-inside, turned-length}
-use Rattle.history.specs.Kinds.{place}
-use Rattle.history.specs.Lists.{not-both}
-use Rattle.history.specs.Walk.{Quiet}
 
 -- ---- measures
 
@@ -192,7 +192,7 @@ turn-exact {im} {h} {S} {B} {es} (laid-straight {a = a} {lost = lost} {x = x} {y
 turn-exact (laid-turned s p q r e) b = absurd (not-both false refl p)
 
 -- the free run is words and has no mark
-pub free-quiet : {im : Image} {h S : ℕ} {t : Bool} {es : List Entry} {seg : Seg} {below free : List ℕ} → Laid im h S t es seg below free → (f : ℕ)
-    × (length free ≡ 8 * f) × Quiet f free
-free-quiet (laid-straight f s t₁ S₁ e₁ lf qf) = (f, lf, qf)
-free-quiet (laid-turned {f = f} s t₁ S₁ e₁ b) = (f, s .free-length, s .free-quiet)
+pub free-markless : {im : Image} {h S : ℕ} {t : Bool} {es : List Entry} {seg : Seg} {below free : List ℕ} → Laid im h S t es seg below free → (f : ℕ)
+    × (length free ≡ 8 * f) × Markless f free
+free-markless (laid-straight f s t₁ S₁ e₁ lf qf) = (f, lf, qf)
+free-markless (laid-turned {f = f} s t₁ S₁ e₁ b) = (f, s .free-length, s .free-markless)

@@ -15,19 +15,19 @@ use Rattle.spec.specs.Geometry.{good-length, floor, sectors}
 use Rattle.spec.specs.Record.{Rec, Entry}
 use Rattle.spec.specs.Move.{vacated-end, vacated}
 use Rattle.spec.specs.Bytes.{is-start, is-clean, is-record, is-high}
-use Rattle.history.specs.Lay.{blanks, body, onto, rsize, sizes, entries-of, length-lay, length-body}
-use Rattle.history.specs.Walk.{Quiet}
-use Rattle.history.specs.Quiet.{quiet-append, quiet-blanks}
+use Rattle.history.specs.Blanks.{blanks, split-front}
+use Rattle.history.specs.Lay.{body, onto, rsize, sizes, entries-of, length-lay, length-body, rsize-words}
+use Rattle.history.specs.Markless.{markless-append, markless-blanks, Markless, Cleaned}
 use Rattle.history.specs.Seg.{seg-none}
 use Rattle.history.specs.Erase.{erases, length-sector, sectors-are, half-erased, half-erased-length, all-erased, take-erases}
 use Rattle.history.specs.Straight.{Straight}
-use Rattle.history.specs.StraightEdit.{straight-length}
-use Rattle.history.specs.StraightErase.{Cleaned, rsize-words, old-head, to-m3, vacated-are, done}
 use Rattle.history.specs.Turned.{Turned, End, exact, marker, end-bytes, Opens, open-ff, opens-blanks}
-use Rattle.history.specs.TurnedErase.{turned-m3, last-head, zero-m3, zero-quiet}
 use Rattle.history.specs.Laid.{Laid, laid-straight, laid-turned, Tail, tail-clear, tail-floor, tail-N, tail-turn, Bare, clear-ff}
-use Rattle.history.specs.Vacant.{Vacant, vacant-at, good-mod}
+use Rattle.history.specs.StraightEdit.{straight-length}
 use Rattle.history.specs.TurnedLaid.{turned-length}
+use Rattle.history.specs.Vacant.{Vacant, vacant-at, good-mod}
+use Rattle.history.specs.StraightErase.{old-head, to-m3, vacated-are, done}
+use Rattle.history.specs.TurnedErase.{turned-m3, last-head, zero-m3, zero-markless}
 
 -- X is left behind: with no erase, or with k + 1 of them
 pub data Leaves (im : Image) (x y : Entry) (es : List Entry) : Type 0 where
@@ -88,10 +88,6 @@ vacated-all N x y a k z e n =
 
 -- ---- FF in front
 
--- FF, and FF with remains behind
-pub join-ff : (B n : ℕ) (s : List ℕ) → blanks B ++ (blanks n ++ s) ≡ blanks (B + n) ++ s
-join-ff B n s = sym (append-assoc (blanks B) (blanks n) s) ∙ ap (λ (l : List ℕ). l ++ s) (replicate-append-replicate B n 255)
-
 -- a chain that ends at N has turned once there are sectors below the head
 turn-open : {im : List ℕ} {a l : ℕ} {gap lost : List ℕ} {h : ℕ} {high : List Rec} → Straight im a l gap lost h high seg-none [] → Opens gap Next.Clear
     → 1 ≤ a →
@@ -103,12 +99,12 @@ turn-open s o b =
       some-below = b;
       below = omega arith;
       free-length = s .gap-length ∙ omega arith;
-      free-quiet = s .gap-quiet;
+      free-markless = s .gap-markless;
       opened = Next.Clear;
       opens = o;
       lost-length = s .lost-length;
       lost-small = s .lost-small;
-      lost-quiet = s .lost-quiet;
+      lost-markless = s .lost-markless;
       fine-low = tt;
       walked = tt;
       fine-high = s .fine;
@@ -128,7 +124,7 @@ module _ {im : Image} {a l : ℕ} {lost : List ℕ} {h : ℕ} {x y : Rec} {ys : 
   abbrev E : List Entry
   E = entries-of (h + rsize x + rsize y) ys
 
-  module _ (k r : ℕ) (all : 512 * suc k + r ≡ l + rsize x / 8) (short : r < 512) (f : ℕ) (lf : length (blanks F) ≡ 8 * f) (qf : Quiet f (blanks F))
+  module _ (k r : ℕ) (all : 512 * suc k + r ≡ l + rsize x / 8) (short : r < 512) (f : ℕ) (lf : length (blanks F) ≡ 8 * f) (qf : Markless f (blanks F))
       where
     abbrev A : ℕ
     A = 4096 * a
@@ -172,11 +168,11 @@ module _ {im : Image} {a l : ℕ} {lost : List ℕ} {h : ℕ} {x y : Rec} {ys : 
         λ i p. turn-open (subst (λ (m : List ℕ). Straight (run im (take (suc i) (erases A (suc k)))) (a + suc k) r
             (blanks B ++ half-erased (suc i) (suc k) q) (drop (4096 * suc k) q)
         (h + rsize x) (y ∷ ys) seg-none m) z (to-m3 s c k r all short i p))
-        (open-ff (B + 4096 * suc i) (rest i) (blanks B ++ half-erased (suc i) (suc k) q) (join-ff B (4096 * suc i) (rest i)) (omega arith))
+        (open-ff (B + 4096 * suc i) (rest i) (blanks B ++ half-erased (suc i) (suc k) q) (sym (split-front B (4096 * suc i) (B + (4096 * suc i)) (rest i) refl)) (omega arith))
             (omega arith) in
         far A k 0 true (vacated-are (length im) h x y a l k r (s .at) (s .lost-small) all short) (omega arith) sectors-in
         (λ i p. vacant-at (laid-turned (v i p) refl refl (sym (append-nil (entries-of (h + rsize x) (y ∷ ys)))) refl) (B + 4096 * suc i) (rest i)
-            (join-ff B (4096 * suc i) (rest i)) (omega arith))
+            (sym (split-front B (4096 * suc i) (B + (4096 * suc i)) (rest i) refl)) (omega arith))
         (record {
           S = 0;
           B = 0;
@@ -193,7 +189,7 @@ module _ {im : Image} {a l : ℕ} {lost : List ℕ} {h : ℕ} {x y : Rec} {ys : 
     straight-far S e (tail-N p i j m n) = straight-full p
     straight-far S e (tail-turn s₈ p i j m n o) = absurd (j refl)
 
-  straight-leaves : (f : ℕ) → length (blanks F) ≡ 8 * f → Quiet f (blanks F) → (S : ℕ) → S ≡ h + sizes (x ∷ y ∷ ys)
+  straight-leaves : (f : ℕ) → length (blanks F) ≡ 8 * f → Markless f (blanks F) → (S : ℕ) → S ≡ h + sizes (x ∷ y ∷ ys)
       → Tail h S false seg-none (blanks B) (blanks F) S false → Leaves im X Y E
   straight-leaves f lf qf S e t =
       by-sectors (l + rsize x / 8)
@@ -234,7 +230,7 @@ module _ {im : Image} {a l : ℕ} {lost : List ℕ} {h : ℕ} {low : List Rec} {
       far A k (sizes low) true (vacated-are (length im) h x y a l k r (s .at) (s .lost-small) all short) (omega arith)
           (omega (arith, s .at, rsize-words x, turned-length s))
       (λ i e. vacant-at (laid-turned (turned-m3 s c k r all short i e) refl refl refl refl) (F + 4096 * suc i) (rest i)
-          (join-ff F (4096 * suc i) (rest i)) (omega (arith, s .below, F-is)))
+          (sym (split-front F (4096 * suc i) (F + (4096 * suc i)) (rest i) refl)) (omega (arith, s .below, F-is)))
       (record {
         S = sizes low;
         B = 0;
@@ -255,13 +251,13 @@ module _ {im : Image} {a l : ℕ} {lost : List ℕ} {h : ℕ} {low : List Rec} {
 -- ---- turned, Y at 0
 
 -- what ends the records has no mark
-end-quiet : (end : End) (e : ℕ) → length (end-bytes end) ≡ 8 * e → Quiet e (end-bytes end)
+end-markless : (end : End) (e : ℕ) → length (end-bytes end) ≡ 8 * e → Markless e (end-bytes end)
 unfolding is-start is-clean is-record is-high
-end-quiet exact zero p = tt
-end-quiet exact (suc e) p = absurd (omega arith)
-end-quiet (marker k) zero p = absurd (omega arith)
-end-quiet (marker k) (suc e) p =
-    let n : 8 * e ≡ k = omega (arith, length-replicate {A = ℕ} k 255) in (refl, subst (λ (m : ℕ). Quiet e (blanks m)) n (quiet-blanks e))
+end-markless exact zero p = tt
+end-markless exact (suc e) p = absurd (omega arith)
+end-markless (marker k) zero p = absurd (omega arith)
+end-markless (marker k) (suc e) p =
+    let n : 8 * e ≡ k = omega (arith, length-replicate {A = ℕ} k 255) in (refl, subst (λ (m : ℕ). Markless e (blanks m)) n (markless-blanks e))
 
 body-is : (n c t : List ℕ) → body n c t ≡ body n c [] ++ t
 body-is n c t = simp append-assoc
@@ -282,15 +278,15 @@ module _ {im : Image} {a l : ℕ} {lost : List ℕ} {h : ℕ} {y : Rec} {low : L
   F₂ : F ≡ 8 * f
   F₂ = sym (length-replicate {A = ℕ} F 255) ∙ s .free-length
 
-  behind-quiet : (k : ℕ) → length im ≡ 4096 * (a + suc k) → Quiet (511 - l + 512 * k) (body (x .name) (x .content) (end-bytes end))
-  behind-quiet k n =
+  behind-markless : (k : ℕ) → length im ≡ 4096 * (a + suc k) → Markless (511 - l + 512 * k) (body (x .name) (x .content) (end-bytes end))
+  behind-markless k n =
       let e : ℕ = length (end-bytes end) / 8 in
       let m : length (end-bytes end) ≡ 8 * e = omega (arith, turned-length s, s .at, rsize-words x) in
       let w : rsize x / 8 - 1 + e ≡ 511 - l + 512 * k = omega (arith, turned-length s, s .at, s .lost-small, rsize-words x) in
       rw (body-is (x .name) (x .content) (end-bytes end))
-      (subst (λ (j : ℕ). Quiet j (body (x .name) (x .content) [] ++ end-bytes end)) w
-      (quiet-append (rsize x / 8 - 1) e (body (x .name) (x .content) []) (end-bytes end)
-          (omega (arith, length-body (x .name) (x .content) [], rsize-words x)) c (end-quiet end e m)))
+      (subst (λ (j : ℕ). Markless j (body (x .name) (x .content) [] ++ end-bytes end)) w
+      (markless-append (rsize x / 8 - 1) e (body (x .name) (x .content) []) (end-bytes end)
+          (omega (arith, length-body (x .name) (x .content) [], rsize-words x)) c (end-markless end e m)))
 
   behind-length : (k : ℕ) → length im ≡ 4096 * (a + suc k) → length (last-head lost x end) ≡ 4096 * suc k
   unfolding last-head
@@ -301,7 +297,7 @@ module _ {im : Image} {a l : ℕ} {lost : List ℕ} {h : ℕ} {y : Rec} {low : L
   zero-far k n =
       let A : ℕ = 4096 * a in
       let q : List ℕ = last-head lost x end in
-      let b : Quiet (511 - l + 512 * k) (body (x .name) (x .content) (end-bytes end)) = behind-quiet k n in
+      let b : Markless (511 - l + 512 * k) (body (x .name) (x .content) (end-bytes end)) = behind-markless k n in
       let S : ℕ = 0 + sizes (y ∷ low) in
       let rest : ℕ → List ℕ = λ i. take (4096 * (suc k - suc i)) (drop (4096 * suc i) q) in
       let long : (i : ℕ) → i ≤ k → length (blanks F ++ half-erased (suc i) (suc k) q) ≡ 8 * (f + 512 * suc k) =
@@ -309,9 +305,9 @@ module _ {im : Image} {a l : ℕ} {lost : List ℕ} {h : ℕ} {y : Rec} {low : L
       ∙ omega (arith, half-erased-length (suc i) (suc k) q (omega arith) (omega (arith, behind-length k n)), length-replicate {A = ℕ} F 255, F₂) in
       let laid : (i : ℕ) → i ≤ k
           → Laid (run im (take (suc i) (erases A (suc k)))) 0 S false (Y₂ ∷ E₂) seg-none [] (blanks F ++ half-erased (suc i) (suc k) q) =
-      λ i p. laid-straight (f + 512 * suc k) (zero-m3 s k n b i p) refl refl refl (long i p) (zero-quiet s k n b i p) in
+      λ i p. laid-straight (f + 512 * suc k) (zero-m3 s k n b i p) refl refl refl (long i p) (zero-markless s k n b i p) in
       far A k S false (vacated-all (length im) X₂ Y₂ a k refl (omega (arith, s .at, s .lost-small)) n) (omega arith) (omega arith)
-      (λ i p. vacant-at (laid i p) (F + 4096 * suc i) (rest i) (join-ff F (4096 * suc i) (rest i)) (omega (arith, s .below, F₂)))
+      (λ i p. vacant-at (laid i p) (F + 4096 * suc i) (rest i) (sym (split-front F (4096 * suc i) (F + (4096 * suc i)) (rest i) refl)) (omega (arith, s .below, F₂)))
       (record {
         S = S;
         B = 0;

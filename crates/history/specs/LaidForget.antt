@@ -9,25 +9,23 @@ use Rattle.spec.specs.Step.{Image}
 use Rattle.spec.specs.Geometry.{floor}
 use Rattle.spec.specs.Record.{Rec, Entry}
 use native.Mathlib.Nat.{add-zero}
-use Rattle.history.specs.Lay.{onto, lay, rsize, sizes, entries-of, lay-is, length-body, body, lens}
-use Rattle.history.specs.Quiet.{quiet-append, mark-second}
-use Rattle.history.specs.Steps.{set-past}
+use Rattle.history.specs.Lay.{onto, lay, rsize, sizes, entries-of, lay-is, length-body, body, lens, rsize-words}
+use Rattle.history.specs.Markless.{markless-append, mark-second, Markless, Cleaned}
 use Rattle.history.specs.Seg.{Seg, seg-onto}
+use Rattle.history.specs.Steps.{set-past}
 use Rattle.history.specs.Straight.{Straight}
-use Rattle.history.specs.StraightErase.{Cleaned, rsize-words}
 use Rattle.history.specs.Turned.{Turned, End, end-bytes}
 use Rattle.history.specs.Laid.{Laid, laid-straight, laid-turned}
-use Rattle.history.specs.Walk.{Quiet}
 use Rattle.history.specs.TurnedLaid.{high-front, high-front-is, high-front-length}
 
 -- X with its second byte 00
 abbrev forgotten : Rec → List ℕ
 forgotten x = x .low ∷ 0 ∷ x .status ∷ 255 ∷ lens (length (x .content)) (body (x .name) (x .content) [])
 
-forgotten-quiet : (x : Rec) → Cleaned x → Quiet (rsize x / 8) (forgotten x)
-forgotten-quiet x c =
+forgotten-markless : (x : Rec) → Cleaned x → Markless (rsize x / 8) (forgotten x)
+forgotten-markless x c =
     let n : suc (rsize x / 8 - 1) ≡ rsize x / 8 = omega arith in
-    subst (λ (m : ℕ). Quiet m (forgotten x)) n (mark-second (x .low) (drop 2 (forgotten x)), c)
+    subst (λ (m : ℕ). Markless m (forgotten x)) n (mark-second (x .low) (drop 2 (forgotten x)), c)
 
 -- (f): the head's second byte to 00, Y in the head's sector
 module _ {im : List ℕ} {a l : ℕ} {gap lost : List ℕ} {h : ℕ} {x y : Rec} {ys : List Rec} {seg : Seg} {free : List ℕ}
@@ -49,10 +47,10 @@ module _ {im : List ℕ} {a l : ℕ} {gap lost : List ℕ} {h : ℕ} {x y : Rec}
             ∙ ap (λ (l : List ℕ). gap ++ l) (sym (append-assoc lost (forgotten x) R));
         at = omega (arith, s .at, rsize-words x);
         gap-length = s .gap-length;
-        gap-quiet = s .gap-quiet;
+        gap-markless = s .gap-markless;
         lost-length = length-append lost (forgotten x) ∙ omega (arith, s .lost-length, lf);
         lost-small = near;
-        lost-quiet = quiet-append l (rsize x / 8) lost (forgotten x) (s .lost-length) (s .lost-quiet) (forgotten-quiet x c);
+        lost-markless = markless-append l (rsize x / 8) lost (forgotten x) (s .lost-length) (s .lost-markless) (forgotten-markless x c);
         front = fronted gap lost a l (s .gap-length) (s .lost-length) (s .front);
         fine = s .fine .1;
       }
@@ -86,12 +84,12 @@ module _ {im : List ℕ} {a l : ℕ} {lost : List ℕ} {h : ℕ} {low : List Rec
         some-below = s .some-below;
         below = s .below;
         free-length = s .free-length;
-        free-quiet = s .free-quiet;
+        free-markless = s .free-markless;
         opened = s .opened;
         opens = s .opens;
         lost-length = length-append lost (forgotten x) ∙ omega (arith, s .lost-length, lf);
         lost-small = near;
-        lost-quiet = quiet-append l (rsize x / 8) lost (forgotten x) (s .lost-length) (s .lost-quiet) (forgotten-quiet x c);
+        lost-markless = markless-append l (rsize x / 8) lost (forgotten x) (s .lost-length) (s .lost-markless) (forgotten-markless x c);
         fine-low = s .fine-low;
         walked = s .walked;
         fine-high = s .fine-high .1;

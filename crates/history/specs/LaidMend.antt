@@ -5,7 +5,6 @@ use mathlib.Core.Path.{_≡_, refl, sym, ap, ap₂, _∙_, subst, subst₂}
 use mathlib.Core.Bool.{Bool, true, false}
 use mathlib.Core.List.{List, [], _∷_, _++_, append-assoc, map, map-append}
 use lib.ListN.{length, take, drop, getD, length-append, length-drop, length-replicate, take-append-drop}
-use lib.Seq.{take-take}
 use Rattle.spec.specs.declared.Next.{Next}
 use Rattle.spec.specs.Step.{Image, Step, erase, run}
 use Rattle.spec.specs.Basics.{keep}
@@ -13,22 +12,21 @@ use Rattle.spec.specs.Geometry.{good-length, floor, ceiling, sectors}
 use Rattle.spec.specs.Record.{Entry}
 use Rattle.spec.specs.Reading.{limit, tail-blank}
 use Rattle.spec.specs.Mount.{free-sectors, dirty, erase-steps}
-use Rattle.history.specs.Lay.{blanks, lay}
-use Rattle.history.specs.Walk.{Quiet}
-use Rattle.history.specs.Seg.{seg-none, seg-onto}
-use Rattle.history.specs.Erase.{sectors-are}
-use Rattle.history.specs.Steps.{run-append}
 use Rattle.history.specs.Lists.{keep-append, none-at}
-use Rattle.history.specs.Repair.{mend-steps, mend-done}
+use Rattle.history.specs.Blanks.{blanks, take-blanks, split-front}
+use Rattle.history.specs.Lay.{lay}
+use Rattle.history.specs.Markless.{markless-ff, Markless}
+use Rattle.history.specs.Seg.{seg-none, seg-onto}
+use Rattle.history.specs.Steps.{run-append}
 use Rattle.history.specs.Safe.{Safe, safe-map}
-use Rattle.history.specs.Laid.{Laid, laid-straight, laid-turned, Hole, Tail, tail-clear, tail-floor, tail-N, tail-turn, Bare, clear-ff}
-use Rattle.history.specs.Kinds.{place}
-use Rattle.history.specs.LaidEdit.{laid-below, hole-of, free-quiet}
-use Rattle.history.specs.Vacant.{take-blanks, good-mod, limit-is, Vacant, vacant-long, vacant-of, vacant-tail, vacant-blank}
-use Rattle.history.specs.LaidErase.{no-map, join-ff}
-use Rattle.history.specs.EraseFree.{Mid, erase-safe}
-use Rattle.history.specs.Quiet.{quiet-ff}
+use Rattle.history.specs.Erase.{sectors-are}
 use Rattle.history.specs.Turned.{opens-blanks}
+use Rattle.history.specs.Laid.{Laid, laid-straight, laid-turned, Hole, Tail, tail-clear, tail-floor, tail-N, tail-turn, Bare, clear-ff, place}
+use Rattle.history.specs.LaidEdit.{laid-below, hole-of, free-markless}
+use Rattle.history.specs.Vacant.{good-mod, limit-is, Vacant, vacant-long, vacant-of, vacant-tail, vacant-blank, vacant-free}
+use Rattle.history.specs.LaidErase.{no-map}
+use Rattle.history.specs.Repair.{mend-steps, mend-done}
+use Rattle.history.specs.EraseFree.{Mid, erase-safe}
 
 -- ---- all the erases: FF
 
@@ -53,10 +51,10 @@ low-done {im} {h} {S} {es} {below} {free} (laid-straight {a} {l} {lost} {x} {ys}
           ∙ ap (λ (m : ℕ). blanks m ++ Z) (sym b);
       at = s .at;
       gap-length = length-replicate {A = ℕ} B 255 ∙ b;
-      gap-quiet = quiet-ff (512 * a) (blanks B) (ap blanks w);
+      gap-markless = markless-ff (512 * a) (blanks B) (ap blanks w);
       lost-length = s .lost-length;
       lost-small = s .lost-small;
-      lost-quiet = s .lost-quiet;
+      lost-markless = s .lost-markless;
       front = front-ff B below lost (s .gap-length ∙ sym b) (omega arith) (s .front);
       fine = s .fine;
     })
@@ -78,7 +76,7 @@ high-done : {im : Image} {h S : ℕ} {t : Bool} {es : List Entry} {below free : 
     8 ≤ length free → Laid (run im (mend-steps im₀ lim (ceiling S) lim)) h S t es seg-none below (blanks (length free))
 high-done {im} {h} {S} {t} {es} {below} {free} d im₀ pre₀ i₀ l₀ c k lim sc cf cb kl fl e₈ =
     let K : Hole im h S t es seg-none below free = hole-of d in
-    let f : (f : ℕ) × (length free ≡ 8 * f) × Quiet f free = free-quiet d in
+    let f : (f : ℕ) × (length free ≡ 8 * f) × Markless f free = free-markless d in
     let lc : length (blanks c) ≡ c = length-replicate {A = ℕ} c 255 in
     let F : ℕ = length free in
     let n : c + 4096 * k ≡ F = omega arith in
@@ -88,10 +86,10 @@ high-done {im} {h} {S} {t} {es} {below} {free} d im₀ pre₀ i₀ l₀ c k lim 
     (length-append (K .pre) (blanks c) ∙ omega (arith, K .at))
     (length-drop c free ∙ omega arith) kl (omega arith) im₀ (i₀ ∙ opened-up pre₀ (K .post) free c cb)
     ∙ append-assoc (K .pre) (blanks c) (blanks (4096 * k) ++ K .post)
-        ∙ ap (λ (l : List ℕ). K .pre ++ l) (join-ff c (4096 * k) (K .post) ∙ ap (λ (m : ℕ). blanks m ++ K .post) n) in
+        ∙ ap (λ (l : List ℕ). K .pre ++ l) (sym (split-front c (4096 * k) (c + (4096 * k)) (K .post) refl) ∙ ap (λ (m : ℕ). blanks m ++ K .post) n) in
     let lF : length (blanks F) ≡ F = length-replicate {A = ℕ} F 255 in
     subst (λ (i : Image). Laid i h S t es seg-none below (blanks F)) (sym e)
-    (K .plug seg-none (f .0) (blanks F) Next.Clear (lF ∙ f .1) (quiet-ff (f .0) (blanks F) (ap blanks (f .1))) (opens-blanks F e₈)
+    (K .plug seg-none (f .0) (blanks F) Next.Clear (lF ∙ f .1) (markless-ff (f .0) (blanks F) (ap blanks (f .1))) (opens-blanks F e₈)
         (ap (λ (m : ℕ). 0 + m) lF))
 
 turned-below : {im : Image} {h S : ℕ} {es : List Entry} {below free : List ℕ} → Laid im h S true es seg-none below free → below ≡ []
@@ -112,8 +110,8 @@ module _ {im : Image} {h S : ℕ} {es : List Entry} (g : length im % 4096 ≡ 0)
       let c : ℕ = ceiling S - S in
       let k : ℕ = (floor h - ceiling S) / 4096 in
       let K : Hole im h S true es seg-none (v .below) (v .free) = hole-of (v .laid) in
-      let e : take c (v .free) ≡ blanks c = sym (take-take c (v .m) (v .free) (omega (arith, v .own))) ∙ ap (take c) (v .ff)
-          ∙ take-blanks c (v .m) (omega (arith, v .own)) in
+      let e : take c (v .free) ≡ blanks c = ap (take c) (vacant-free v)
+          ∙ take-blanks c (v .m) (drop (v .m) (v .free)) (omega (arith, v .own)) in
       
       record {
         S = S;
@@ -134,8 +132,8 @@ module _ {im : Image} {h S : ℕ} {es : List Entry} (g : length im % 4096 ≡ 0)
       let c : ℕ = ceiling S - S in
       let k : ℕ = (N - ceiling S) / 4096 in
       let K : Hole im h S false es seg-none (v .below) (v .free) = hole-of (v .laid) in
-      let e : take c (v .free) ≡ blanks c = sym (take-take c (v .m) (v .free) (omega (arith, v .own))) ∙ ap (take c) (v .ff)
-          ∙ take-blanks c (v .m) (omega (arith, v .own)) in
+      let e : take c (v .free) ≡ blanks c = ap (take c) (vacant-free v)
+          ∙ take-blanks c (v .m) (drop (v .m) (v .free)) (omega (arith, v .own)) in
       
       let low : List Step = mend-steps im (floor h) 0 (floor h) in
       let high : List Step = mend-steps im N (ceiling S) N in

@@ -17,19 +17,19 @@ use Rattle.spec.specs.Record.{Rec, Entry, clean-here}
 use Rattle.spec.specs.Head.{head}
 use Rattle.spec.specs.Chain.{chain, read, reading-from}
 use Rattle.spec.specs.Reading.{blank-part, free-blank, tail-blank, free-ok, reading}
-use Rattle.history.specs.Lay.{blanks, lay, rsize, sizes, entries-of, Low, low-record, low-start, low-clean, All-fine}
-use Rattle.history.specs.Last.{Ends, stops-clear, stops-over, blank-blanks}
-use Rattle.history.specs.Walk.{Walks, walks-record, walks-clean, Walked}
-use Rattle.history.specs.Shape.{chain-of, shape-full, shape-last, low-clear}
+use Rattle.history.specs.Lists.{each-right, not-both, cons-rest, cons-first}
+use Rattle.history.specs.Blanks.{blanks, blank-blanks}
+use Rattle.history.specs.Store.{Unmarked}
+use Rattle.history.specs.Lay.{lay, rsize, sizes, entries-of, Low, low-record, low-start, low-clean, All-fine, chain-of}
+use Rattle.history.specs.Last.{Ends, stops-clear, stops-over}
 use Rattle.history.specs.Seg.{Seg, seg-none, seg-torn, seg-cut, seg-held, seg-onto, seg-size, seg-entries, seg-open, seg-ends}
+use Rattle.history.specs.Walk.{Walks, walks-record, walks-clean, Walked}
+use Rattle.history.specs.Shape.{shape-full, shape-last, low-clear}
+use Rattle.history.specs.Legal.{Ruled, reading-by}
 use Rattle.history.specs.Straight.{Straight, bottom, straight-clean, straight-none, straight-reading}
 use Rattle.history.specs.Turned.{Opens, opens-ff, opens-none, turned-start, turned-clean, turned-reading}
-use Rattle.history.specs.Legal.{Ruled, reading-by}
 use Rattle.history.specs.Whole.{started, gap-part, free-part, free₁, below, here, is-clean-0, is-clean-A0}
-use Rattle.history.specs.Laid.{Laid, laid-straight, laid-turned, Tail, tail-clear, tail-floor, tail-N, tail-turn}
-use Rattle.history.specs.Lists.{each-right, not-both, cons-rest, cons-first}
-use Rattle.history.specs.Store.{Unmarked}
-use Rattle.history.specs.Kinds.{place}
+use Rattle.history.specs.Laid.{Laid, laid-straight, laid-turned, Tail, tail-clear, tail-floor, tail-N, tail-turn, place}
 
 -- ---- small things
 

@@ -1,11 +1,10 @@
 -- What can stand last in a chain: eight FF, the end of the stretch, a marker, a torn wrap, and the unfinished records.
-use Prim.Native.Nat.{ℕ, zero, suc, _+_, _≤_}
+use Prim.Native.Nat.{ℕ, suc, _+_}
 use native.Mathlib.Omega.{arith}
-use native.Mathlib.Nat.{le-of-suc-le-suc, not-suc-le-zero}
 use mathlib.Core.Path.{_≡_, refl, sym, ap, _∙_}
 use mathlib.Core.Bool.{Bool, true, false}
 use mathlib.Core.List.{List, [], _∷_, _++_}
-use lib.ListN.{length, take, drop, replicate, length-append, length-replicate}
+use lib.ListN.{length, drop, length-append, length-replicate}
 use lib.Seq.{drop-drop, take-append-seam}
 use Rattle.spec.specs.declared.Next.{Next}
 use Rattle.spec.specs.Basics.{long, blank}
@@ -14,7 +13,8 @@ use Rattle.spec.specs.Bytes.{is-record, is-wrap, is-start, is-clean, is-high, i
 use Rattle.spec.specs.Record.{status-of, size-of, Rec, rec-of}
 use Rattle.spec.specs.Next.{kind, record-at, torn-at, torn-wrap-at, clear-at, next-at, next}
 use Rattle.spec.specs.Chain.{Chain, add, stop, chain}
-use Rattle.history.specs.Lay.{blanks, pad, lens, onto, Fit, record-at-laid, record-at-onto, drop-past, drop-fill, drop-onto, rec-of-onto, chain-record}
+use Rattle.history.specs.Blanks.{blanks, blank-blanks, drop-blanks, take-blanks}
+use Rattle.history.specs.Lay.{pad, lens, onto, Fit, record-at-laid, record-at-onto, drop-past, drop-onto, rec-of-onto, chain-record}
 
 -- ---- the ends
 
@@ -46,12 +46,6 @@ wrap s = 250 ∷ 90 ∷ 240 ∷ 255 ∷ 255 ∷ 255 ∷ 255 ∷ 255 ∷ s
 pub ends-wrap : (at : ℕ) (s : List ℕ) → Ends at (wrap s) (stop false at Next.Wrap)
 unfolding chain next next-at long kind is-record is-wrap is-start is-clean is-high is-high-begun is-erased is-wrapped is-spare
 ends-wrap at s k = refl
-
--- FF is blank
-pub blank-blanks : (k : ℕ) → blank (blanks k) ≡ true
-unfolding blank
-blank-blanks zero = refl
-blank-blanks (suc k) = blank-blanks k
 
 -- the second byte, before it is written and after
 pub data Begun : ℕ → Type 0 where
@@ -162,24 +156,19 @@ pub drop-begun : (d : ℕ) (n s : List ℕ) → drop (size-of (length n) d) (beg
 drop-begun d n s =
     sym (drop-drop (up8 d) (8 + up8 (length n + 1)) (begun d n s))
     ∙ ap (drop (up8 d)) (sym (drop-drop (up8 (length n + 1)) 8 (begun d n s)) ∙ cut-name d n s)
-    ∙ drop-fill (up8 d) 255 s
+    ∙ drop-blanks (up8 d) s
   where
     cut-name : (d : ℕ) (n s : List ℕ) → drop (up8 (length n + 1)) (drop 8 (begun d n s)) ≡ blanks (up8 d) ++ s
     cut-name d n s =
-        drop-past n _ (up8 (length n + 1)) (suc (pad (length n + 1))) (omega arith) ∙ drop-fill (pad (length n + 1)) 255 (blanks (up8 d) ++ s)
-
-take-fill : (k m b : ℕ) (s : List ℕ) → k ≤ m → take k (replicate m b ++ s) ≡ replicate k b
-take-fill zero m b s h = refl
-take-fill (suc k) zero b s h = absurd (not-suc-le-zero h)
-take-fill (suc k) (suc m) b s h = ap (λ (l : List ℕ). b ∷ l) (take-fill k m b s (le-of-suc-le-suc h))
+        drop-past n _ (up8 (length n + 1)) (suc (pad (length n + 1))) (omega arith) ∙ drop-blanks (pad (length n + 1)) (blanks (up8 d) ++ s)
 
 rec-of-begun : (d : ℕ) (n s : List ℕ) → rec-of (begun d n s) (length n) d ≡ cut-rec d n
 rec-of-begun d n s =
     rw (
       drop-past n (255 ∷ (blanks (pad (length n + 1)) ++ (blanks (up8 d) ++ s))) (up8 (length n + 1)) (suc (pad (length n + 1))) (omega arith),
-      drop-fill (pad (length n + 1)) 255 (blanks (up8 d) ++ s),
+      drop-blanks (pad (length n + 1)) (blanks (up8 d) ++ s),
       take-append-seam n,
-      take-fill d (up8 d) 255 s (omega arith),
+      take-blanks d (up8 d) s (omega arith),
     )
 
 -- the chain over it

@@ -5,8 +5,8 @@ use native.Mathlib.Nat.{le-of-suc-le-suc, not-suc-le-zero, zero-add, suc-add, ad
 use mathlib.Core.Path.{_≡_, refl, sym, ap, ap₂, _∙_}
 use mathlib.Core.Bool.{Bool, true, false, and-false}
 use mathlib.Core.List.{List, [], _∷_, _++_, append-assoc}
-use lib.ListN.{length, drop, replicate, length-append, length-replicate}
-use lib.Seq.{drop-drop, drop-append-add, drop-at, take-append-seam}
+use lib.ListN.{length, drop, length-append, length-replicate}
+use lib.Seq.{drop-drop, drop-append-add, take-append-seam}
 use borrow.Author.Tests.{lt-ltb, ne-eqb}
 use Rattle.spec.specs.declared.Next.{Next}
 use Rattle.spec.specs.Basics.{long}
@@ -15,12 +15,9 @@ use Rattle.spec.specs.Bytes.{is-record, is-wrap, is-start, is-clean, is-high, i
 use Rattle.spec.specs.Record.{name-length, data-len-of, status-of, size-of, Rec, rec-of, Entry}
 use Rattle.spec.specs.Next.{kind, sized, record-at, next-at, next}
 use Rattle.spec.specs.Chain.{Chain, add, chain}
+use Rattle.history.specs.Blanks.{blanks, drop-blanks}
 
 -- ---- the printer
-
--- FF
-abbrev pub blanks : ℕ → List ℕ
-blanks k = replicate k 255
 
 -- the bytes up to the next multiple of 8
 abbrev pub pad : ℕ → ℕ
@@ -69,6 +66,15 @@ entries-of at (r ∷ rs) = record { at = at; it = r } ∷ entries-of (at + rsize
 abbrev pub before : List Entry → Chain → Chain
 before [] c = c
 before (e ∷ es) c = add e (before es c)
+
+-- entries, then the end
+abbrev pub chain-of : List Entry → Bool → ℕ → Next → Chain
+chain-of es o t x = record { entries = es; held = o; tail = t; last = x }
+
+-- entries in front of such a chain
+pub before-chain : (es fs : List Entry) (o : Bool) (t : ℕ) (x : Next) → before es (chain-of fs o t x) ≡ chain-of (es ++ fs) o t x
+before-chain [] fs o t x = refl
+before-chain (e ∷ es) fs o t x = ap (add e) (before-chain es fs o t x)
 
 -- ---- what a record may be
 
@@ -130,15 +136,11 @@ length-body n c s = simp (length-append, length-replicate) (omega arith)
 pub drop-past : (p q : List ℕ) (k m : ℕ) → k ≡ length p + m → drop k (p ++ q) ≡ drop m q
 drop-past p q k m e = rw e (drop-append-add p q m)
 
--- past what fills
-pub drop-fill : (k b : ℕ) (s : List ℕ) → drop k (replicate k b ++ s) ≡ s
-drop-fill k b s = drop-at (replicate k b) s k (length-replicate k b)
-
 drop-name : (n c s : List ℕ) → drop (up8 (length n + 1)) (body n c s) ≡ padded c s
-drop-name n c s = drop-past n _ (up8 (length n + 1)) (suc (pad (length n + 1))) (omega arith) ∙ drop-fill (pad (length n + 1)) 255 (padded c s)
+drop-name n c s = drop-past n _ (up8 (length n + 1)) (suc (pad (length n + 1))) (omega arith) ∙ drop-blanks (pad (length n + 1)) (padded c s)
 
 drop-padded : (c s : List ℕ) → drop (up8 (length c)) (padded c s) ≡ s
-drop-padded c s = drop-past c _ (up8 (length c)) (pad (length c)) (omega arith) ∙ drop-fill (pad (length c)) 255 s
+drop-padded c s = drop-past c _ (up8 (length c)) (pad (length c)) (omega arith) ∙ drop-blanks (pad (length c)) s
 
 -- past a record
 pub drop-onto : (r : Rec) (s : List ℕ) → drop (rsize r) (onto r s) ≡ s
@@ -258,6 +260,10 @@ length-onto r s = omega (arith, length-body (r .name) (r .content) s)
 pub length-lay : (rs : List Rec) (s : List ℕ) → length (lay rs s) ≡ sizes rs + length s
 length-lay [] s = sym (zero-add (length s))
 length-lay (r ∷ rs) s = length-onto r (lay rs s) ∙ omega (arith, length-lay rs s)
+
+-- a record is words
+pub rsize-words : (r : Rec) → rsize r ≡ 8 * (rsize r / 8)
+rsize-words r = omega arith
 
 -- past all records, and m bytes more
 pub drop-lay : (rs : List Rec) (s : List ℕ) (m : ℕ) → drop (sizes rs + m) (lay rs s) ≡ drop m s

@@ -2,13 +2,14 @@
 
 -- ---- lists and ledger
 pub mod Lists
+pub mod Blanks
 pub mod Store
 pub mod Ledger
 pub mod Shadow
 -- ---- layout and last things
 pub mod Lay
 pub mod Last
-pub mod Quiet
+pub mod Markless
 pub mod Seg
 pub mod Steps
 pub mod Safe

@@ -12,16 +12,16 @@ use Rattle.spec.specs.Step.{run, moved}
 use Rattle.spec.specs.Record.{Rec}
 use Rattle.spec.specs.Chain.{read, reading-from}
 use Rattle.spec.specs.Write.{marker-steps}
-use Rattle.history.specs.Lay.{blanks, lay, sizes, entries-of}
+use Rattle.history.specs.Blanks.{blanks, blank-split}
+use Rattle.history.specs.Lay.{lay, sizes, entries-of}
 use Rattle.history.specs.Last.{Begun, torn-wrap, ends-torn-wrap}
-use Rattle.history.specs.Walk.{Quiet}
-use Rattle.history.specs.Quiet.{blank-split}
-use Rattle.history.specs.Shape.{shape-torn-wrap}
+use Rattle.history.specs.Markless.{Markless}
 use Rattle.history.specs.Seg.{seg-none}
 use Rattle.history.specs.Steps.{Programs}
+use Rattle.history.specs.Shape.{shape-torn-wrap}
 use Rattle.history.specs.Straight.{Straight, bottom}
-use Rattle.history.specs.StraightEdit.{other, run-behind}
 use Rattle.history.specs.Turned.{Turned, exact, marker, opens-blanks, End, end-bytes}
+use Rattle.history.specs.StraightEdit.{other, run-behind}
 
 -- a chain whose records are followed by what ends them has turned: the sectors below the head are its free run
 pub turned-gap : {im : List ℕ} {a l : ℕ} {gap lost : List ℕ} {h : ℕ} {high : List Rec} {free : List ℕ}
@@ -35,12 +35,12 @@ turned-gap {a = a} {lost = lost} {high = high} s im′ end i e b =
       some-below = b;
       below = omega arith;
       free-length = length-replicate {A = ℕ} (4096 * a) 255 ∙ omega arith;
-      free-quiet = subst (λ (l : List ℕ). Quiet (512 * a) l) e (s .gap-quiet);
+      free-markless = subst (λ (l : List ℕ). Markless (512 * a) l) e (s .gap-markless);
       opened = Next.Clear;
       opens = opens-blanks (4096 * a) (omega arith);
       lost-length = s .lost-length;
       lost-small = s .lost-small;
-      lost-quiet = s .lost-quiet;
+      lost-markless = s .lost-markless;
       fine-low = tt;
       walked = tt;
       fine-high = s .fine;

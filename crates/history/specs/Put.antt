@@ -10,11 +10,11 @@ use Rattle.spec.specs.Step.{Step, program, apply, run, bytes-at}
 use Rattle.spec.specs.Geometry.{up8}
 use Rattle.spec.specs.Record.{size-of, Rec}
 use Rattle.spec.specs.Write.{header-steps, name-steps, data-steps, record-steps}
-use Rattle.history.specs.Lay.{blanks, pad, onto, Plain, Fit, header}
+use Rattle.history.specs.Blanks.{blanks, blank-split}
+use Rattle.history.specs.Lay.{pad, onto, Plain, Fit, header}
 use Rattle.history.specs.Last.{Begun, begun-ff, begun-5a, begun-none, held}
-use Rattle.history.specs.Quiet.{blank-split}
-use Rattle.history.specs.Steps.{cut-one, cut-append, run-append, Programs, length-bytes, write-over, write-blank}
 use Rattle.history.specs.Seg.{Seg, seg-none, seg-torn, seg-cut, seg-held, seg-onto, seg-size}
+use Rattle.history.specs.Steps.{cut-one, cut-append, run-append, Programs, length-bytes, write-over, write-blank}
 
 -- ---- the states of a record under way, each with f bytes from its start to what follows, s
 

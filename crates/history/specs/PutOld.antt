@@ -17,17 +17,18 @@ use Rattle.spec.specs.Files.{named}
 use Rattle.spec.specs.Chain.{Reading, read}
 use Rattle.spec.specs.Demand.{Sound}
 use Rattle.spec.specs.History.{Ledger, with-file}
-use Rattle.history.specs.Lay.{blanks, st-f8, st-00}
-use Rattle.history.specs.Seg.{Seg, seg-none}
 use Rattle.history.specs.Lists.{each-end, each-at, each-swap}
+use Rattle.history.specs.Blanks.{blanks}
 use Rattle.history.specs.Store.{alive, Unmarked, f8-alive}
-use Rattle.history.specs.Put.{file}
+use Rattle.history.specs.Lay.{st-f8, st-00}
+use Rattle.history.specs.Seg.{Seg, seg-none}
 use Rattle.history.specs.Safe.{Safe}
-use Rattle.history.specs.StraightEdit.{restatus}
 use Rattle.history.specs.Laid.{Laid, Tail, Bare}
-use Rattle.history.specs.Kinds.{Bytes, Starts, Ok, quiet, shadow, Inv, Rested}
+use Rattle.history.specs.StraightEdit.{restatus}
 use Rattle.history.specs.LaidEdit.{restatus-laid, status-at, entry-inside}
+use Rattle.history.specs.Kinds.{Bytes, Starts, Ok, quiet, shadow, Inv, Rested}
 use Rattle.history.specs.OkLaws.{ok-same, ok-over, ok-unshadow}
+use Rattle.history.specs.Put.{file}
 
 -- ---- the first record is START, the others are plain
 

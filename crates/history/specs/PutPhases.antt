@@ -15,18 +15,19 @@ use Rattle.spec.specs.Place.{fits, address, with-marker}
 use Rattle.spec.specs.Write.{marker-steps, turn-steps}
 use Rattle.spec.specs.Demand.{Sound}
 use Rattle.spec.specs.History.{Ledger, three-if}
-use Rattle.history.specs.Lay.{blanks, Fit}
+use Rattle.history.specs.Lists.{and-right}
+use Rattle.history.specs.Blanks.{blanks}
+use Rattle.history.specs.Lay.{Fit}
 use Rattle.history.specs.Seg.{seg-none}
 use Rattle.history.specs.Steps.{length-moved}
-use Rattle.history.specs.Put.{open-steps, file}
 use Rattle.history.specs.Safe.{Safe, safe-append}
-use Rattle.history.specs.Laid.{Laid, Tail, Bare}
-use Rattle.history.specs.Kinds.{Bytes, Starts, Ok, Inv, place}
+use Rattle.history.specs.Laid.{Laid, Tail, Bare, place}
 use Rattle.history.specs.LaidEdit.{laid-below, laid-length, laid-head}
+use Rattle.history.specs.Kinds.{Bytes, Starts, Ok, Inv}
+use Rattle.history.specs.Put.{open-steps, file}
 use Rattle.history.specs.PutSound.{name-fit}
 use Rattle.history.specs.PutWrite.{bare-of, good-run, length-open, open-safe, commit-sound, committed}
 use Rattle.history.specs.PutTurn.{Given, given-tail, given-zero, given, turned-by-marker, marker-safe}
-use Rattle.history.specs.Lists.{and-right}
 
 -- the steps before the commit of a record at a, behind the steps `turn`, m of them
 pub record Written (l : Ledger) (im : Image) (h : ℕ) (es : List Entry) (n c : List ℕ) (turn : List Step) (a m : ℕ) : Type 0 where

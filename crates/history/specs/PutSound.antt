@@ -14,13 +14,13 @@ use Rattle.spec.specs.Bytes.{is-printable}
 use Rattle.spec.specs.Record.{size-of, name-ok, ends-in-slash}
 use Rattle.spec.specs.Write.{header-steps, name-steps, data-steps, commit-steps, record-steps}
 use Rattle.spec.specs.Demand.{Steps-sound}
-use Rattle.history.specs.Lay.{blanks, pad, Plain, Fit, header}
 use Rattle.history.specs.Lists.{and-left, and-right}
-use Rattle.history.specs.Quiet.{blank-split}
-use Rattle.history.specs.Put.{open-steps, bytes-append}
+use Rattle.history.specs.Blanks.{blanks, blank-split}
+use Rattle.history.specs.Lay.{pad, Plain, Fit, header}
 use Rattle.history.specs.Steps.{write-over}
 use Rattle.history.specs.Safe.{sound-append, sound-bytes, on-blank}
 use Rattle.history.specs.Kinds.{Bytes}
+use Rattle.history.specs.Put.{open-steps, bytes-append}
 
 -- ---- a file name
 

@@ -17,18 +17,19 @@ use Rattle.spec.specs.Place.{fits-at-tail, fits, address, with-marker}
 use Rattle.spec.specs.Write.{marker-steps}
 use Rattle.spec.specs.Demand.{Steps-sound}
 use Rattle.spec.specs.History.{Ledger}
-use Rattle.history.specs.Lay.{blanks, sizes, entries-of}
+use Rattle.history.specs.Lists.{and-left, and-right}
+use Rattle.history.specs.Blanks.{blanks, blank-eight}
+use Rattle.history.specs.Lay.{sizes, entries-of}
 use Rattle.history.specs.Last.{begun-ff, begun-5a, torn-wrap}
 use Rattle.history.specs.Seg.{seg-none}
-use Rattle.history.specs.Straight.{Straight}
-use Rattle.history.specs.Marker.{torn-1, torn-2}
 use Rattle.history.specs.Steps.{take-programs}
 use Rattle.history.specs.Safe.{Safe, safe-from, sound-past}
-use Rattle.history.specs.Laid.{Laid, laid-straight, laid-turned, Tail, tail-clear, tail-floor, tail-N, tail-turn}
-use Rattle.history.specs.Kinds.{Starts, Ok, Kind, quiet, half, Inv, place}
+use Rattle.history.specs.Straight.{Straight}
+use Rattle.history.specs.Marker.{torn-1, torn-2}
+use Rattle.history.specs.Laid.{Laid, laid-straight, laid-turned, Tail, tail-clear, tail-floor, tail-N, tail-turn, place}
 use Rattle.history.specs.LaidEdit.{laid-below, laid-limit, hole-of, turn-laid}
-use Rattle.history.specs.PutWrite.{blank-eight, good-run}
-use Rattle.history.specs.Lists.{and-left, and-right}
+use Rattle.history.specs.Kinds.{Starts, Ok, Kind, quiet, half, Inv}
+use Rattle.history.specs.PutWrite.{good-run}
 
 -- ---- the marker
 

@@ -12,17 +12,18 @@ use Rattle.spec.specs.Record.{size-of, Entry}
 use Rattle.spec.specs.Write.{commit-steps}
 use Rattle.spec.specs.Demand.{Sound, Steps-sound}
 use Rattle.spec.specs.History.{Ledger}
-use Rattle.history.specs.Lay.{blanks, onto, Fit, low-record, st-fc}
+use Rattle.history.specs.Blanks.{blanks, blank-eight}
+use Rattle.history.specs.Lay.{onto, Fit, low-record, st-fc}
 use Rattle.history.specs.Last.{held}
-use Rattle.history.specs.Quiet.{blank-split, quiet-ff}
-use Rattle.history.specs.Turned.{opens-words}
+use Rattle.history.specs.Markless.{markless-ff}
 use Rattle.history.specs.Seg.{Seg, seg-none, seg-torn, seg-cut, seg-held, seg-size}
 use Rattle.history.specs.Steps.{Programs, take-moved, take-programs, run-past, length-moved}
-use Rattle.history.specs.Put.{Opened, open-steps, open-cut, open-done, file, length-record, record-programs}
 use Rattle.history.specs.Safe.{Safe, safe-from, sound-past}
+use Rattle.history.specs.Turned.{opens-words}
 use Rattle.history.specs.Laid.{Laid, Hole, Tail, tail-clear, tail-floor, tail-N, tail-turn, Bare, clear-ff}
+use Rattle.history.specs.LaidEdit.{laid-below, hole-of, turn-exact, free-markless}
 use Rattle.history.specs.Kinds.{Bytes, Starts, Ok, Kind, quiet, Inv}
-use Rattle.history.specs.LaidEdit.{laid-below, hole-of, turn-exact, free-quiet}
+use Rattle.history.specs.Put.{Opened, open-steps, open-cut, open-done, file, length-record, record-programs}
 use Rattle.history.specs.PutSound.{open-sound, commit-last}
 
 -- ---- lengths
@@ -49,7 +50,7 @@ seg-words (seg-held n c f) = (1 + (length n + 1 + 7) / 8 + (length c + 7) / 8, o
 
 blank-words : {im : Image} {h S : ℕ} {t : Bool} {es : List Entry} {seg : Seg} {below : List ℕ} (F : ℕ) → Laid im h S t es seg below (blanks F)
     → (f : ℕ) × (F ≡ 8 * f)
-blank-words F d = let w = free-quiet d in (w .0, sym (length-replicate {A = ℕ} F 255) ∙ w .1)
+blank-words F d = let w = free-markless d in (w .0, sym (length-replicate {A = ℕ} F 255) ∙ w .1)
 
 -- ---- the tail
 
@@ -74,10 +75,6 @@ left-of {h = h} {t = t} B F d = words (blank-words F d .0) (blank-words F d .1)
     words : (k : ℕ) → F ≡ 8 * k → Left h t B F
     words (suc k) e = left-some (omega arith)
     words zero e = turned t refl (omega arith)
-
--- eight FF first
-pub blank-eight : (k : ℕ) → 8 ≤ k → blanks k ≡ blanks 8 ++ blanks (k - 8)
-blank-eight k h = blank-split 8 (k - 8) k (omega arith)
 
 -- T where something unfinished stands, or something is free
 tail-of : {h : ℕ} {t : Bool} {B F : ℕ} (S : ℕ) (seg : Seg) → Left h t B F → (seg ≡ seg-none → 1 ≤ F) → (T : ℕ) × (u : Bool)
@@ -136,7 +133,7 @@ module _ {im : Image} {h S : ℕ} {t : Bool} {es : List Entry} (B F : ℕ) (d : 
       let x = opens-words m (o .left) w in
       let laid : Laid im′ h S t es (o .seg) (blanks B) (blanks (o .left)) =
       subst (λ (z : Image). Laid z h S t es (o .seg) (blanks B) (blanks (o .left))) (ap (λ (z : List ℕ). H .pre ++ z) (sym (o .is)) ∙ sym e)
-      (H .plug (o .seg) m (blanks (o .left)) (x .0) (length-replicate {A = ℕ} (o .left) 255 ∙ w) (quiet-ff m (blanks (o .left)) (ap blanks w)) (x .1)
+      (H .plug (o .seg) m (blanks (o .left)) (x .0) (length-replicate {A = ℕ} (o .left) 255 ∙ w) (markless-ff m (blanks (o .left)) (ap blanks w)) (x .1)
       (omega (arith, o .sum, length-replicate {A = ℕ} (o .left) 255, length-replicate {A = ℕ} F 255))) in
       quiet-of B (o .left) laid (tail-of S (o .seg) (left-of B (o .left) laid) (λ i. omega (arith, ap seg-size i, o .sum))) st ok
 
@@ -192,5 +189,5 @@ module _ {im : Image} {h S : ℕ} {t : Bool} {es : List Entry} (B F : ℕ) (d : 
         status-ok = st-fc;
         fit = g;
       }) refl (length-replicate {A = ℕ} left 255 ∙ w)
-      (quiet-ff m (blanks left) (ap blanks w)) (x .1)
+      (markless-ff m (blanks left) (ap blanks w)) (x .1)
       (omega (arith, length-replicate {A = ℕ} left 255, length-replicate {A = ℕ} F 255)))

@@ -18,17 +18,17 @@ use Rattle.spec.specs.Place.{fits, address, with-marker}
 use Rattle.spec.specs.Write.{turn-steps, commit-steps, record-steps, put-steps}
 use Rattle.spec.specs.History.{Ledger, with-file, one-if-fc, three-if}
 use Rattle.spec.specs.Demand.{Sound}
-use Rattle.history.specs.Lay.{blanks}
-use Rattle.history.specs.Seg.{seg-none}
-use Rattle.history.specs.Steps.{run-append}
-use Rattle.history.specs.Put.{open-steps, file}
-use Rattle.history.specs.Safe.{Safe, safe-append, safe-here, safe-end}
+use Rattle.history.specs.Blanks.{blanks}
 use Rattle.history.specs.Store.{alive, fc-alive}
 use Rattle.history.specs.Ledger.{Absent}
-use Rattle.history.specs.OkLaws.{ok-new, Old, old-none, old-some}
+use Rattle.history.specs.Seg.{seg-none}
+use Rattle.history.specs.Steps.{run-append}
+use Rattle.history.specs.Safe.{Safe, safe-append, safe-here, safe-end}
+use Rattle.history.specs.Laid.{Laid, place}
 use Rattle.history.specs.StraightEdit.{restatus}
-use Rattle.history.specs.Laid.{Laid}
-use Rattle.history.specs.Kinds.{Inv, Bytes, Rested, Starts, Ok, place}
+use Rattle.history.specs.Kinds.{Inv, Bytes, Rested, Starts, Ok}
+use Rattle.history.specs.OkLaws.{ok-new, Old, old-none, old-some}
+use Rattle.history.specs.Put.{open-steps, file}
 use Rattle.history.specs.PutSound.{name-some, commit-last}
 use Rattle.history.specs.PutPhases.{Written, written}
 use Rattle.history.specs.PutOld.{starts-end, plain-file, named-by, bare-inv, bare-read, bare-head, bare-quiet, Migrated, stays, migrates, deleted, delete-safe, delete-rested}

@@ -7,26 +7,14 @@ use mathlib.Core.Bool.{Bool, true, false, not}
 use mathlib.Core.List.{List, [], _∷_, _++_, append-assoc, map}
 use lib.ListN.{length, take, drop, length-append, length-replicate, length-drop, take-append-drop}
 use lib.Seq.{length-take-le, take-at, drop-at, take-append-add}
-use lib.Dec.{eqb}
-use borrow.Author.Tests.{le-leb, lt-leb, eqb-true}
+use borrow.Author.Tests.{le-leb, lt-leb}
 use Rattle.spec.specs.Step.{Image, Step, erase, apply, run}
 use Rattle.spec.specs.Basics.{part, blank, keep}
 use Rattle.spec.specs.Geometry.{sectors-by}
 use Rattle.spec.specs.Mount.{dirty}
-use Rattle.history.specs.Lay.{blanks}
-use Rattle.history.specs.Quiet.{blank-split}
-use Rattle.history.specs.Erase.{erase-mid, sector-is}
 use Rattle.history.specs.Lists.{keep-yes, keep-no}
-
--- what is blank is FF
-pub blank-is : (s : List ℕ) → blank s ≡ true → s ≡ blanks (length s)
-unfolding blank
-blank-is [] h = refl
-blank-is (x ∷ s) h = go (eqb x 255) refl (λ k. blank-is s k)
-  where
-    go : (b : Bool) → eqb x 255 ≡ b → (blank s ≡ true → s ≡ blanks (length s)) → x ∷ s ≡ blanks (length (x ∷ s))
-    go true e ih = ap₂ (λ (y : ℕ) (l : List ℕ). y ∷ l) (eqb-true x 255 e) (ih (rw (e, blank) at h))
-    go false e ih = let z : false ≡ true = rw (e, blank) at h in cc
+use Rattle.history.specs.Blanks.{blanks, blank-split, blank-is}
+use Rattle.history.specs.Erase.{erase-mid, sector-is}
 
 -- the part that is tested is the sector at the front of what is left
 part-mid : (p q s : List ℕ) (a : ℕ) → length p ≡ a → length q ≡ 4096 → part a (a + 4096) (p ++ (q ++ s)) ≡ q

@@ -17,22 +17,22 @@ use Rattle.spec.specs.Reading.{tail-blank, head-clean, reading}
 use Rattle.spec.specs.Move.{Work, begin, after, vacated, clean-steps, vacate-steps, forget-steps, close-steps}
 use Rattle.spec.specs.Mount.{erase-steps, repair-1, repair-2}
 use Rattle.spec.specs.History.{Ledger}
-use Rattle.history.specs.Lay.{blanks}
-use Rattle.history.specs.Seg.{seg-none}
-use Rattle.history.specs.StraightErase.{Cleaned}
-use Rattle.history.specs.Laid.{Laid, Tail}
-use Rattle.history.specs.Vacant.{first-is, rested-inv}
-use Rattle.history.specs.LaidRead.{start-reads, clean-reads}
-use Rattle.history.specs.Settling.{rested-reads}
-use Rattle.history.specs.Store.{alive, Unmarked}
-use Rattle.history.specs.Settled.{one-none}
-use Rattle.history.specs.Whole.{is-clean-0, is-clean-A0}
-use Rattle.history.specs.Kinds.{Ok, Starts, place, Rested}
-use Rattle.history.specs.Legal.{Ruled}
-use Rattle.history.specs.Closes.{close-rests, both-rests, vacated-rests}
-use Rattle.history.specs.Rules.{second-ruled, plain-ruled}
-use Rattle.history.specs.Idle.{Mends, mends-none, mends-1, mends-2}
 use Rattle.history.specs.Lists.{some-behind, some-append}
+use Rattle.history.specs.Blanks.{blanks}
+use Rattle.history.specs.Store.{alive, Unmarked}
+use Rattle.history.specs.Markless.{Cleaned}
+use Rattle.history.specs.Seg.{seg-none}
+use Rattle.history.specs.Legal.{Ruled}
+use Rattle.history.specs.Whole.{is-clean-0, is-clean-A0}
+use Rattle.history.specs.Laid.{Laid, Tail, place}
+use Rattle.history.specs.Kinds.{Ok, Starts, Rested}
+use Rattle.history.specs.Rules.{second-ruled, plain-ruled}
+use Rattle.history.specs.LaidRead.{start-reads, clean-reads}
+use Rattle.history.specs.Settled.{one-none}
+use Rattle.history.specs.Settling.{rested-reads}
+use Rattle.history.specs.Vacant.{first-is, rested-inv}
+use Rattle.history.specs.Closes.{close-rests, both-rests, vacated-rests}
+use Rattle.history.specs.Idle.{Mends, mends-none, mends-1, mends-2}
 
 -- ---- quiet, nothing at S
 

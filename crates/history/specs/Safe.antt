@@ -9,7 +9,7 @@ use lib.Bits.{bitAnd, and-mask}
 use Rattle.spec.specs.Step.{Image, Step, program, erase, apply, run, bytes-at, moved}
 use Rattle.spec.specs.Basics.{Each}
 use Rattle.spec.specs.Demand.{Sound, Steps-sound}
-use Rattle.history.specs.Lay.{blanks}
+use Rattle.history.specs.Blanks.{blanks}
 use Rattle.history.specs.Steps.{set-past, Programs}
 
 -- P holds before each step, and at the end; each step is sound

@@ -8,11 +8,11 @@ use mathlib.Core.List.{List, [], _∷_, _++_, append-assoc}
 use lib.ListN.{length, drop, length-append, length-replicate}
 use Rattle.spec.specs.declared.Next.{Next}
 use Rattle.spec.specs.Record.{size-of, Entry}
-use Rattle.history.specs.Lay.{onto, Fit, drop-onto}
+use Rattle.history.specs.Lay.{onto, Fit, drop-onto, chain-of}
 use Rattle.history.specs.Last.{Begun, Name-begun, torn, torn-rec, held, begun, cut-rec, drop-begun, Ends, Stops, ends-torn, ends-begun, ends-whole}
-use Rattle.history.specs.Walk.{Quiet, Head-low}
-use Rattle.history.specs.Head.{Reaches, Reaches₁, reaches-more, reaches-gap, reaches-torn, reaches-begun, reaches-held, reaches-quiet}
-use Rattle.history.specs.Shape.{chain-of}
+use Rattle.history.specs.Markless.{Markless}
+use Rattle.history.specs.Walk.{Head-low}
+use Rattle.history.specs.Head.{Reaches, Reaches₁, reaches-more, reaches-gap, reaches-torn, reaches-begun, reaches-held, reaches-markless}
 
 -- nothing, a torn record, one whose name was not ended, one that was not committed
 pub data Seg : Type 0 where
@@ -78,13 +78,13 @@ drop-seg (seg-cut d n f) s = drop-begun d n s
 drop-seg (seg-held n c f) s = drop-onto (held n c) s
 
 -- the head behind it
-gap-or : {b : ℕ} (at j : ℕ) (q t : List ℕ) → length q ≡ 8 * j → Quiet j q → Head-low b → (at ≡ 0 → 1 ≤ j)
+gap-or : {b : ℕ} (at j : ℕ) (q t : List ℕ) → length q ≡ 8 * j → Markless j q → Head-low b → (at ≡ 0 → 1 ≤ j)
     → Reaches₁ at (q ++ (b ∷ 90 ∷ t)) (b ∷ 90 ∷ t) (8 * j)
 gap-or at zero q t e h l n = reaches-gap at zero q t e h l (λ i. not-suc-le-zero (n i))
-gap-or {b} at (suc j) q t e h l n = reaches-quiet at j q (b ∷ 90 ∷ t) e h
+gap-or {b} at (suc j) q t e h l n = reaches-markless at j q (b ∷ 90 ∷ t) e h
 
 -- the head behind it is reached
-pub seg-reaches : {b : ℕ} (at j : ℕ) (g : Seg) (q t : List ℕ) → length q ≡ 8 * j → Quiet j q → Head-low b → (at + seg-size g ≡ 0 → 1 ≤ j) →
+pub seg-reaches : {b : ℕ} (at j : ℕ) (g : Seg) (q t : List ℕ) → length q ≡ 8 * j → Markless j q → Head-low b → (at + seg-size g ≡ 0 → 1 ≤ j) →
     Reaches at (seg-onto g (q ++ (b ∷ 90 ∷ t))) (b ∷ 90 ∷ t) (seg-size g + 8 * j)
 seg-reaches {b} at j seg-none q t e h l n = rw (zero-add (8 * j)) (reaches-more (gap-or at j q t e h l (λ i. n (add-zero at ∙ i))))
 seg-reaches {b} at j (seg-torn c x y z w u o m) q t e h l n = reaches-more (reaches-torn at x y z w j q (b ∷ 90 ∷ t) o m e h)

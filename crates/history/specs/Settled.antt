@@ -13,8 +13,8 @@ use Rattle.spec.specs.Reading.{head-clean, reading}
 use Rattle.spec.specs.Move.{Work, begin, after}
 use Rattle.spec.specs.Mount.{repair-1, repair-2, repair-3, repair-4, void-steps, last-steps, torn-wrap-steps, delete-step, drop-steps, mended, settled}
 use Rattle.spec.specs.Answers.{if-settled, settled-reading}
-use Rattle.history.specs.Store.{Finished, Unmarked, Unique, Calm-store, none-superseded}
 use Rattle.history.specs.Lists.{or-left, or-right}
+use Rattle.history.specs.Store.{Finished, Unmarked, Unique, Calm-store, none-superseded}
 
 -- no step: nothing changes
 pub after-none : (w : Work) (h : ℕ) → after w [] h ≡ w

@@ -12,17 +12,17 @@ use Rattle.spec.specs.Chain.{Reading, read}
 use Rattle.spec.specs.Reading.{reading}
 use Rattle.spec.specs.Answers.{settled-reading}
 use Rattle.spec.specs.History.{Ledger}
-use Rattle.history.specs.Lay.{blanks}
+use Rattle.history.specs.Blanks.{blanks}
+use Rattle.history.specs.Store.{Calm-store, calm-ruled}
 use Rattle.history.specs.Seg.{seg-none}
 use Rattle.history.specs.Legal.{Ruled}
 use Rattle.history.specs.Whole.{is-clean-0}
 use Rattle.history.specs.Laid.{Laid, Tail}
 use Rattle.history.specs.LaidEdit.{laid-fine}
+use Rattle.history.specs.Kinds.{Ok, Starts, Rested}
 use Rattle.history.specs.Rules.{calm-of}
 use Rattle.history.specs.LaidRead.{start-reads}
-use Rattle.history.specs.Store.{Calm-store, calm-ruled}
 use Rattle.history.specs.Settled.{settled-give}
-use Rattle.history.specs.Kinds.{Ok, Starts, Rested}
 
 quiet-reads :
     {im : Image} {h S : ℕ} (B F : ℕ) {t : Bool} (es : List Entry) {l : Ledger} → Laid im h S t es seg-none (blanks B) (blanks F)

@@ -4,7 +4,7 @@ use native.Mathlib.Omega.{arith}
 use native.Mathlib.Nat.{zero-add}
 use mathlib.Core.Path.{_≡_, refl, sym, ap, _∙_, subst}
 use mathlib.Core.Bool.{Bool, true, false}
-use mathlib.Core.List.{List, [], _∷_, _++_, append-nil}
+use mathlib.Core.List.{List, [], _++_, append-nil}
 use lib.ListN.{length, take, drop, length-append}
 use lib.Seq.{take-at, drop-at}
 use lib.Dec.{eqb}
@@ -13,17 +13,9 @@ use Rattle.spec.specs.declared.Next.{Next}
 use Rattle.spec.specs.declared.Ending.{Ending}
 use Rattle.spec.specs.Geometry.{floor}
 use Rattle.spec.specs.Record.{Rec, Entry}
-use Rattle.spec.specs.Chain.{Chain, add, stop, chain, Reading, read, joined, from-head, from-zero, read-on, reading-from}
-use Rattle.history.specs.Lay.{lay, sizes, entries-of, before, All-fine, chain-lay, length-lay, lots, drop-past, lay-past}
+use Rattle.spec.specs.Chain.{Chain, stop, chain, Reading, read, joined, from-head, from-zero, read-on, reading-from}
+use Rattle.history.specs.Lay.{lay, sizes, entries-of, before, All-fine, chain-lay, length-lay, lots, drop-past, lay-past, before-chain, chain-of}
 use Rattle.history.specs.Last.{Ends, Stops}
-
--- entries, then the end
-abbrev pub chain-of : List Entry → Bool → ℕ → Next → Chain
-chain-of es o t x = record { entries = es; held = o; tail = t; last = x }
-
-before-chain : (es fs : List Entry) (o : Bool) (t : ℕ) (x : Next) → before es (chain-of fs o t x) ≡ chain-of (es ++ fs) o t x
-before-chain [] fs o t x = refl
-before-chain (e ∷ es) fs o t x = ap (add e) (before-chain es fs o t x)
 
 -- ---- the two chains
 

@@ -17,15 +17,15 @@ use Rattle.spec.specs.Files.{files, has-name, file-named}
 use Rattle.spec.specs.Answers.{Numbers, Plan, refusal, success, numbers-of, carry-out, doing, found, file-plan, getting, get-plan, listing, list-plan, get, list, part-of}
 use Rattle.spec.specs.History.{File, Ledger, is-named, has}
 use Rattle.spec.specs.Demand.{Listed, Got, Shows}
-use Rattle.history.specs.Lay.{onto, rec-of-onto, drop-past}
 use Rattle.history.specs.Lists.{Pairwise, keep-yes, keep-no, each-map, first-yes, first-no, not-both}
 use Rattle.history.specs.Store.{alive, Unique, files-alive}
 use Rattle.history.specs.Ledger.{as-file}
+use Rattle.history.specs.Lay.{onto, rec-of-onto, drop-past}
 use Rattle.history.specs.Laid.{Inside}
 use Rattle.history.specs.LaidEdit.{inside-of}
+use Rattle.history.specs.Kinds.{Rested}
 use Rattle.history.specs.OkLaws.{same-refl, Old, old-none, old-some, old-file}
 use Rattle.history.specs.Settling.{rested-settled}
-use Rattle.history.specs.Kinds.{Rested}
 
 -- ---- permutations
 

@@ -7,8 +7,7 @@ use mathlib.Core.List.{List, [], _∷_, _++_, append-assoc}
 use lib.ListN.{length, take, set, length-append, length-replicate}
 use lib.Seq.{set-at, append-snoc, length-take-le}
 use Rattle.spec.specs.Step.{Step, program, erase, apply, run, bytes-at, moved}
-use Rattle.history.specs.Lay.{blanks}
-use Rattle.history.specs.Quiet.{blank-split}
+use Rattle.history.specs.Blanks.{blanks, blank-split}
 
 -- ---- a property of every cut, phase by phase
 

@@ -48,10 +48,10 @@ other im′ s e f =
       is = e;
       at = s .at;
       gap-length = s .gap-length;
-      gap-quiet = s .gap-quiet;
+      gap-markless = s .gap-markless;
       lost-length = s .lost-length;
       lost-small = s .lost-small;
-      lost-quiet = s .lost-quiet;
+      lost-markless = s .lost-markless;
       front = s .front;
       fine = f;
     }

@@ -10,11 +10,11 @@ use Rattle.spec.specs.Record.{Rec, Entry}
 use borrow.Author.Tests.{ne-eqb}
 use Rattle.spec.specs.Geometry.{floor, sectors}
 use Rattle.spec.specs.Move.{vacated-end, vacated}
-use Rattle.history.specs.Lay.{blanks, body, onto, lay, rsize, lay-is, length-lay}
-use Rattle.history.specs.Walk.{Quiet}
-use Rattle.history.specs.Quiet.{quiet-append}
-use Rattle.history.specs.Erase.{erases, half-erased, half-erased-length, erase-cut, quiet-lost, half-erased-quiet, quiet-second, sectors-are, all-erased, take-erases}
+use Rattle.history.specs.Blanks.{blanks}
+use Rattle.history.specs.Lay.{body, onto, lay, rsize, lay-is, length-lay, rsize-words}
+use Rattle.history.specs.Markless.{markless-append, Cleaned, Markless}
 use Rattle.history.specs.Seg.{seg-none}
+use Rattle.history.specs.Erase.{erases, half-erased, half-erased-length, erase-cut, markless-lost, half-erased-markless, markless-second, sectors-are, all-erased, take-erases}
 use Rattle.history.specs.Straight.{Straight}
 
 -- the second byte is FF, so no record stands at 0
@@ -28,14 +28,6 @@ front-keep : (gap lost D L : List ℕ) (a : ℕ) → length gap ≡ 4096 * a →
 front-keep [] lost D L a l f g = g
 front-keep (x ∷ []) lost D L a l f g = absurd (omega arith)
 front-keep (x ∷ y ∷ gap) lost D L a l f g = f
-
--- a record is words
-pub rsize-words : (r : Rec) → rsize r ≡ 8 * (rsize r / 8)
-rsize-words r = omega arith
-
--- what is left of the head X, behind its first word, has no mark
-abbrev pub Cleaned : Rec → Type 0
-Cleaned x = Quiet (rsize x / 8 - 1) (body (x .name) (x .content) [])
 
 -- the head X and the lost bytes before it in its sector
 unfoldable pub old-head : List ℕ → Rec → List ℕ
@@ -64,12 +56,12 @@ module _ {im : List ℕ} {a l : ℕ} {gap lost : List ℕ} {h : ℕ} {x y : Rec}
         ap (λ (m : List ℕ). run m (take i (erases (4096 * a) (suc k)))) im-is
             ∙ erase-cut i (suc k) (4096 * a) gap q (lay (y ∷ ys) free) (s .gap-length) (omega (arith, q-length)) e
 
-    quiet-q : Quiet (512 * k + r) (drop 4096 q)
+    markless-q : Markless (512 * k + r) (drop 4096 q)
     unfolding old-head
-    quiet-q =
+    markless-q =
         let n : rsize x / 8 - 1 ≡ 511 - l + (512 * k + r) = omega (arith, s .lost-small) in
-        quiet-second x lost [] l (512 * k + r) (s .lost-length) (omega (arith, s .lost-small))
-            (subst (λ (m : ℕ). Quiet m (body (x .name) (x .content) [])) n c)
+        markless-second x lost [] l (512 * k + r) (s .lost-length) (omega (arith, s .lost-small))
+            (subst (λ (m : ℕ). Markless m (body (x .name) (x .content) [])) n c)
 
     -- after at least one erase: the head is Y, the free run may hold remains, without marks
     pub to-m3 : (i : ℕ) → i ≤ k →
@@ -86,12 +78,12 @@ module _ {im : List ℕ} {a l : ℕ} {gap lost : List ℕ} {h : ℕ} {x y : Rec}
           is = erased (suc i) (omega arith) ∙ sym (append-assoc gap D (L ++ lay (y ∷ ys) free));
           at = omega (arith, s .at, rsize-words x);
           gap-length = length-append gap D ∙ omega (arith, s .gap-length, ld);
-          gap-quiet =
-              subst (λ (n : ℕ). Quiet n (gap ++ D)) qn
-                  (quiet-append (512 * a) (512 * suc k) gap D (s .gap-length ∙ omega arith) (s .gap-quiet) (half-erased-quiet k r q ql quiet-q i e));
+          gap-markless =
+              subst (λ (n : ℕ). Markless n (gap ++ D)) qn
+                  (markless-append (512 * a) (512 * suc k) gap D (s .gap-length ∙ omega arith) (s .gap-markless) (half-erased-markless k r q ql markless-q i e));
           lost-length = length-drop (4096 * suc k) q ∙ omega arith;
           lost-small = short;
-          lost-quiet = quiet-lost k r q ql quiet-q;
+          lost-markless = markless-lost k r q ql markless-q;
           front =
               front-keep gap lost D L a (s .gap-length) (s .front)
                   (second-ff (4096 * suc i) (take (4096 * (suc k - suc i)) (drop (4096 * suc i) q)) L (omega arith));

@@ -7,18 +7,18 @@ use mathlib.Core.List.{List, [], _∷_, _++_, append-nil}
 use lib.ListN.{length}
 use Rattle.spec.specs.Record.{Rec, Entry}
 use Rattle.history.specs.Lay.{onto, lay, sizes, entries-of}
-use Rattle.history.specs.Walk.{Quiet}
+use Rattle.history.specs.Markless.{Markless}
 use Rattle.history.specs.Seg.{Seg, seg-onto, seg-append}
 use Rattle.history.specs.Straight.{Straight}
+use Rattle.history.specs.Laid.{Laid, laid-straight, Hole, Inside}
 use Rattle.history.specs.StraightEdit.{lay-append, sizes-append, fine-append, other, front-part, front-is, front-length, split-at}
 use Rattle.history.specs.Entries.{entries-append, Among, among-fine, entries-with, sizes-with, fine-with}
-use Rattle.history.specs.Laid.{Laid, laid-straight, Hole, Inside}
 
 -- with one record at least
 laid-of : {im : List ℕ} {a l : ℕ} {gap lost : List ℕ} {h : ℕ} (xs : List Rec) (r : Rec) (ys : List Rec) {seg : Seg} {free : List ℕ} {S : ℕ}
     {es : List Entry} (f : ℕ) →
     Straight im a l gap lost h (xs ++ (r ∷ ys)) seg free → S ≡ h + sizes (xs ++ (r ∷ ys)) → es ≡ entries-of h (xs ++ (r ∷ ys)) → length free ≡ 8 * f
-        → Quiet f free →
+        → Markless f free →
     Laid im h S false es seg gap free
 laid-of [] r ys f s p q m n = laid-straight f s refl p q m n
 laid-of (x ∷ xs) r ys f s p q m n = laid-straight f s refl p q m n
@@ -56,7 +56,7 @@ module _ {im : List ℕ} {a l : ℕ} {gap lost : List ℕ} {h : ℕ} {x : Rec} {
       }
 
   -- and any record by one of its size
-  pub straight-inside : (f : ℕ) → length free ≡ 8 * f → Quiet f free → {xs zs : List Entry} {e : Entry} → Among h rs xs e zs
+  pub straight-inside : (f : ℕ) → length free ≡ 8 * f → Markless f free → {xs zs : List Entry} {e : Entry} → Among h rs xs e zs
       → Inside im h (h + sizes rs) false xs e zs seg gap free
   straight-inside f m n {xs} {zs} {e} q =
       let tail : List ℕ = seg-onto seg free in

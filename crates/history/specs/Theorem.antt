@@ -24,17 +24,17 @@ use Rattle.spec.specs.History.{Request, plan, steps-of, Ledger, with-file, with
 use Rattle.spec.specs.Demand.{Steps-sound, Mounted, Shows, Bytes-put, Demand-3}
 use Rattle.history.specs.Steps.{run-append}
 use Rattle.history.specs.Safe.{Safe, safe-cut, safe-end, safe-sound, sound-append}
-use Rattle.history.specs.Top.{still-keeps, demand-by, carried-done, carried-cut}
 use Rattle.history.specs.Kinds.{Inv, Bytes, Rested}
-use Rattle.history.specs.Settling.{rested-reads}
 use Rattle.history.specs.OkLaws.{old-file, Old}
+use Rattle.history.specs.Settling.{rested-reads}
 use Rattle.history.specs.Puts.{Commits, put-commits}
-use Rattle.history.specs.Mounts.{mends}
 use Rattle.history.specs.Idle.{Mends}
+use Rattle.history.specs.Mounts.{mends}
 use Rattle.history.specs.Sweeps.{moves-safe, remove-keeps}
-use Rattle.history.specs.Shows.{rested-shows}
 use Rattle.history.specs.Formats.{formatted}
+use Rattle.history.specs.Shows.{rested-shows}
 use Rattle.history.specs.Calls.{Puts, put-no, put-yes, puts-of, Finds, find-no, find-yes, finds-of, Swept, sweep-no, sweep-yes, swept-of, get-none, list-none}
+use Rattle.history.specs.Top.{still-keeps, demand-by, carried-done, carried-cut}
 
 -- ---- put
 

@@ -12,13 +12,14 @@ use Rattle.spec.specs.Geometry.{floor}
 use Rattle.spec.specs.Record.{clean-here, Rec}
 use Rattle.spec.specs.Head.{head}
 use Rattle.spec.specs.Chain.{read, reading-from}
-use Rattle.history.specs.Lay.{blanks, lay, sizes, entries-of, All-fine}
+use Rattle.history.specs.Blanks.{blanks, blank-split}
+use Rattle.history.specs.Lay.{lay, sizes, entries-of, All-fine, chain-of}
 use Rattle.history.specs.Last.{Ends, Stops, stops-clear, stops-over, wrap, ends-wrap}
-use Rattle.history.specs.Walk.{Quiet, Walked, Head-low, is-START, is-CLEAN}
-use Rattle.history.specs.Head.{Front, front-gap, front-begun, front-low, Reaches, head-start, head-clean}
-use Rattle.history.specs.Shape.{chain-of, image, shape-turned, turns-wrap, turns-over, Low-end, low-clear, low-over}
-use Rattle.history.specs.Quiet.{quiet-append, blank-split}
+use Rattle.history.specs.Markless.{markless-append, Markless}
 use Rattle.history.specs.Seg.{Seg, seg-none, seg-torn, seg-cut, seg-held, seg-onto, seg-size, seg-entries, seg-open, seg-append, length-seg, seg-ends, seg-reaches}
+use Rattle.history.specs.Walk.{Walked, Head-low, is-START, is-CLEAN}
+use Rattle.history.specs.Head.{Front, front-gap, front-begun, front-low, Reaches, head-start, head-clean}
+use Rattle.history.specs.Shape.{image, shape-turned, turns-wrap, turns-over, Low-end, low-clear, low-over}
 
 -- what stands behind the records from the head on
 pub data End : Type 0 where
@@ -44,12 +45,12 @@ pub record Turned (im : List ℕ) (a l : ℕ) (lost : List ℕ) (h : ℕ) (low :
   pub some-below : 1 ≤ a
   pub below : sizes low + seg-size seg + 8 * f ≡ 4096 * a
   pub free-length : length free ≡ 8 * f
-  pub free-quiet : Quiet f free
+  pub free-markless : Markless f free
   pub opened : Next
   pub opens : Opens free opened
   pub lost-length : length lost ≡ 8 * l
   pub lost-small : l < 512
-  pub lost-quiet : Quiet l lost
+  pub lost-markless : Markless l lost
   pub fine-low : All-fine low
   pub walked : Walked 0 low
   pub fine-high : All-fine high
@@ -110,7 +111,7 @@ module _ {im : List ℕ} {a l : ℕ} {lost : List ℕ} {h : ℕ} {low : List Rec
       subst (λ (c : ℕ). Reaches (sizes low) (seg-onto seg ((free ++ lost) ++ (c ∷ 90 ∷ drop 2 rest))) (b ∷ 90 ∷ drop 2 rest)
           (seg-size seg + 8 * (f + l))) (sym e)
       (seg-reaches (sizes low) (f + l) seg (free ++ lost) (drop 2 rest) word-count
-          (quiet-append f l free lost (s .free-length) (s .free-quiet) (s .lost-quiet)) k
+          (markless-append f l free lost (s .free-length) (s .free-markless) (s .lost-markless)) k
       (λ i. omega (arith, s .below, s .some-below)))
 
   fronted : Front low (seg-onto seg ((free ++ lost) ++ rest))

@@ -16,21 +16,22 @@ use Rattle.spec.specs.Move.{Work, begin, after}
 use Rattle.spec.specs.Mount.{repair-4, delete-step, drop-steps}
 use Rattle.spec.specs.History.{Ledger}
 use Rattle.spec.specs.Demand.{Sound}
-use Rattle.history.specs.Lay.{blanks, st-00}
+use Rattle.history.specs.Lists.{some-behind}
+use Rattle.history.specs.Blanks.{blanks}
+use Rattle.history.specs.Shadow.{Shadowed, shadow-one}
+use Rattle.history.specs.Lay.{st-00}
 use Rattle.history.specs.Seg.{seg-none}
 use Rattle.history.specs.Laid.{Laid, Tail}
 use Rattle.history.specs.LaidEdit.{laid-fine, restatus-laid}
-use Rattle.history.specs.Shadow.{Shadowed, shadow-one}
-use Rattle.history.specs.Settled.{one-none, three-none}
-use Rattle.history.specs.OkLaws.{ok-unshadow}
 use Rattle.history.specs.Kinds.{Ok, Starts, Inv, Rested}
-use Rattle.history.specs.Closes.{Rests}
+use Rattle.history.specs.OkLaws.{ok-unshadow}
 use Rattle.history.specs.Rules.{shadow-ruled, fine-finished}
-use Rattle.history.specs.Idle.{Mends, mends-4, starts-clean, two-plain}
-use Rattle.history.specs.Resting.{starts-read}
+use Rattle.history.specs.Settled.{one-none, three-none}
 use Rattle.history.specs.Vacant.{tail-here, rested-of, rested-inv}
 use Rattle.history.specs.PutOld.{gone, gone-dead, starts-swap, status-sound}
-use Rattle.history.specs.Lists.{some-behind}
+use Rattle.history.specs.Closes.{Rests}
+use Rattle.history.specs.Idle.{Mends, mends-4, starts-clean, two-plain}
+use Rattle.history.specs.Resting.{starts-read}
 
 module _ {im : Image} {h S T : ℕ} (B F : ℕ) {t u : Bool} (xs ys : List Entry) (e : Entry) (good : good-length (length im) ≡ true)
     (d : Laid im h S t (xs ++ (e ∷ ys)) seg-none (blanks B) (blanks F)) (tail : Tail h S t seg-none (blanks B) (blanks F) T u) where

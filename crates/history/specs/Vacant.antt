@@ -6,7 +6,7 @@ use mathlib.Core.Path.{_≡_, refl, sym, ap, ap₂, _∙_, subst}
 use mathlib.Core.Bool.{Bool, true, false, _&&_}
 use mathlib.Core.List.{List, [], _∷_, _++_, append-assoc, append-nil}
 use lib.ListN.{length, take, drop, set, length-set, length-append, length-replicate, take-append-drop}
-use lib.Seq.{take-append-add, take-append-le, drop-append-seam, take-at, length-take-le}
+use lib.Seq.{take-append-add, take-append-le, drop-append-seam, length-take-le}
 use lib.Dec.{eqb, leb}
 use borrow.Author.Tests.{eqb-true}
 use Rattle.spec.specs.declared.Ending.{Ending}
@@ -18,18 +18,16 @@ use Rattle.spec.specs.Files.{named}
 use Rattle.spec.specs.Chain.{Reading, read, reading-from}
 use Rattle.spec.specs.Reading.{limit, tail-blank}
 use Rattle.spec.specs.History.{Ledger}
-use Rattle.history.specs.Lay.{blanks, sizes, low-start}
-use Rattle.history.specs.Last.{blank-blanks}
-use Rattle.history.specs.Quiet.{blank-split}
-use Rattle.history.specs.Seg.{Seg, seg-none}
-use Rattle.history.specs.StraightEdit.{relow}
-use Rattle.history.specs.Safe.{Safe}
-use Rattle.history.specs.Store.{alive, Unmarked}
 use Rattle.history.specs.Lists.{and-left}
-use Rattle.history.specs.Repair.{blank-is}
-use Rattle.history.specs.Laid.{Laid, laid-straight, laid-turned, Hole, Tail, tail-clear, tail-floor, tail-N, tail-turn, low-high, Bare}
-use Rattle.history.specs.Kinds.{Ok, Starts, place, quiet, vacated, Inv, Rested}
+use Rattle.history.specs.Blanks.{blanks, blank-blanks, blank-split, blank-is, take-blanks}
+use Rattle.history.specs.Store.{alive, Unmarked}
+use Rattle.history.specs.Lay.{sizes, low-start}
+use Rattle.history.specs.Seg.{Seg, seg-none}
+use Rattle.history.specs.Safe.{Safe}
+use Rattle.history.specs.Laid.{Laid, laid-straight, laid-turned, Hole, Tail, tail-clear, tail-floor, tail-N, tail-turn, low-high, Bare, place}
+use Rattle.history.specs.StraightEdit.{relow}
 use Rattle.history.specs.LaidEdit.{laid-first, laid-limit, laid-head, hole-of, relow-laid}
+use Rattle.history.specs.Kinds.{Ok, Starts, quiet, vacated, Inv, Rested}
 use Rattle.history.specs.OkLaws.{ok-same}
 use Rattle.history.specs.LaidRead.{laid-reads}
 
@@ -67,18 +65,13 @@ pub laid-eight : {im : Image} {h S : ℕ} {t : Bool} {es : List Entry} {seg : Se
 laid-eight (laid-straight {x = x} {ys} f s t e es l q) = omega (arith, s .at, sizes-eight (x ∷ ys))
 laid-eight (laid-turned {low = low} s t e es b) = omega (arith, sizes-eight low)
 
--- some of the FF
-pub take-blanks : (j m : ℕ) → j ≤ m → take j (blanks m) ≡ blanks j
-take-blanks j m h = ap (take j) (blank-split j (m - j) m (omega arith)) ∙ take-at (blanks j) (blanks (m - j)) j (length-replicate j 255)
-
 part-blanks : (pre s : List ℕ) (S m M : ℕ) → length pre ≡ S → S ≤ M → M ≤ S + m → blank (part S M (pre ++ (blanks m ++ s))) ≡ true
 part-blanks pre s S m M e g l =
     let j : ℕ = M - length pre in
     let n : M ≡ length pre + j = omega arith in
     ap₂ (λ (a b : ℕ). blank (drop a (take b (pre ++ (blanks m ++ s))))) (sym e) n
     ∙ ap (λ (x : List ℕ). blank (drop (length pre) x)) (take-append-add pre (blanks m ++ s) j)
-    ∙ ap blank (drop-append-seam pre (take j (blanks m ++ s)) ∙ take-append-le j (blanks m) s (omega (arith, length-replicate {A = ℕ} m 255))
-        ∙ take-blanks j m (omega arith)) ∙ blank-blanks j
+    ∙ ap blank (drop-append-seam pre (take j (blanks m ++ s)) ∙ take-blanks j m s (omega arith)) ∙ blank-blanks j
 
 -- a good length is sectors
 pub good-mod : (n : ℕ) → good-length n ≡ true → n % 4096 ≡ 0
@@ -121,7 +114,8 @@ module _ {h S : ℕ} {t : Bool} {es : List Entry} {im : Image} (v : Vacant h S t
   pub vacant-long : 8 ≤ v .m
   vacant-long = omega (arith, v .own, laid-eight (v .laid))
 
-  vacant-free : v .free ≡ blanks (v .m) ++ drop (v .m) (v .free)
+  -- they come first
+  pub vacant-free : v .free ≡ blanks (v .m) ++ drop (v .m) (v .free)
   vacant-free = sym (take-append-drop (v .m) (v .free)) ∙ ap (λ (l : List ℕ). l ++ drop (v .m) (v .free)) (v .ff)
 
   vacant-opens : v .free ≡ blanks 8 ++ (blanks (v .m - 8) ++ drop (v .m) (v .free))
@@ -155,7 +149,7 @@ vacant-at {S = S} {below = below} {free} d n s e h =
       laid = d;
       own = omega arith;
       whole = omega (arith, ap length e, length-append (blanks n) s);
-      ff = ap (take m) e ∙ take-append-le m (blanks n) s (omega arith) ∙ take-blanks m n (omega arith);
+      ff = ap (take m) e ∙ take-blanks m n s (omega arith);
     }
 
 -- the own sector of T, from the test

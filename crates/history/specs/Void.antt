@@ -10,9 +10,9 @@ use Rattle.spec.specs.Step.{Image, Step, program, run}
 use Rattle.spec.specs.Geometry.{up8}
 use Rattle.spec.specs.Record.{size-of, Rec, Entry}
 use Rattle.spec.specs.Mount.{torn-steps, void-steps, last-steps}
-use Rattle.history.specs.Lay.{blanks, pad, onto, lay, All-fine, low-record, st-00, header}
+use Rattle.history.specs.Blanks.{blanks, blank-split}
+use Rattle.history.specs.Lay.{pad, onto, lay, All-fine, low-record, st-00, header}
 use Rattle.history.specs.Last.{begun-5a, begun-end, held, begun}
-use Rattle.history.specs.Quiet.{blank-split}
 use Rattle.history.specs.Seg.{Seg, seg-none, seg-torn, seg-cut, seg-held, seg-onto, seg-size}
 use Rattle.history.specs.Steps.{Programs}
 

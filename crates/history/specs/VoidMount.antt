@@ -22,28 +22,29 @@ use Rattle.spec.specs.Move.{Work, begin, after}
 use Rattle.spec.specs.Mount.{void-steps, last-steps, torn-wrap-steps, repair-3}
 use Rattle.spec.specs.Demand.{Steps-sound}
 use Rattle.spec.specs.History.{Ledger}
-use Rattle.history.specs.Lay.{blanks, onto, lay, rsize, length-lay}
+use Rattle.history.specs.Lists.{each-append}
+use Rattle.history.specs.Blanks.{blanks}
+use Rattle.history.specs.Store.{alive, Unmarked, calm-and}
+use Rattle.history.specs.Lay.{onto, lay, rsize, length-lay}
 use Rattle.history.specs.Seg.{Seg, seg-none, seg-onto, seg-size, seg-entries, length-seg}
-use Rattle.history.specs.Turned.{Opens, opens-ff, opens-none}
 use Rattle.history.specs.Steps.{run-past, take-moved, take-programs, length-moved}
 use Rattle.history.specs.Safe.{safe-from, sound-past}
-use Rattle.history.specs.Lists.{each-append}
-use Rattle.history.specs.Store.{alive, Unmarked, calm-and}
-use Rattle.history.specs.Settled.{one-none, two-none}
-use Rattle.history.specs.Whole.{is-clean-0}
 use Rattle.history.specs.Legal.{Ruled}
-use Rattle.history.specs.Void.{void-rel, void-run, void-programs, void-cut, last-end}
+use Rattle.history.specs.Turned.{Opens, opens-ff, opens-none}
+use Rattle.history.specs.Whole.{is-clean-0}
 use Rattle.history.specs.Laid.{Laid, Tail, tail-clear, tail-floor, tail-N, tail-turn, Hole, Bare}
-use Rattle.history.specs.LaidEdit.{laid-fine, hole-of, free-quiet}
-use Rattle.history.specs.LaidRead.{start-reads}
-use Rattle.history.specs.OkLaws.{ok-add}
+use Rattle.history.specs.LaidEdit.{laid-fine, hole-of, free-markless}
 use Rattle.history.specs.Kinds.{Ok, Starts, quiet, Inv, Rested}
-use Rattle.history.specs.Closes.{Rests}
+use Rattle.history.specs.OkLaws.{ok-add}
 use Rattle.history.specs.Rules.{calm-of, seg-dead, seg-plain}
-use Rattle.history.specs.Idle.{Mends, mends-3}
+use Rattle.history.specs.LaidRead.{start-reads}
+use Rattle.history.specs.Settled.{one-none, two-none}
 use Rattle.history.specs.Vacant.{rested-of, rested-inv}
 use Rattle.history.specs.PutWrite.{bare-of}
 use Rattle.history.specs.PutOld.{starts-end}
+use Rattle.history.specs.Closes.{Rests}
+use Rattle.history.specs.Idle.{Mends, mends-3}
+use Rattle.history.specs.Void.{void-rel, void-run, void-programs, void-cut, last-end}
 use Rattle.history.specs.Voiding.{Voids, voids}
 
 tail-opens : {h S T : ℕ} {t u : Bool} {g : Seg} {below free : List ℕ} → Tail h S t g below free T u → (x : Next) × Opens free x
@@ -99,7 +100,7 @@ module _ {l : Ledger} {im : Image} {h S T : ℕ} (B F : ℕ) {t u : Bool} {es : 
       go : (g′ : Seg) × (run (seg-onto g rest) (take j (void-rel g)) ≡ seg-onto g′ rest) × (seg-size g′ ≡ seg-size g)
           → Inv l (run im (take j (moved S (void-rel g))))
       go c =
-          let w = free-quiet d in
+          let w = free-markless d in
           let x = tail-opens e in
           subst (Inv l) (sym (now j ∙ ap (λ (s : List ℕ). H .pre ++ s) (c .1)))
           (record {
@@ -138,7 +139,7 @@ module _ {l : Ledger} {im : Image} {h S T : ℕ} (B F : ℕ) {t u : Bool} {es : 
   left-laid : Laid (H .pre ++ onto (v .rec) rest) h (S + rsize (v .rec)) t (es ++ (gone ∷ [])) seg-none (blanks B) (blanks F)
   unfolding rest gone
   left-laid =
-      let w = free-quiet d in
+      let w = free-markless d in
       let x = tail-opens e in
       H .grow (v .rec) (w .0) (blanks F) (x .0) (v .fine) (v .low) (w .1) (w .2) (x .1) (ap (λ (n : ℕ). n + length (blanks F)) (v .size))
 

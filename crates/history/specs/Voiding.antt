@@ -13,12 +13,13 @@ use Rattle.spec.specs.Record.{size-of, Rec, Entry}
 use Rattle.spec.specs.Files.{named}
 use Rattle.spec.specs.Mount.{torn-steps, missing-steps, void-steps}
 use Rattle.spec.specs.Demand.{Steps-sound}
-use Rattle.history.specs.Lay.{blanks, pad, lens, rsize, Fine}
+use Rattle.history.specs.Lists.{some-behind}
+use Rattle.history.specs.Blanks.{blanks}
+use Rattle.history.specs.Store.{alive}
+use Rattle.history.specs.Lay.{pad, lens, rsize, Fine}
 use Rattle.history.specs.Last.{Begun, begun-ff, begun-5a, torn-rec, cut-rec, held, begun}
 use Rattle.history.specs.Seg.{Seg, seg-none, seg-torn, seg-cut, seg-held, seg-onto, seg-size, seg-entries}
-use Rattle.history.specs.Store.{alive}
 use Rattle.history.specs.Void.{void-rel, dead, voided, void-fine}
-use Rattle.history.specs.Lists.{some-behind}
 
 -- ---- the steps by the definitions
 

@@ -3,28 +3,22 @@ use Prim.Native.Nat.{ℕ, zero, suc, _+_, _-_, _*_, _≤_, _<_}
 use native.Mathlib.Omega.{arith}
 use native.Mathlib.Nat.{zero-add, suc-add, add-zero, add-assoc}
 use mathlib.Core.Path.{_≡_, refl, sym, ap, ap₂, _∙_}
-use mathlib.Core.Bool.{Bool, true, false, _&&_, _||_, and-false, not}
+use mathlib.Core.Bool.{true, false, _&&_, _||_, and-false, not}
 use mathlib.Core.List.{List, [], _∷_, _++_, append-nil}
-use lib.ListN.{length, drop, getD, length-append, length-drop, List·getD-append}
+use lib.ListN.{length, drop, getD, length-append, length-drop}
 use lib.Seq.{drop-append-le}
 use lib.Dec.{eqb}
 use borrow.Author.Tests.{ne-eqb}
 use Rattle.spec.specs.declared.Next.{Next}
 use Rattle.spec.specs.Basics.{long}
 use Rattle.spec.specs.Bytes.{is-record, is-start, is-clean, is-high, is-high-begun, is-erased, is-reserved}
-use Rattle.spec.specs.Record.{low-of, high-of, status-of, start-here, clean-here, size-of, Rec}
+use Rattle.spec.specs.Record.{status-of, start-here, clean-here, size-of, Rec}
 use Rattle.spec.specs.Next.{record-at}
 use Rattle.spec.specs.Head.{torn-here, walked-here, walk-next, walk, search}
 use Rattle.spec.specs.Move.{mark-here}
 use Rattle.history.specs.Lay.{onto, lay, rsize, sizes, Fit, Fine, All-fine, Stat, st-fc, st-f8, st-00, record-at-onto, drop-onto, long-le}
 use Rattle.history.specs.Last.{held, begun, record-at-begun, drop-begun}
-
--- ---- what has no mark
-
--- k words, none of which begins with a mark
-abbrev pub Quiet : ℕ → List ℕ → Type 0
-Quiet zero s = Unit {0}
-Quiet (suc k) s = (mark-here s ≡ false) × Quiet k (drop 8 s)
+use Rattle.history.specs.Markless.{Markless, no-record, no-clean, no-start, mark-append}
 
 -- ---- the walk
 
@@ -121,25 +115,8 @@ bad-next : (at : ℕ) (s : List ℕ) → walked-here at s ≡ false → walk-nex
 unfolding walk-next
 bad-next at s e = rw (e, walk-next)
 
-none-of : (a b c h : Bool) → ((a || b || c) && h) ≡ false → ((a && h) ≡ false) × ((b && h) ≡ false) × ((c && h) ≡ false)
-none-of a b c false p = (and-false a, and-false b, and-false c)
-none-of true b c true p = (p, cc, cc)
-none-of false true c true p = (refl, p, cc)
-none-of false false c true p = (refl, refl, p)
-
--- no mark, so no START
-pub no-start : (s : List ℕ) → mark-here s ≡ false → start-here s ≡ false
-no-start s e = none-of (is-start (low-of s)) (is-clean (low-of s)) (is-record (low-of s)) (is-high (high-of s)) e .0
-
--- no mark, so no CLEAN
-pub no-clean : (s : List ℕ) → mark-here s ≡ false → clean-here s ≡ false
-no-clean s e = none-of (is-start (low-of s)) (is-clean (low-of s)) (is-record (low-of s)) (is-high (high-of s)) e .1
-
-no-record : (s : List ℕ) → mark-here s ≡ false → (is-record (low-of s) && is-high (high-of s)) ≡ false
-no-record s e = none-of (is-start (low-of s)) (is-clean (low-of s)) (is-record (low-of s)) (is-high (high-of s)) e .2
-
-quiet-bad : (at : ℕ) (s : List ℕ) → mark-here s ≡ false → walk-next at s ≡ Next.Bad
-quiet-bad at s e = bad-next at s (rw (no-record s e, no-clean s e, and-false (eqb at 0)) (and-false (not (is-erased (status-of s)))))
+markless-bad : (at : ℕ) (s : List ℕ) → mark-here s ≡ false → walk-next at s ≡ Next.Bad
+markless-bad at s e = bad-next at s (rw (no-record s e, no-clean s e, and-false (eqb at 0)) (and-false (not (is-erased (status-of s)))))
 
 -- the first byte of a head
 pub data Head-low : ℕ → Type 0 where
@@ -147,8 +124,8 @@ pub data Head-low : ℕ → Type 0 where
   is-CLEAN : Head-low 160
 
 -- nothing unfinished before what has no mark: torn-like data makes the walk end 8 further
-pub lands-quiet : (at : ℕ) (s : List ℕ) → mark-here s ≡ false → (torn-here s ≡ false) → Lands₁ at 0 s s
-lands-quiet at s e t = record { lands = λ k. walk-halt k at s t (quiet-bad at s e) ∙ sym (add-zero at); there = refl }
+pub lands-markless : (at : ℕ) (s : List ℕ) → mark-here s ≡ false → (torn-here s ≡ false) → Lands₁ at 0 s s
+lands-markless at s e t = record { lands = λ k. walk-halt k at s t (markless-bad at s e) ∙ sym (add-zero at); there = refl }
 
 -- a torn header is stepped over
 pub lands-torn-like : (at : ℕ) (s : List ℕ) → (torn-here s ≡ true) → Lands₁ at 8 s (drop 8 s)
@@ -208,12 +185,8 @@ search-over : (k at : ℕ) → search (suc k) at [] ≡ at
 unfolding search is-start is-clean is-high long
 search-over k at = refl
 
--- a mark is in the first 8 bytes
-pub mark-append : (p s : List ℕ) → 8 ≤ length p → mark-here (p ++ s) ≡ mark-here p
-mark-append p s h = rw (List·getD-append p s 0 0 (omega arith), List·getD-append p s 0 1 (omega arith))
-
 -- one law for every quiet region: the search goes through it
-search-through : (j k at : ℕ) (g s : List ℕ) → length g ≡ 8 * j → Quiet j g → search (j + k) at (g ++ s) ≡ search k (at + 8 * j) s
+search-through : (j k at : ℕ) (g s : List ℕ) → length g ≡ 8 * j → Markless j g → search (j + k) at (g ++ s) ≡ search k (at + 8 * j) s
 search-through zero k at [] s e q = rw (zero-add k, add-zero at)
 search-through zero k at (x ∷ g) s e q = absurd (omega arith)
 search-through (suc j) k at g s e q =
@@ -228,7 +201,7 @@ search-through (suc j) k at g s e q =
     )
 
 -- the search stops at the first START or CLEAN
-pub search-found : {b : ℕ} (j k at : ℕ) (g t : List ℕ) → length g ≡ 8 * j → Quiet j g → Head-low b → j < k
+pub search-found : {b : ℕ} (j k at : ℕ) (g t : List ℕ) → length g ≡ 8 * j → Markless j g → Head-low b → j < k
     → search k at (g ++ (b ∷ 90 ∷ t)) ≡ at + 8 * j
 search-found {b} j k at g t e q h l =
     let i : k ≡ j + suc (k - suc j) = omega arith in
@@ -236,7 +209,7 @@ search-found {b} j k at g t e q h l =
         ∙ search-hit (k - suc j) (at + 8 * j) (b ∷ 90 ∷ t) (head-low-hit t h)
 
 -- the search finds nothing
-pub search-none : (j k at : ℕ) (g : List ℕ) → length g ≡ 8 * j → Quiet j g → j < k → search k at g ≡ at + 8 * j
+pub search-none : (j k at : ℕ) (g : List ℕ) → length g ≡ 8 * j → Markless j g → j < k → search k at g ≡ at + 8 * j
 search-none j k at g e q l =
     let i : k ≡ j + suc (k - suc j) = omega arith in
     ap₂ (λ (m : ℕ) (s : List ℕ). search m at s) i (sym (append-nil g)) ∙ search-through j (suc (k - suc j)) at g [] e q

@@ -17,13 +17,14 @@ use Rattle.spec.specs.Record.{Rec}
 use Rattle.spec.specs.Head.{head}
 use Rattle.spec.specs.Chain.{read}
 use Rattle.spec.specs.Reading.{reading}
-use Rattle.history.specs.Lay.{blanks, sizes, entries-of}
-use Rattle.history.specs.Last.{blank-blanks, Begun, torn-wrap}
+use Rattle.history.specs.Blanks.{blanks, blank-blanks}
+use Rattle.history.specs.Lay.{sizes, entries-of}
+use Rattle.history.specs.Last.{Begun, torn-wrap}
 use Rattle.history.specs.Seg.{Seg, seg-none, seg-onto, seg-size, drop-seg}
 use Rattle.history.specs.Legal.{Ruled, reading-by, free-turned, part-below, part-gap, part-rest}
 use Rattle.history.specs.Straight.{Straight, straight-start, straight-zero, bottom}
-use Rattle.history.specs.Marker.{torn-reading}
 use Rattle.history.specs.Turned.{Turned, End, end-bytes, low-part, high-part, shaped}
+use Rattle.history.specs.Marker.{torn-reading}
 
 -- START is not CLEAN
 pub is-clean-0 : (b : ℕ) → b ≡ 0 → is-clean b ≡ false
