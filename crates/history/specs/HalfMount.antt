@@ -17,8 +17,8 @@ use Rattle.spec.specs.Demand.{Steps-sound}
 use Rattle.spec.specs.History.{Ledger}
 use Rattle.history.specs.Lists.{some-behind}
 use Rattle.history.specs.Blanks.{blanks}
-use Rattle.history.specs.Store.{calm-ruled, Finished}
-use Rattle.history.specs.Lay.{sizes, entries-of, Fine, rsize}
+use Rattle.history.specs.Store.{Finished}
+use Rattle.history.specs.Lay.{sizes, entries-of, Fine}
 use Rattle.history.specs.Last.{Begun, begun-ff, begun-5a, torn-wrap}
 use Rattle.history.specs.Seg.{seg-none}
 use Rattle.history.specs.Safe.{sound-past}
@@ -30,11 +30,11 @@ use Rattle.history.specs.Laid.{laid-turned, clear-ff}
 use Rattle.history.specs.StraightEdit.{other, front-part, front-length, split-at, run-behind}
 use Rattle.history.specs.Entries.{entries-fine}
 use Rattle.history.specs.Kinds.{Ok, Starts, half, Inv, Rested}
-use Rattle.history.specs.Rules.{calm-of, fine-finished}
-use Rattle.history.specs.Settled.{one-none, last-none}
+use Rattle.history.specs.Rules.{fine-finished, starts-ruled}
+use Rattle.history.specs.Settled.{one-none, last-none, starts-clean, two-plain}
 use Rattle.history.specs.Vacant.{rested-of, rested-inv}
 use Rattle.history.specs.Closes.{Rests}
-use Rattle.history.specs.Idle.{Mends, mends-3, starts-clean, two-plain}
+use Rattle.history.specs.Idle.{Mends, mends-3}
 
 -- from its second byte on
 abbrev finish : List Step
@@ -102,7 +102,5 @@ mends-half {l} {im} a m c k {h} {lost} {x} {ys} i s b z st ok =
     let p : Rests l im (moved at finish) h = record { safe = (i, d .0, (half-inv a m c k s b z st ok (i .good), d .1 .0, rested-inv q)); rested = q }
         in
     
-    mends-3 {r = r} (torn-wrap-whole k s b z refl (st .0) (calm-ruled (record { at = h; it = x }) (entries-of (h + rsize x) ys)
-    (calm-of (record { at = h; it = x }) (entries-of (h + rsize x) ys) l f (st .1) ok)))
-    p (some-behind [] (program (at + 2) 240 ∷ []) (program (at + 1) 90))
+    mends-3 {r = r} (torn-wrap-whole k s b z refl (st .0) (starts-ruled es l ok st)) p (some-behind [] (program (at + 2) 240 ∷ []) (program (at + 1) 90))
     (one-none (begin im r) (starts-clean es st)) (two-plain (begin im r) es st) (third (begin im r) at (fine-finished es f) refl)

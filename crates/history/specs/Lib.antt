@@ -37,7 +37,6 @@ pub mod OkLaws
 pub mod Rules
 pub mod LaidRead
 pub mod Settled
-pub mod Settling
 pub mod Vacant
 -- ---- put
 pub mod Put

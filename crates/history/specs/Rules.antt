@@ -12,7 +12,7 @@ use Rattle.spec.specs.Files.{same-name, named, named-as, has-named, live, doubl
 use Rattle.spec.specs.Reading.{marked, second-ok, marks-ok, name-legal, names-ok, single}
 use Rattle.spec.specs.History.{Ledger}
 use Rattle.history.specs.Lists.{and-no, any-none, all-each, each-map, each-all, each-both, each-left, each-right, each-insert, Pairwise, pairwise-insert}
-use Rattle.history.specs.Store.{alive, Apart, Well-named, Finished, Unmarked, Calm-store, names-by, unique-single, marks-by, live-alive, fc-alive, f8-alive, fc-not-f8, no-fc, same-sym}
+use Rattle.history.specs.Store.{alive, Apart, Well-named, Finished, Unmarked, names-by, unique-single, marks-by, live-alive, fc-alive, f8-alive, fc-not-f8, no-fc, same-sym}
 use Rattle.history.specs.Shadow.{Shadowed, live-same, o-dead}
 use Rattle.history.specs.Lay.{Fine, finished}
 use Rattle.history.specs.Seg.{Seg, seg-entries, seg-none, seg-torn, seg-cut, seg-held}
@@ -25,10 +25,6 @@ use Rattle.history.specs.OkLaws.{same-is}
 -- a fine record is finished
 pub fine-finished : (es : List Entry) → Each (λ e. Fine (e .it)) es → Each Finished es
 fine-finished es f = each-map es (λ e h. finished (h .status-ok)) f
-
--- the records of a quiet image
-pub calm-of : (x : Entry) (es : List Entry) (l : Ledger) → Each (λ e. Fine (e .it)) (x ∷ es) → Each Unmarked es → Ok (x ∷ es) l → Calm-store x es
-calm-of x es l f m o = record { unique = o .unique; well-named = o .well-named; finished = fine-finished (x ∷ es) f; unmarked = m }
 
 -- the unfinished record is dead and plain
 pub seg-dead : (at : ℕ) (g : Seg) → Each (λ e. alive e ≡ false) (seg-entries at g)
@@ -78,6 +74,11 @@ second-ruled x y es l o a e m =
 pub plain-ruled : (x : Entry) (es : List Entry) (l : Ledger) → Ok (x ∷ es) l → Each Unmarked es → Ruled (x ∷ es)
 plain-ruled x es l o m =
     record { names = names-by (x ∷ es) (o .unique) (o .well-named); singles = unique-single (x ∷ es) (o .unique); marks = marks-by x es m }
+
+-- the first START, the others plain
+pub starts-ruled : (es : List Entry) (l : Ledger) → Ok es l → Starts es → Ruled es
+starts-ruled [] l o s = absurd s
+starts-ruled (x ∷ es) l o s = plain-ruled x es l o (s .1)
 
 -- ---- one F8 record whose name has an FC
 

@@ -25,7 +25,7 @@ use Rattle.history.specs.Laid.{Inside}
 use Rattle.history.specs.LaidEdit.{inside-of}
 use Rattle.history.specs.Kinds.{Rested}
 use Rattle.history.specs.OkLaws.{same-refl, Old, old-none, old-some, old-file}
-use Rattle.history.specs.Settling.{rested-settled}
+use Rattle.history.specs.Settled.{rested-settled}
 
 -- ---- permutations
 

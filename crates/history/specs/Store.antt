@@ -3,7 +3,7 @@ use Prim.Native.Nat.{ℕ}
 use native.Mathlib.Omega.{arith}
 use mathlib.Core.Path.{_≡_, refl, sym, _∙_}
 use mathlib.Core.Bool.{Bool, true, false, _&&_, _||_, not}
-use mathlib.Core.List.{List, [], _∷_, _++_}
+use mathlib.Core.List.{List, [], _∷_}
 use lib.Dec.{eqb}
 use borrow.Author.Tests.{ne-eqb, eqb-true, eqb-false}
 use Rattle.spec.specs.Basics.{empty, same, any, keep, Each}
@@ -11,8 +11,7 @@ use Rattle.spec.specs.Bytes.{is-start, is-clean, is-unfinished}
 use Rattle.spec.specs.Record.{name-ok, Entry, name-of}
 use Rattle.spec.specs.Files.{same-name, named, named-as, has-named, live, superseded, files, doubled}
 use Rattle.spec.specs.Reading.{marked, second-ok, marks-ok, name-legal, names-ok, single}
-use Rattle.history.specs.Lists.{and-left, and-no, any-none, all-each, keep-none, keep-same, each-map, each-both, each-end, each-all, Pairwise, all-pairs, pairwise-end, or-left, or-right}
-use Rattle.history.specs.Legal.{Ruled}
+use Rattle.history.specs.Lists.{and-left, and-no, any-none, all-each, keep-none, keep-same, each-map, each-both, Pairwise, all-pairs, or-left, or-right}
 
 -- ---- names
 
@@ -130,13 +129,6 @@ Finished e = is-unfinished (e .it .status) ≡ false
 abbrev pub Unmarked : Entry → Type 0
 Unmarked e = marked e ≡ false
 
--- the records of a quiet image: x the head, es the others
-pub record Calm-store (x : Entry) (es : List Entry) : Type 0 where
-  pub unique : Unique (x ∷ es)
-  pub well-named : Each Well-named (x ∷ es)
-  pub finished : Each Finished (x ∷ es)
-  pub unmarked : Each Unmarked es
-
 name-legal-by : (es : List Entry) (e : Entry) → live es e ≡ alive e → Well-named e → name-legal es e ≡ true
 unfolding name-legal
 name-legal-by es e h n = go (alive e) refl
@@ -163,15 +155,6 @@ unfolding marks-ok
 marks-by x [] h = refl
 marks-by x (y ∷ es) h = rw (marks-ok, second-plain (x ∷ (y ∷ es)) x y (h .0), any-none marked es (h .1))
 
--- no rule is broken
-pub calm-ruled : (x : Entry) (es : List Entry) → Calm-store x es → Ruled (x ∷ es)
-calm-ruled x es c =
-    record {
-      names = names-by (x ∷ es) (c .unique) (c .well-named);
-      singles = unique-single (x ∷ es) (c .unique);
-      marks = marks-by x es (c .unmarked);
-    }
-
 -- a dead one is apart from any other
 pub dead-apart : (u : Entry) → alive u ≡ false → (e : Entry) → Apart e u
 dead-apart u a e p q = let z : false ≡ true = sym a ∙ q in cc
@@ -179,13 +162,3 @@ dead-apart u a e p q = let z : false ≡ true = sym a ∙ q in cc
 -- a record that is not alive needs no name
 pub dead-named : (u : Entry) → alive u ≡ false → Well-named u
 dead-named u a q = let z : false ≡ true = sym a ∙ q in cc
-
--- with an unfinished record behind
-pub calm-and : (x u : Entry) (es : List Entry) → Calm-store x es → alive u ≡ false → Unmarked u → Ruled (x ∷ (es ++ (u ∷ [])))
-calm-and x u es c a m =
-    let un : Unique (x ∷ (es ++ (u ∷ []))) = pairwise-end Apart (x ∷ es) u (c .unique) (each-all (λ e. Apart e u) (dead-apart u a) (x ∷ es)) in
-    record {
-      names = names-by (x ∷ (es ++ (u ∷ []))) un (each-end Well-named (x ∷ es) u (c .well-named) (dead-named u a));
-      singles = unique-single (x ∷ (es ++ (u ∷ []))) un;
-      marks = marks-by x (es ++ (u ∷ [])) (each-end Unmarked es u (c .unmarked) m);
-    }

@@ -25,11 +25,10 @@ use Rattle.history.specs.Safe.{Safe, safe-append}
 use Rattle.history.specs.Laid.{Laid}
 use Rattle.history.specs.Kinds.{Ok, Starts, Inv, Rested}
 use Rattle.history.specs.OkLaws.{Old, old-none, old-some, old-file, ok-delete}
-use Rattle.history.specs.Settled.{after-none}
+use Rattle.history.specs.Settled.{after-none, after-some}
 use Rattle.history.specs.Vacant.{rested-inv}
 use Rattle.history.specs.PutOld.{gone, gone-dead}
 use Rattle.history.specs.Closes.{Rests}
-use Rattle.history.specs.Idle.{after-some}
 use Rattle.history.specs.Unshadow.{delete-sound, delete-rests}
 use Rattle.history.specs.Handover.{hands-over}
 use Rattle.history.specs.Copying.{Dead-first, copy-safe, copy-some, copied}

@@ -26,7 +26,7 @@ use Rattle.history.specs.Steps.{run-append}
 use Rattle.history.specs.Safe.{Safe, safe-cut, safe-end, safe-sound, sound-append}
 use Rattle.history.specs.Kinds.{Inv, Bytes, Rested}
 use Rattle.history.specs.OkLaws.{old-file, Old}
-use Rattle.history.specs.Settling.{rested-reads}
+use Rattle.history.specs.Settled.{rested-reads}
 use Rattle.history.specs.Puts.{Commits, put-commits}
 use Rattle.history.specs.Idle.{Mends}
 use Rattle.history.specs.Mounts.{mends}

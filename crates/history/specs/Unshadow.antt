@@ -26,12 +26,11 @@ use Rattle.history.specs.LaidEdit.{laid-fine, restatus-laid}
 use Rattle.history.specs.Kinds.{Ok, Starts, Inv, Rested}
 use Rattle.history.specs.OkLaws.{ok-unshadow}
 use Rattle.history.specs.Rules.{shadow-ruled, fine-finished}
-use Rattle.history.specs.Settled.{one-none, three-none}
+use Rattle.history.specs.Settled.{one-none, three-none, starts-clean, two-plain, starts-read}
 use Rattle.history.specs.Vacant.{tail-here, rested-of, rested-inv}
 use Rattle.history.specs.PutOld.{gone, gone-dead, starts-swap, status-sound}
 use Rattle.history.specs.Closes.{Rests}
-use Rattle.history.specs.Idle.{Mends, mends-4, starts-clean, two-plain}
-use Rattle.history.specs.Resting.{starts-read}
+use Rattle.history.specs.Idle.{Mends, mends-4}
 
 module _ {im : Image} {h S T : ℕ} (B F : ℕ) {t u : Bool} (xs ys : List Entry) (e : Entry) (good : good-length (length im) ≡ true)
     (d : Laid im h S t (xs ++ (e ∷ ys)) seg-none (blanks B) (blanks F)) (tail : Tail h S t seg-none (blanks B) (blanks F) T u) where

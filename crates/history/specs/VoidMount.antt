@@ -22,9 +22,9 @@ use Rattle.spec.specs.Move.{Work, begin, after}
 use Rattle.spec.specs.Mount.{void-steps, last-steps, torn-wrap-steps, repair-3}
 use Rattle.spec.specs.Demand.{Steps-sound}
 use Rattle.spec.specs.History.{Ledger}
-use Rattle.history.specs.Lists.{each-append}
+use Rattle.history.specs.Lists.{each-append, each-end}
 use Rattle.history.specs.Blanks.{blanks}
-use Rattle.history.specs.Store.{alive, Unmarked, calm-and}
+use Rattle.history.specs.Store.{alive, Unmarked}
 use Rattle.history.specs.Lay.{onto, lay, rsize, length-lay}
 use Rattle.history.specs.Seg.{Seg, seg-none, seg-onto, seg-size, seg-entries, length-seg}
 use Rattle.history.specs.Steps.{run-past, take-moved, take-programs, length-moved}
@@ -33,10 +33,10 @@ use Rattle.history.specs.Legal.{Ruled}
 use Rattle.history.specs.Turned.{Opens, opens-ff, opens-none}
 use Rattle.history.specs.Whole.{is-clean-0}
 use Rattle.history.specs.Laid.{Laid, Tail, tail-clear, tail-floor, tail-N, tail-turn, Hole, Bare}
-use Rattle.history.specs.LaidEdit.{laid-fine, hole-of, free-markless}
+use Rattle.history.specs.LaidEdit.{hole-of, free-markless}
 use Rattle.history.specs.Kinds.{Ok, Starts, quiet, Inv, Rested}
 use Rattle.history.specs.OkLaws.{ok-add}
-use Rattle.history.specs.Rules.{calm-of, seg-dead, seg-plain}
+use Rattle.history.specs.Rules.{seg-dead, seg-plain, plain-ruled}
 use Rattle.history.specs.LaidRead.{start-reads}
 use Rattle.history.specs.Settled.{one-none, two-none}
 use Rattle.history.specs.Vacant.{rested-of, rested-inv}
@@ -195,8 +195,8 @@ mends-void {l} {im} {h} {S} {T} B F {t} {u} (x ∷ es) g good d e st ok n =
     let p : Hole im h S t (x ∷ es) g (blanks B) (blanks F) = hole-of d in
     let k : all ≡ (x ∷ es) ++ (v .entry ∷ []) = ap (λ (fs : List Entry). (x ∷ es) ++ fs) (v .entries) in
     let c : Ruled ((x ∷ es) ++ (v .entry ∷ [])) =
-    calm-and x (v .entry) es (calm-of x es l (laid-fine d) (st .1) ok) (subst (Each (λ e. alive e ≡ false)) (v .entries) (seg-dead S g) .0)
-        (subst (Each Unmarked) (v .entries) (seg-plain S g) .0) in
+    plain-ruled x (es ++ (v .entry ∷ [])) l (ok-add (x ∷ es) (v .entry) l ok (subst (Each (λ e. alive e ≡ false)) (v .entries) (seg-dead S g) .0))
+        (each-end Unmarked es (v .entry) (st .1) (subst (Each Unmarked) (v .entries) (seg-plain S g) .0)) in
     mends-3 {r = r} (start-reads B F d e (st .0) (subst Ruled (sym k) c)) (void-rests B F good d e st ok v) (v .some)
     (one-none (begin im r) (is-clean-0 (x .it .low) (st .0)))
     (two-none (begin im r) x (es ++ seg-entries S g) (each-append Unmarked es (seg-entries S g) (st .1) (seg-plain S g)))
