@@ -21,7 +21,7 @@ use Rattle.history.specs.Markless.{Cleaned}
 use Rattle.history.specs.Seg.{seg-none}
 use Rattle.history.specs.Steps.{run-append}
 use Rattle.history.specs.Safe.{Safe, safe-append, safe-from, safe-map, safe-end}
-use Rattle.history.specs.Erase.{erases, length-erases, take-erases}
+use Rattle.history.specs.Erase.{erases, length-erases, take-erases, erases-length, erases-sound}
 use Rattle.history.specs.Laid.{Laid, Tail, low-high, place}
 use Rattle.history.specs.StraightEdit.{relow}
 use Rattle.history.specs.LaidEdit.{laid-head, relow-laid, entry-inside}
@@ -30,7 +30,7 @@ use Rattle.history.specs.OkLaws.{ok-same, ok-behead}
 use Rattle.history.specs.Vacant.{Here, tail-here, tail-along, rested-of, first-is, relow-alive, vacant-inv, bare-safe, bare-rested, rested-inv}
 use Rattle.history.specs.LaidClean.{anew, Swept, sweep-data}
 use Rattle.history.specs.LaidForget.{forget-laid}
-use Rattle.history.specs.LaidErase.{Leaves, near, far, erases-length, erases-sound, leaves}
+use Rattle.history.specs.LaidErase.{Leaves, near, far, leaves}
 use Rattle.history.specs.LaidMend.{Vacates, Repaired, repair-laid}
 
 -- steps after which the image is rested, its head being h
@@ -102,7 +102,6 @@ vacate-rests {l} {im} {h} {S} B F {t} {x} {y} {es} g d e a b c y₁ m o = go (le
         subst (λ (ss : List Step). good-length (length (run im ss)) ≡ true) (take-erases (suc k) (suc k) A (omega arith)) (good-cut (suc k)) in
         let r : Rested l (set (run im (erases A (suc k))) (y .at) 0) (reading-from (set (run im (erases A (suc k))) (y .at) 0) (y .at)) = bare-rested
             g₁ y₁ m ok₁ w in
-        
         subst (λ (ss : List Step). Rests l im ss (y .at)) (sym (vacate-are x y A k (vacated (length im) x y) p))
         (rests-append (erases A (suc k)) (program (y .at) 0 ∷ []) (safe-from (Inv l) im (erases A (suc k)) cuts (erases-sound A (suc k) im z i))
         (record { safe = bare-safe g₁ y₁ m ok₁ w (rested-inv r); rested = r }))

@@ -151,7 +151,6 @@ module _ {l : Ledger} {im : Image} {r : Reading} (q : Rested l im r) (x : Entry)
       let k : Commits l (with-file n c l) im ss
           (length n + length c + 9 + one-if-fc (some x) + three-if (with-marker (r .place) (size-of (length n) (length c))))
           (r .place .head) = commits in
-      
       subst (Safe (Inv l) im) (sym (k .is))
       (safe-append (Inv l) im (k .before) (k .commit ∷ k .behind) (k .safe-before) (
         safe-end (Inv l) im (k .before) (k .safe-before),

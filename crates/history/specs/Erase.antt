@@ -1,18 +1,35 @@
 -- Erasing sector by sector, cut anywhere: what is left has no mark if it had none from its second sector on.
-use Prim.Native.Nat.{ℕ, zero, suc, _+_, _-_, _*_, _≤_, _<_}
+use Prim.Native.Nat.{ℕ, zero, suc, _+_, _-_, _*_, _≤_, _<_, _%_}
 use native.Mathlib.Omega.{arith}
 use native.Mathlib.Nat.{not-suc-le-zero}
 use mathlib.Core.Path.{_≡_, refl, sym, ap, ap₂, _∙_, subst}
 use mathlib.Core.List.{List, [], _∷_, _++_, append-assoc, append-nil, map}
 use lib.ListN.{length, take, drop, length-append, length-replicate, length-drop, take-append-drop}
 use lib.Seq.{drop-drop, length-take-le, take-at, drop-at}
-use borrow.Author.Tests.{le-leb, lt-leb}
-use Rattle.spec.specs.Step.{Step, erase, sector, apply, run}
-use Rattle.spec.specs.Geometry.{sectors-by, sectors}
+use borrow.Author.Tests.{le-leb, lt-leb, eqb-true, leb-true}
+use Rattle.spec.specs.Step.{Step, erase, sector, apply, run, Image}
+use Rattle.spec.specs.Geometry.{sectors-by, sectors, good-length}
+use Rattle.history.specs.Lists.{and-left, and-right}
 use Rattle.history.specs.Blanks.{blanks, blank-split}
 use Rattle.history.specs.Lay.{drop-past, body, onto}
 use Rattle.history.specs.Markless.{markless-blanks, markless-append, markless-drop, markless-take, Markless}
 use Rattle.spec.specs.Record.{Rec}
+use lib.Dec.{eqb, leb}
+use mathlib.Core.Bool.{_&&_, true}
+use Rattle.spec.specs.Demand.{Steps-sound}
+
+-- ---- whole sectors
+
+-- a good length is whole sectors, and within its bounds
+pub good-is : (n : ℕ) → good-length n ≡ true → (n % 4096 ≡ 0) × (8192 ≤ n) × (n ≤ 16777216)
+unfolding good-length
+good-is n g =
+    let a : (eqb (n % 4096) 0 && leb 8192 n) ≡ true = and-left (eqb (n % 4096) 0 && leb 8192 n) (leb n 16777216) g in
+    (
+      eqb-true (n % 4096) 0 (and-left (eqb (n % 4096) 0) (leb 8192 n) a),
+      leb-true 8192 n (and-right (eqb (n % 4096) 0) (leb 8192 n) a),
+      leb-true n 16777216 (and-right (eqb (n % 4096) 0 && leb 8192 n) (leb n 16777216) g),
+    )
 
 -- the erases of k sectors from a on
 abbrev pub erases : ℕ → ℕ → List Step
@@ -46,7 +63,6 @@ erase-run (suc j) a p q s e l =
     let i : 4096 + 4096 * j ≡ 4096 * suc j = omega arith in
     let c : p ++ (q ++ s) ≡ p ++ (q₁ ++ (q₂ ++ s)) = ap (λ (l : List ℕ). p ++ l)
         (ap (λ (l : List ℕ). l ++ s) (sym (take-append-drop 4096 q)) ∙ append-assoc q₁ q₂ s) in
-    
     ap (λ (m : List ℕ). run m (erases a (suc j))) c
     ∙ ap (λ (m : List ℕ). run m (erases (a + 4096) j))
         (erase-mid p q₁ (q₂ ++ s) a e (length-take-le 4096 q (omega arith)) ∙ sym (append-assoc p sector (q₂ ++ s)))
@@ -78,6 +94,35 @@ take-erases (suc i) (suc k) a h = ap (λ (m : List Step). erase a ∷ m) (take-e
 pub length-erases : (a k : ℕ) → length (erases a k) ≡ k
 length-erases a zero = refl
 length-erases a (suc k) = ap suc (length-erases (a + 4096) k)
+
+-- an erase inside the image
+pub erase-length : (im : Image) (a : ℕ) → a + 4096 ≤ length im → length (apply im (erase a)) ≡ length im
+erase-length im a h =
+    length-append (take a im) (sector ++ drop 4096 (drop a im))
+        ∙ ap (λ (n : ℕ). length (take a im) + n) (length-append sector (drop 4096 (drop a im)))
+    ∙ omega (arith, length-take-le a im (omega arith), length-sector, length-drop 4096 (drop a im), length-drop a im)
+
+-- erases keep the length
+pub erases-length : (j a k : ℕ) (im : Image) → a + 4096 * k ≤ length im → length (run im (take j (erases a k))) ≡ length im
+erases-length zero a k im h = refl
+erases-length (suc j) a zero im h = refl
+erases-length (suc j) a (suc k) im h =
+    let e : length (apply im (erase a)) ≡ length im = erase-length im a (omega arith) in
+    erases-length j (a + 4096) k (apply im (erase a)) (omega arith) ∙ e
+
+-- erases of whole sectors are sound
+pub erases-sound : (a k : ℕ) (im : Image) → a % 4096 ≡ 0 → a + 4096 * k ≤ length im → Steps-sound im (erases a k)
+erases-sound a zero im z h = tt
+erases-sound a (suc k) im z h =
+    let e : length (apply im (erase a)) ≡ length im = erase-length im a (omega arith) in
+    ((z, omega arith), erases-sound (a + 4096) k (apply im (erase a)) (omega arith) (omega arith))
+
+-- no erase: no sector
+pub no-map : (zs : List ℕ) → map erase zs ≡ [] → zs ≡ []
+no-map [] e = refl
+no-map (z ∷ zs) e = let n : _≡_ {A = ℕ} 0 1 = cc in absurd (omega arith)
+
+-- ---- erases cut anywhere
 
 -- k sectors of q, of which i are erased
 abbrev pub half-erased : ℕ → ℕ → List ℕ → List ℕ

@@ -22,13 +22,12 @@ use Rattle.history.specs.Lay.{lay}
 use Rattle.history.specs.Markless.{markless-append, markless-drop, markless-take, markless-ff, Markless}
 use Rattle.history.specs.Seg.{seg-none, seg-onto}
 use Rattle.history.specs.Safe.{Safe}
-use Rattle.history.specs.Erase.{erase-mid, length-sector, sector-is}
+use Rattle.history.specs.Erase.{erase-mid, length-sector, sector-is, good-is, erase-length}
 use Rattle.history.specs.Turned.{open-ff}
 use Rattle.history.specs.Laid.{Laid, laid-straight, laid-turned, Hole, place}
 use Rattle.history.specs.LaidEdit.{laid-below, laid-head, laid-length, hole-of, free-markless}
-use Rattle.history.specs.Vacant.{laid-eight, good-mod, Vacant, vacant-long}
+use Rattle.history.specs.Vacant.{laid-eight, Vacant, vacant-long}
 use Rattle.history.specs.StraightErase.{second-ff}
-use Rattle.history.specs.LaidErase.{erase-length}
 
 -- ---- one sector of a part without marks
 
@@ -38,7 +37,6 @@ markless-swap j n r u q w s lu lq ls qs h =
     let a : Markless j u = markless-take j (n + r) u (q ++ w) lu h in
     let d : Markless (n + r) (q ++ w) = subst (λ (m : List ℕ). Markless (n + r) m) (drop-at u (q ++ w) (8 * j) lu) (markless-drop j (n + r) (u ++ (q ++ w)) h)
         in
-    
     let b : Markless r w = subst (λ (m : List ℕ). Markless r m) (drop-at q w (8 * n) lq) (markless-drop n r (q ++ w) d) in
     markless-append j (n + r) u (s ++ w) lu a (markless-append n r s w ls qs b)
 
@@ -183,7 +181,6 @@ mid-erase {N} {h} {S} {lim} {t} {es} {im} {z} d (high-sector m g l) =
     let own : take (v .m) (blanked c) ≡ blanks (v .m) = own-after S (v .m) z (v .free) c (v .own) m g (v .ff) in
     let i : apply im (erase z) ≡ k .pre ++ (blanked c ++ k .post) = ap (λ (x : Image). apply x (erase z)) (k .is)
         ∙ blanked-is c (k .pre) (k .post) S z (k .at) (omega arith) in
-    
     record {
       len = erase-length im z (omega (arith, laid-length (v .laid), d .ends)) ∙ d .len;
       vac = record {
@@ -253,5 +250,5 @@ pub erase-safe : {im : Image} {h S : ℕ} {t : Bool} {es : List Entry} → good-
 unfolding erase-steps
 erase-safe {im} {h} {S} {t} g d =
     mid-safe (keep (dirty im) (free-sectors (place im h S t))) im
-    (each-keep (Erasable h S (limit (place im h S t)) t) (dirty im) (free-sectors (place im h S t)) (free-erasable im h S t (good-mod (length im) g)))
+    (each-keep (Erasable h S (limit (place im h S t)) t) (dirty im) (free-sectors (place im h S t)) (free-erasable im h S t (good-is (length im) g .0)))
         d

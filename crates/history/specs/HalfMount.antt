@@ -101,6 +101,5 @@ mends-half {l} {im} a m c k {h} {lost} {x} {ys} i s b z st ok =
     let q : Rested l (run im (moved at finish)) (reading-from (run im (moved at finish)) h) = rested a m c k s b z st ok (i .good) in
     let p : Rests l im (moved at finish) h = record { safe = (i, d .0, (half-inv a m c k s b z st ok (i .good), d .1 .0, rested-inv q)); rested = q }
         in
-    
     mends-3 {r = r} (torn-wrap-whole k s b z refl (st .0) (starts-ruled es l ok st)) p (some-behind [] (program (at + 2) 240 ∷ []) (program (at + 1) 90))
     (one-none (begin im r) (starts-clean es st)) (two-plain (begin im r) es st) (third (begin im r) at (fine-finished es f) refl)

@@ -228,7 +228,6 @@ found : {b : ℕ} (low : List Rec) (s t : List ℕ) (m : ℕ) → All-fine low �
 found {b} low s t m f w h r =
     let e : length s - r .by ≡ length (r .g) + length (b ∷ 90 ∷ t) = sym (length-drop (r .by) s) ∙ ap length (r .land .there)
         ∙ length-append (r .g) (b ∷ 90 ∷ t) in
-    
     let p : 8 * r .j + 2 + length t + r .by ≤ length s = omega (arith, r .whole) in
     searched low (r .by) s (r .g ++ (b ∷ 90 ∷ t)) f w (r .land) (omega (arith, length-lay low s)) (sizes low + m)
     (search-found (r .j) (length (lay low s)) (sizes low + r .by) (r .g) t (r .whole) (r .markless) h (omega (arith, length-lay low s))

@@ -4,13 +4,11 @@ use native.Mathlib.Omega.{arith}
 use mathlib.Core.Path.{_≡_, refl, sym, ap, _∙_, subst}
 use mathlib.Core.Bool.{Bool, true, false}
 use mathlib.Core.List.{List, [], _∷_, _++_, append-assoc, append-nil, map}
-use lib.ListN.{length, take, drop, length-append, length-replicate, length-drop, replicate-append-replicate}
-use lib.Seq.{length-take-le}
+use lib.ListN.{length, take, drop, length-append, length-replicate, replicate-append-replicate}
 use lib.Dec.{ltb}
 use borrow.Author.Tests.{ne-eqb, eq-eqb, ltb-true, ltb-false}
 use Rattle.spec.specs.declared.Next.{Next}
-use Rattle.spec.specs.Step.{Image, Step, erase, sector, apply, run}
-use Rattle.spec.specs.Demand.{Steps-sound}
+use Rattle.spec.specs.Step.{Image, Step, erase, run}
 use Rattle.spec.specs.Geometry.{good-length, floor, sectors}
 use Rattle.spec.specs.Record.{Rec, Entry}
 use Rattle.spec.specs.Move.{vacated-end, vacated}
@@ -19,13 +17,13 @@ use Rattle.history.specs.Blanks.{blanks, split-front}
 use Rattle.history.specs.Lay.{body, onto, rsize, sizes, entries-of, length-lay, length-body, rsize-words}
 use Rattle.history.specs.Markless.{markless-append, markless-blanks, Markless, Cleaned}
 use Rattle.history.specs.Seg.{seg-none}
-use Rattle.history.specs.Erase.{erases, length-sector, sectors-are, half-erased, half-erased-length, all-erased, take-erases}
+use Rattle.history.specs.Erase.{erases, sectors-are, half-erased, half-erased-length, all-erased, take-erases, good-is, no-map}
 use Rattle.history.specs.Straight.{Straight}
 use Rattle.history.specs.Turned.{Turned, End, exact, marker, end-bytes, Opens, open-ff, opens-blanks}
 use Rattle.history.specs.Laid.{Laid, laid-straight, laid-turned, Tail, tail-clear, tail-floor, tail-N, tail-turn, Bare, clear-ff}
 use Rattle.history.specs.StraightEdit.{straight-length}
 use Rattle.history.specs.TurnedLaid.{turned-length}
-use Rattle.history.specs.Vacant.{Vacant, vacant-at, good-mod}
+use Rattle.history.specs.Vacant.{Vacant, vacant-at}
 use Rattle.history.specs.StraightErase.{old-head, to-m3, vacated-are, done}
 use Rattle.history.specs.TurnedErase.{turned-m3, last-head, zero-m3, zero-markless}
 
@@ -38,33 +36,6 @@ pub data Leaves (im : Image) (x y : Entry) (es : List Entry) : Type 0 where
           → Leaves im x y es
 
 -- ---- the sectors
-
--- an erase inside the image
-pub erase-length : (im : Image) (a : ℕ) → a + 4096 ≤ length im → length (apply im (erase a)) ≡ length im
-erase-length im a h =
-    length-append (take a im) (sector ++ drop 4096 (drop a im))
-        ∙ ap (λ (n : ℕ). length (take a im) + n) (length-append sector (drop 4096 (drop a im)))
-    ∙ omega (arith, length-take-le a im (omega arith), length-sector, length-drop 4096 (drop a im), length-drop a im)
-
--- erases keep the length
-pub erases-length : (j a k : ℕ) (im : Image) → a + 4096 * k ≤ length im → length (run im (take j (erases a k))) ≡ length im
-erases-length zero a k im h = refl
-erases-length (suc j) a zero im h = refl
-erases-length (suc j) a (suc k) im h =
-    let e : length (apply im (erase a)) ≡ length im = erase-length im a (omega arith) in
-    erases-length j (a + 4096) k (apply im (erase a)) (omega arith) ∙ e
-
--- erases of whole sectors are sound
-pub erases-sound : (a k : ℕ) (im : Image) → a % 4096 ≡ 0 → a + 4096 * k ≤ length im → Steps-sound im (erases a k)
-erases-sound a zero im z h = tt
-erases-sound a (suc k) im z h =
-    let e : length (apply im (erase a)) ≡ length im = erase-length im a (omega arith) in
-    ((z, omega arith), erases-sound (a + 4096) k (apply im (erase a)) (omega arith) (omega arith))
-
--- no erase: no sector
-pub no-map : (zs : List ℕ) → map erase zs ≡ [] → zs ≡ []
-no-map [] e = refl
-no-map (z ∷ zs) e = let n : _≡_ {A = ℕ} 0 1 = cc in absurd (omega arith)
 
 -- w words: less than a sector, or some sectors and r words more
 by-sectors : {A : Type 0} (w : ℕ) → (w < 512 → A) → ((k r : ℕ) → 512 * suc k + r ≡ w → r < 512 → A) → A
@@ -150,7 +121,7 @@ module _ {im : Image} {a l : ℕ} {lost : List ℕ} {h : ℕ} {x y : Rec} {ys : 
     straight-clear S e h₈ =
         far A k S false (vacated-are (length im) h x y a l k r (s .at) (s .lost-small) all short) (omega arith) sectors-in
         (λ i p. vacant-at (laid-straight f (to-m3 s c k r all short i p) refl (omega arith) refl lf qf) F [] (sym (append-nil (blanks F)))
-        (omega (arith, good-mod (length im) g, straight-length s, length-replicate {A = ℕ} F 255)))
+        (omega (arith, good-is (length im) g .0, straight-length s, length-replicate {A = ℕ} F 255)))
         (record { S = S; B = B + 4096 * suc k; F = F; t = false; laid = laid-straight f all-ff refl (omega arith) refl lf qf; tail = clear-ff F h₈ })
 
     -- the records end at N: the chain turns
@@ -323,7 +294,7 @@ module _ {im : Image} {a l : ℕ} {lost : List ℕ} {h : ℕ} {y : Rec} {low : L
       })
 
   zero-leaves : Leaves im X₂ Y₂ E₂
-  zero-leaves = zero-far (length im / 4096 - a - 1) (omega (arith, good-mod (length im) g, turned-length s, s .at))
+  zero-leaves = zero-far (length im / 4096 - a - 1) (omega (arith, good-is (length im) g .0, turned-length s, s .at))
 
 -- ---- any laid image
 

@@ -39,7 +39,6 @@ module _ {im : List ℕ} {a l : ℕ} {gap lost : List ℕ} {h : ℕ} {x y : Rec}
       let e₁ : im ≡ G ++ onto x R = s .is ∙ sym (append-assoc gap lost (onto x R)) in
       let e₂ : set (G ++ onto x R) (h + 1) 0 ≡ G ++ set (onto x R) 1 0 = ap (λ (n : ℕ). set (G ++ onto x R) (n + 1) 0) (sym lg)
           ∙ set-past G (onto x R) 1 0 in
-      
       let e₃ : set (onto x R) 1 0 ≡ forgotten x ++ R = ap (λ (l : List ℕ). set l 1 0) (lay-is (x ∷ []) R) in
       let lf : length (forgotten x) ≡ 8 * (rsize x / 8) = omega (arith, length-body (x .name) (x .content) [], rsize-words x) in
       record {
@@ -74,7 +73,6 @@ module _ {im : List ℕ} {a l : ℕ} {lost : List ℕ} {h : ℕ} {low : List Rec
       let e₁ : im ≡ G ++ onto x R = s .is ∙ sym (high-front-is s [] (onto x R)) in
       let e₂ : set (G ++ onto x R) (h + 1) 0 ≡ G ++ set (onto x R) 1 0 = ap (λ (n : ℕ). set (G ++ onto x R) (n + 1) 0) (sym lg)
           ∙ set-past G (onto x R) 1 0 in
-      
       let e₃ : set (onto x R) 1 0 ≡ forgotten x ++ R = ap (λ (l : List ℕ). set l 1 0) (lay-is (x ∷ []) R) in
       let lf : length (forgotten x) ≡ 8 * (rsize x / 8) = omega (arith, length-body (x .name) (x .content) [], rsize-words x) in
       record {

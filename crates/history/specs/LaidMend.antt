@@ -19,12 +19,11 @@ use Rattle.history.specs.Markless.{markless-ff, Markless}
 use Rattle.history.specs.Seg.{seg-none, seg-onto}
 use Rattle.history.specs.Steps.{run-append}
 use Rattle.history.specs.Safe.{Safe, safe-map}
-use Rattle.history.specs.Erase.{sectors-are}
+use Rattle.history.specs.Erase.{sectors-are, good-is, no-map}
 use Rattle.history.specs.Turned.{opens-blanks}
 use Rattle.history.specs.Laid.{Laid, laid-straight, laid-turned, Hole, Tail, tail-clear, tail-floor, tail-N, tail-turn, Bare, clear-ff, place}
 use Rattle.history.specs.LaidEdit.{laid-below, hole-of, free-markless}
-use Rattle.history.specs.Vacant.{good-mod, limit-is, Vacant, vacant-long, vacant-of, vacant-tail, vacant-blank, vacant-free}
-use Rattle.history.specs.LaidErase.{no-map}
+use Rattle.history.specs.Vacant.{limit-is, Vacant, vacant-long, vacant-of, vacant-tail, vacant-blank, vacant-free}
 use Rattle.history.specs.Repair.{mend-steps, mend-done}
 use Rattle.history.specs.EraseFree.{Mid, erase-safe}
 
@@ -112,7 +111,6 @@ module _ {im : Image} {h S : ℕ} {es : List Entry} (g : length im % 4096 ≡ 0)
       let K : Hole im h S true es seg-none (v .below) (v .free) = hole-of (v .laid) in
       let e : take c (v .free) ≡ blanks c = ap (take c) (vacant-free v)
           ∙ take-blanks c (v .m) (drop (v .m) (v .free)) (omega (arith, v .own)) in
-      
       record {
         S = S;
         B = 0;
@@ -134,13 +132,11 @@ module _ {im : Image} {h S : ℕ} {es : List Entry} (g : length im % 4096 ≡ 0)
       let K : Hole im h S false es seg-none (v .below) (v .free) = hole-of (v .laid) in
       let e : take c (v .free) ≡ blanks c = ap (take c) (vacant-free v)
           ∙ take-blanks c (v .m) (drop (v .m) (v .free)) (omega (arith, v .own)) in
-      
       let low : List Step = mend-steps im (floor h) 0 (floor h) in
       let high : List Step = mend-steps im N (ceiling S) N in
       let d : Laid (run im low) h S false es seg-none (blanks (floor h)) (v .free) = low-done (v .laid) (floor h) refl in
       let is : im ≡ K .pre ++ (v .free ++ hole-of d .post) = K .is
           ∙ ap (λ (l : List ℕ). K .pre ++ (v .free ++ l)) (post-none (v .laid) ∙ sym (post-none d)) in
-      
       let ss : map erase (keep (dirty im) (sectors 0 (floor h) ++ sectors (ceiling S) N)) ≡ low ++ high =
       ap (map erase) (keep-append (dirty im) (sectors 0 (floor h)) (sectors (ceiling S) N))
           ∙ map-append erase (keep (dirty im) (sectors 0 (floor h))) (keep (dirty im) (sectors (ceiling S) N)) in
@@ -214,7 +210,7 @@ repair-laid {im} {h} {S} {t} {es} {below} {free} g d e b = go e
   where
     full : free ≡ [] → (t ≡ false → floor h ≡ 0) → Repaired im h S t es
     full f z =
-        let none : [] ≡ erase-steps im (place im h S t) = sym (full-steps t d f (good-mod (length im) g) z) in
+        let none : [] ≡ erase-steps im (place im h S t) = sym (full-steps t d f (good-is (length im) g .0) z) in
         record {
           safe =
               subst (λ (ss : List Step). Safe (Vacates (length im) h S t es) im ss) none (record {
@@ -244,7 +240,7 @@ repair-laid {im} {h} {S} {t} {es} {below} {free} g d e b = go e
               }) im
               (erase-steps im (place im h S t))
               (erase-safe g (record { len = refl; vac = v; ends = sym (limit-is (v .laid)) }));
-          bare = vacant-bare (good-mod (length im) g) t v;
+          bare = vacant-bare (good-is (length im) g .0) t v;
         }
     go (tail-floor f t₁ p q) = full f (λ u. let n : _≡_ {A = ℕ} 0 1 = cc in absurd (omega arith))
     go (tail-N f t₁ z p q) = full f (λ u. z)

@@ -65,7 +65,6 @@ without-mid xs ys e l u a m =
     let n : List ℕ = name-of e in
     let p : List·Permᴰ (without n (as-file e ∷ contents (xs ++ ys))) (without n l) = perm-keep (not-named n)
         (List·Permᴰ·trans (Permᴰ·symm (contents-front xs ys e a)) m) in
-    
     let q : without n (as-file e ∷ contents (xs ++ ys)) ≡ contents (xs ++ ys) =
     keep-no (not-named n) (as-file e) (contents (xs ++ ys)) (ap not (same-refl n)) ∙ keep-contents n (xs ++ ys) (absent-others xs ys e u a) in
     subst (λ (fs : List File). List·Permᴰ fs (without n l)) q p

@@ -1,7 +1,7 @@
 -- A record written where FF stands, cut anywhere: before the commit it is one of the unfinished things (Seg), after it a record.
 use Prim.Native.Nat.{ℕ, zero, suc, _+_, _-_, _≤_, _<_}
 use native.Mathlib.Omega.{arith}
-use native.Mathlib.Nat.{zero-add, add-zero}
+use native.Mathlib.Nat.{zero-add}
 use mathlib.Core.Path.{_≡_, refl, sym, ap, _∙_, subst}
 use mathlib.Core.List.{List, [], _∷_, _++_, append-assoc, append-nil}
 use lib.ListN.{length, take, length-append, length-replicate}
@@ -10,11 +10,11 @@ use Rattle.spec.specs.Step.{Step, program, apply, run, bytes-at}
 use Rattle.spec.specs.Geometry.{up8}
 use Rattle.spec.specs.Record.{size-of, Rec}
 use Rattle.spec.specs.Write.{header-steps, name-steps, data-steps, record-steps}
-use Rattle.history.specs.Blanks.{blanks, blank-split}
+use Rattle.history.specs.Blanks.{blanks, blank-split, split-front}
 use Rattle.history.specs.Lay.{pad, onto, Plain, Fit, header}
 use Rattle.history.specs.Last.{Begun, begun-ff, begun-5a, begun-none, held}
 use Rattle.history.specs.Seg.{Seg, seg-none, seg-torn, seg-cut, seg-held, seg-onto, seg-size}
-use Rattle.history.specs.Steps.{cut-one, cut-append, run-append, Programs, length-bytes, write-over, write-blank}
+use Rattle.history.specs.Steps.{cut-one, cut-append, run-append, Programs, length-bytes, write-over, write-blank, programs-bytes, bytes-append}
 
 -- ---- the states of a record under way, each with f bytes from its start to what follows, s
 
@@ -86,13 +86,6 @@ name-cut d f n s h p l i j k =
     write-blank (header d []) n s 8 j (f - 8 - j) (f - 8) refl k (omega arith) in
     rw e (cut-state d j f (f - 8 - j) (take j n) s (length-take-le j n k) (omega arith) (take-plain j n p) l (omega arith) (omega arith))
 
--- two runs of bytes
-pub bytes-append : (a : ℕ) (v w : List ℕ) → bytes-at a (v ++ w) ≡ bytes-at a v ++ bytes-at (a + length v) w
-bytes-append a [] w = rw (add-zero a)
-bytes-append a (x ∷ v) w =
-    let e : a + 1 + length v ≡ a + suc (length v) = omega arith in
-    ap (λ (l : List Step). program a x ∷ l) (bytes-append (a + 1) v w ∙ ap (λ (i : ℕ). bytes-at (a + 1) v ++ bytes-at i w) e)
-
 -- the name and its 00: a held record with no data yet
 named : (n c s : List ℕ) (f : ℕ) → size-of (length n) (length c) ≤ f →
     run (header (length c) (blanks (f - 8) ++ s)) (name-steps n) ≡ onto (held n (blanks (length c))) (blanks (f - size-of (length n) (length c)) ++ s)
@@ -153,7 +146,6 @@ names-cut n c s f g h k i =
     let a : Opened f s (run H (bytes-at 8 n)) = rw all at (names (length n) (omega arith)) in
     let e : apply (run H (bytes-at 8 n)) (program (8 + length n) 0) ≡ R = sym (run-append H (bytes-at 8 n) (program (8 + length n) 0 ∷ []))
         ∙ named n c s f h in
-    
     cut-append (Opened f s) H (bytes-at 8 n) (program (8 + length n) 0 ∷ [])
     (λ j l. names j (omega (arith, length-bytes 8 n)))
     (cut-one (Opened f s) (run H (bytes-at 8 n)) (program (8 + length n) 0) [] a
@@ -178,9 +170,7 @@ length-body n c = simp (length-append, length-bytes) (omega arith)
 pub open-cut : (n c s : List ℕ) (f : ℕ) → Fit (length c) n → size-of (length n) (length c) ≤ f → (k : ℕ) → k ≤ 8 + length n + length c
     → Opened f s (run (blanks f ++ s) (take k (open-steps n c)))
 open-cut n c s f g h k i =
-    let b : blanks f ++ s ≡ blanks 8 ++ (blanks (f - 8) ++ s) = ap (λ (z : List ℕ). z ++ s) (blank-split 8 (f - 8) f (omega arith))
-        ∙ append-assoc (blanks 8) (blanks (f - 8)) s in
-    
+    let b : blanks f ++ s ≡ blanks 8 ++ (blanks (f - 8) ++ s) = split-front 8 (f - 8) f s (omega arith) in
     rw b
     (cut-append (Opened f s) (blanks 8 ++ (blanks (f - 8) ++ s)) (header-steps (length c)) (body-steps n c)
     (λ j l. header-cut (length c) f s (g .small) (omega arith) j l)
@@ -196,9 +186,7 @@ pub open-done : (n c s : List ℕ) (f : ℕ) → size-of (length n) (length c) �
     → run (blanks f ++ s) (open-steps n c) ≡ onto (held n c) (blanks (f - size-of (length n) (length c)) ++ s)
 open-done n c s f h =
     let r : List ℕ = blanks (f - size-of (length n) (length c)) ++ s in
-    let b : blanks f ++ s ≡ blanks 8 ++ (blanks (f - 8) ++ s) = ap (λ (z : List ℕ). z ++ s) (blank-split 8 (f - 8) f (omega arith))
-        ∙ append-assoc (blanks 8) (blanks (f - 8)) s in
-    
+    let b : blanks f ++ s ≡ blanks 8 ++ (blanks (f - 8) ++ s) = split-front 8 (f - 8) f s (omega arith) in
     let H : List ℕ = header (length c) (blanks (f - 8) ++ s) in
     let D : List Step = data-steps (length n) c in
     let all : take (length c) D ≡ D = take-all (length c) D (omega (arith, length-bytes (8 + up8 (length n + 1)) c)) in
@@ -209,10 +197,6 @@ open-done n c s f h =
 -- how many steps a record has
 pub length-record : (n c : List ℕ) → length (record-steps n c) ≡ 9 + length n + length c
 length-record n c = simp (length-append, length-bytes) (omega arith)
-
-programs-bytes : (a : ℕ) (w : List ℕ) (ss : List Step) → Programs ss → Programs (bytes-at a w ++ ss)
-programs-bytes a [] ss p = p
-programs-bytes a (x ∷ w) ss p = programs-bytes (a + 1) w ss p
 
 -- none of them erases
 pub record-programs : (n c : List ℕ) → Programs (record-steps n c)

@@ -1,12 +1,10 @@
 -- What put does up to its commit, apart from the old file: the marker if there is one, and the record, at the place that it is given.
-use Prim.Native.Nat.{ℕ, _+_, _-_, _%_, _≤_}
+use Prim.Native.Nat.{ℕ, _+_, _-_, _≤_}
 use native.Mathlib.Omega.{arith}
 use mathlib.Core.Path.{_≡_, sym, ap, subst}
-use mathlib.Core.Bool.{Bool, true, false, _&&_}
+use mathlib.Core.Bool.{Bool, true, false}
 use mathlib.Core.List.{List, [], _∷_, _++_}
 use lib.ListN.{length, length-replicate}
-use lib.Dec.{leb, eqb}
-use borrow.Author.Tests.{leb-true}
 use Rattle.spec.specs.declared.Place.{Place}
 use Rattle.spec.specs.Step.{Image, Step, program, apply, run, moved}
 use Rattle.spec.specs.Geometry.{good-length}
@@ -15,12 +13,12 @@ use Rattle.spec.specs.Place.{fits, address, with-marker}
 use Rattle.spec.specs.Write.{marker-steps, turn-steps}
 use Rattle.spec.specs.Demand.{Sound}
 use Rattle.spec.specs.History.{Ledger, three-if}
-use Rattle.history.specs.Lists.{and-right}
 use Rattle.history.specs.Blanks.{blanks}
 use Rattle.history.specs.Lay.{Fit}
 use Rattle.history.specs.Seg.{seg-none}
 use Rattle.history.specs.Steps.{length-moved}
 use Rattle.history.specs.Safe.{Safe, safe-append}
+use Rattle.history.specs.Erase.{good-is}
 use Rattle.history.specs.Laid.{Laid, Tail, Bare, place}
 use Rattle.history.specs.LaidEdit.{laid-below, laid-length, laid-head}
 use Rattle.history.specs.Kinds.{Bytes, Starts, Ok, Inv}
@@ -36,20 +34,16 @@ pub record Written (l : Ledger) (im : Image) (h : ℕ) (es : List Entry) (n c : 
   pub sound : Sound (run im (turn ++ moved a (open-steps n c))) (program (a + 2) 252)
   pub rest : Bare h (es ++ (record { at = a; it = file n c } ∷ [])) (apply (run im (turn ++ moved a (open-steps n c))) (program (a + 2) 252))
 
-small-image : (N : ℕ) → good-length N ≡ true → N ≤ 16777216
-unfolding good-length
-small-image N g = leb-true N 16777216 (and-right (eqb (N % 4096) 0 && leb 8192 N) (leb N 16777216) g)
-
 module _ {im : Image} {h S : ℕ} {t : Bool} {es : List Entry} (B F : ℕ) (d : Laid im h S t es seg-none (blanks B) (blanks F)) (l : Ledger)
     (good : good-length (length im) ≡ true) (st : Starts es)
     (ok : Ok es l)
     (n c : List ℕ) (nice : name-ok n ≡ true) (b : Bytes c) where
   fit-tail : size-of (length n) (length c) ≤ F → Fit (length c) n
-  fit-tail room = name-fit n (length c) nice (omega (arith, small-image (length im) good, laid-length d, length-replicate {A = ℕ} F 255))
+  fit-tail room = name-fit n (length c) nice (omega (arith, good-is (length im) good .2, laid-length d, length-replicate {A = ℕ} F 255))
 
   fit-zero : t ≡ false → size-of (length n) (length c) ≤ B → Fit (length c) n
   fit-zero e room =
-      name-fit n (length c) nice (omega (arith, small-image (length im) good, laid-head d, laid-below d e, length-replicate {A = ℕ} B 255))
+      name-fit n (length c) nice (omega (arith, good-is (length im) good .2, laid-head d, laid-below d e, length-replicate {A = ℕ} B 255))
 
   at-tail : size-of (length n) (length c) ≤ F → Written l im h es n c [] S 0
   at-tail room =

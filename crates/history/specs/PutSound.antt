@@ -15,12 +15,12 @@ use Rattle.spec.specs.Record.{size-of, name-ok, ends-in-slash}
 use Rattle.spec.specs.Write.{header-steps, name-steps, data-steps, commit-steps, record-steps}
 use Rattle.spec.specs.Demand.{Steps-sound}
 use Rattle.history.specs.Lists.{and-left, and-right}
-use Rattle.history.specs.Blanks.{blanks, blank-split}
+use Rattle.history.specs.Blanks.{blanks, blank-split, split-front}
 use Rattle.history.specs.Lay.{pad, Plain, Fit, header}
-use Rattle.history.specs.Steps.{write-over}
+use Rattle.history.specs.Steps.{write-over, bytes-append}
 use Rattle.history.specs.Safe.{sound-append, sound-bytes, on-blank}
 use Rattle.history.specs.Kinds.{Bytes}
-use Rattle.history.specs.Put.{open-steps, bytes-append}
+use Rattle.history.specs.Put.{open-steps}
 
 -- ---- a file name
 
@@ -42,7 +42,6 @@ unfolding name-ok
 name-fit n d h l =
     let three : (leb 1 (length n) && leb (length n) 63 && all is-printable n) ≡ true = and-left
         (leb 1 (length n) && leb (length n) 63 && all is-printable n) (not (ends-in-slash n)) h in
-    
     let two : (leb 1 (length n) && leb (length n) 63) ≡ true = and-left (leb 1 (length n) && leb (length n) 63) (all is-printable n) three in
     record {
       short = omega (arith, leb-true (length n) 63 (and-right (leb 1 (length n)) (leb (length n) 63) two));
@@ -105,9 +104,7 @@ body-sound n c s f g b h =
 pub open-sound : (n c s : List ℕ) (f : ℕ) → Fit (length c) n → Bytes c → size-of (length n) (length c) ≤ f
     → Steps-sound (blanks f ++ s) (open-steps n c)
 open-sound n c s f g b h =
-    let e : blanks f ++ s ≡ blanks 8 ++ (blanks (f - 8) ++ s) = ap (λ (z : List ℕ). z ++ s) (blank-split 8 (f - 8) f (omega arith))
-        ∙ append-assoc (blanks 8) (blanks (f - 8)) s in
-    
+    let e : blanks f ++ s ≡ blanks 8 ++ (blanks (f - 8) ++ s) = split-front 8 (f - 8) f s (omega arith) in
     subst (λ (z : List ℕ). Steps-sound z (open-steps n c)) (sym e)
     (sound-append (blanks 8 ++ (blanks (f - 8) ++ s)) (header-steps (length c)) (name-steps n ++ data-steps (length n) c)
         (header-sound (length c) (blanks (f - 8) ++ s)) (body-sound n c s f g b h))

@@ -5,8 +5,8 @@ use native.Mathlib.Nat.{add-zero}
 use mathlib.Core.Path.{_≡_, refl, sym, ap, _∙_, subst}
 use mathlib.Core.Bool.{Bool, true, false}
 use mathlib.Core.List.{List, [], _∷_, _++_}
-use lib.ListN.{length, take, set, length-append, length-replicate, length-set}
-use Rattle.spec.specs.Step.{Image, Step, program, erase, apply, run, moved}
+use lib.ListN.{length, take, set, length-append, length-replicate}
+use Rattle.spec.specs.Step.{Image, Step, program, apply, run, moved}
 use Rattle.spec.specs.Geometry.{floor, good-length}
 use Rattle.spec.specs.Record.{size-of, Entry}
 use Rattle.spec.specs.Write.{commit-steps}
@@ -17,7 +17,7 @@ use Rattle.history.specs.Lay.{onto, Fit, low-record, st-fc}
 use Rattle.history.specs.Last.{held}
 use Rattle.history.specs.Markless.{markless-ff}
 use Rattle.history.specs.Seg.{Seg, seg-none, seg-torn, seg-cut, seg-held, seg-size}
-use Rattle.history.specs.Steps.{Programs, take-moved, take-programs, run-past, length-moved}
+use Rattle.history.specs.Steps.{Programs, take-moved, take-programs, run-past, length-moved, length-run, programs-moved, programs-left}
 use Rattle.history.specs.Safe.{Safe, safe-from, sound-past}
 use Rattle.history.specs.Turned.{opens-words}
 use Rattle.history.specs.Laid.{Laid, Hole, Tail, tail-clear, tail-floor, tail-N, tail-turn, Bare, clear-ff}
@@ -27,16 +27,6 @@ use Rattle.history.specs.Put.{Opened, open-steps, open-cut, open-done, f
 use Rattle.history.specs.PutSound.{open-sound, commit-last}
 
 -- ---- lengths
-
-length-run : (im : Image) (ss : List Step) → Programs ss → length (run im ss) ≡ length im
-length-run im [] p = refl
-length-run im (program a b ∷ ss) p = length-run (set im a b) ss p ∙ length-set im a b
-length-run im (erase a ∷ ss) p = absurd p
-
-programs-moved : (a : ℕ) (ss : List Step) → Programs ss → Programs (moved a ss)
-programs-moved a [] p = tt
-programs-moved a (program i b ∷ ss) p = programs-moved a ss p
-programs-moved a (erase i ∷ ss) p = absurd p
 
 -- programming keeps the length
 pub good-run : (im : Image) (ss : List Step) → Programs ss → good-length (length im) ≡ true → good-length (length (run im ss)) ≡ true
@@ -104,11 +94,6 @@ bare-of {im} {h} {S} {t} {es} B F d = go (left-of B F d)
         record { S = 0; B = 0; F = B; t = true; laid = turn-exact ends one; tail = clear-ff B b }
 
 -- ---- the record
-
-programs-left : (ss ts : List Step) → Programs (ss ++ ts) → Programs ss
-programs-left [] ts p = tt
-programs-left (program i b ∷ ss) ts p = programs-left ss ts p
-programs-left (erase i ∷ ss) ts p = p
 
 open-programs : (n c : List ℕ) → Programs (open-steps n c)
 open-programs n c = programs-left (open-steps n c) commit-steps (subst Programs (commit-last n c) (record-programs n c))

@@ -9,7 +9,7 @@ use lib.ListN.{length, length-append, length-set}
 use Rattle.spec.specs.declared.Place.{Place}
 use Rattle.spec.specs.Geometry.{good-length}
 use Rattle.spec.specs.Files.{named}
-use Rattle.spec.specs.Step.{Image, Step, program, erase, apply, run, moved}
+use Rattle.spec.specs.Step.{Image, Step, program, apply, run, moved}
 use Rattle.spec.specs.Basics.{empty}
 use Rattle.spec.specs.Bytes.{is-committed}
 use Rattle.spec.specs.Record.{name-ok, size-of, Entry, name-of}
@@ -22,7 +22,7 @@ use Rattle.history.specs.Blanks.{blanks}
 use Rattle.history.specs.Store.{alive, fc-alive}
 use Rattle.history.specs.Ledger.{Absent}
 use Rattle.history.specs.Seg.{seg-none}
-use Rattle.history.specs.Steps.{run-append}
+use Rattle.history.specs.Steps.{run-append, moved-append}
 use Rattle.history.specs.Safe.{Safe, safe-append, safe-here, safe-end}
 use Rattle.history.specs.Laid.{Laid, place}
 use Rattle.history.specs.StraightEdit.{restatus}
@@ -49,11 +49,6 @@ pub record Commits (k l : Ledger) (im : Image) (ss : List Step) (at h : ℕ) : T
 
 -- ---- the pieces put together
 
-moved-two : (a : ℕ) (ss ts : List Step) → moved a (ss ++ ts) ≡ moved a ss ++ moved a ts
-moved-two a [] ts = refl
-moved-two a (program i b ∷ ss) ts = ap (λ (z : List Step). program (a + i) b ∷ z) (moved-two a ss ts)
-moved-two a (erase i ∷ ss) ts = ap (λ (z : List Step). erase (a + i) ∷ z) (moved-two a ss ts)
-
 regroup : (v w x y z : List Step) → v ++ (w ++ ((x ++ y) ++ z)) ≡ (v ++ (w ++ x)) ++ (y ++ z)
 regroup v w x y z = simp append-assoc
 
@@ -68,7 +63,7 @@ module _ (k l : Ledger) (im : Image) (h : ℕ) (es : List Entry) (n c : List ℕ
 
   split : mig ++ (turn ++ (moved a (record-steps n c) ++ del)) ≡ (mig ++ opened) ++ (program (a + 2) 252 ∷ del)
   split =
-      ap (λ (z : List Step). mig ++ (turn ++ (z ++ del))) (ap (moved a) (commit-last n c) ∙ moved-two a (open-steps n c) commit-steps)
+      ap (λ (z : List Step). mig ++ (turn ++ (z ++ del))) (ap (moved a) (commit-last n c) ∙ moved-append a (open-steps n c) commit-steps)
       ∙ regroup mig turn (moved a (open-steps n c)) (moved a commit-steps) del
 
   together : (left : Reading) → Safe (Inv l) (apply (run (run im mig) opened) (program (a + 2) 252)) del

@@ -288,7 +288,6 @@ module _ {l : Ledger} {im : Image} {r : Reading} (q : Rested l im r) where
   get-none n ok h =
       let f : file-named n (r .entries) ≡ none = ap (file-named n) entries-are
           ∙ none-named n h (file-named n (q .es)) (old-file n (q .es) l (q .ok)) in
-      
       ap (λ (p : Answer Plan). carry-out im 0 p .numbers .answer) (plan-get n ok ∙ ap (found getting) f) ∙ refused 2
 
   -- list and get on a rested image

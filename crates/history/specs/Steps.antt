@@ -1,12 +1,12 @@
 -- Step lists cut anywhere, steps behind a first part, and runs of bytes.
 use Prim.Native.Nat.{ℕ, zero, suc, _+_, _≤_}
 use native.Mathlib.Omega.{arith}
-use native.Mathlib.Nat.{zero-add, suc-add}
+use native.Mathlib.Nat.{zero-add, suc-add, add-zero}
 use mathlib.Core.Path.{_≡_, refl, sym, ap, _∙_}
 use mathlib.Core.List.{List, [], _∷_, _++_, append-assoc}
-use lib.ListN.{length, take, set, length-append, length-replicate}
+use lib.ListN.{length, take, set, length-append, length-replicate, length-set}
 use lib.Seq.{set-at, append-snoc, length-take-le}
-use Rattle.spec.specs.Step.{Step, program, erase, apply, run, bytes-at, moved}
+use Rattle.spec.specs.Step.{Step, program, erase, apply, run, bytes-at, moved, Image}
 use Rattle.history.specs.Blanks.{blanks, blank-split}
 
 -- ---- a property of every cut, phase by phase
@@ -67,6 +67,30 @@ length-moved a [] = refl
 length-moved a (program i b ∷ ss) = ap suc (length-moved a ss)
 length-moved a (erase i ∷ ss) = ap suc (length-moved a ss)
 
+-- two lists of steps, moved
+pub moved-append : (a : ℕ) (ss ts : List Step) → moved a (ss ++ ts) ≡ moved a ss ++ moved a ts
+moved-append a [] ts = refl
+moved-append a (program i b ∷ ss) ts = ap (λ (z : List Step). program (a + i) b ∷ z) (moved-append a ss ts)
+moved-append a (erase i ∷ ss) ts = ap (λ (z : List Step). erase (a + i) ∷ z) (moved-append a ss ts)
+
+-- moved steps program too
+pub programs-moved : (a : ℕ) (ss : List Step) → Programs ss → Programs (moved a ss)
+programs-moved a [] p = tt
+programs-moved a (program i b ∷ ss) p = programs-moved a ss p
+programs-moved a (erase i ∷ ss) p = absurd p
+
+-- the first of two lists only programs
+pub programs-left : (ss ts : List Step) → Programs (ss ++ ts) → Programs ss
+programs-left [] ts p = tt
+programs-left (program i b ∷ ss) ts p = programs-left ss ts p
+programs-left (erase i ∷ ss) ts p = p
+
+-- programming keeps the length
+pub length-run : (im : Image) (ss : List Step) → Programs ss → length (run im ss) ≡ length im
+length-run im [] p = refl
+length-run im (program a b ∷ ss) p = length-run (set im a b) ss p ∙ length-set im a b
+length-run im (erase a ∷ ss) p = absurd p
+
 -- ---- runs of bytes
 
 take-bytes : (j a : ℕ) (w : List ℕ) → take j (bytes-at a w) ≡ bytes-at a (take j w)
@@ -94,3 +118,15 @@ pub write-blank : (p w s : List ℕ) (a j m k : ℕ) → length p ≡ a → j �
 write-blank p w s a j m k e h l =
     rw (take-bytes j a w, blank-split j m k l, append-assoc (blanks j) (blanks m) s)
         (write-over p (blanks j) (take j w) (blanks m ++ s) a e (length-replicate j 255 ∙ sym (length-take-le j w h)))
+
+-- two runs of bytes, one behind the other
+pub bytes-append : (a : ℕ) (v w : List ℕ) → bytes-at a (v ++ w) ≡ bytes-at a v ++ bytes-at (a + length v) w
+bytes-append a [] w = rw (add-zero a)
+bytes-append a (x ∷ v) w =
+    let e : a + 1 + length v ≡ a + suc (length v) = omega arith in
+    ap (λ (l : List Step). program a x ∷ l) (bytes-append (a + 1) v w ∙ ap (λ (i : ℕ). bytes-at (a + 1) v ++ bytes-at i w) e)
+
+-- a run of bytes only programs
+pub programs-bytes : (a : ℕ) (w : List ℕ) (ss : List Step) → Programs ss → Programs (bytes-at a w ++ ss)
+programs-bytes a [] ss p = p
+programs-bytes a (x ∷ w) ss p = programs-bytes (a + 1) w ss p

@@ -156,7 +156,6 @@ module _ {l : Ledger} {im : Image} {r : Reading} (q : Rested l im r) (free : stu
       let c : (p : Rested l (run im ss) (reading-from (run im ss) (r .place .head))) × Dead-first (p .es) = copied q x es i a room in
       let d : Done l im (reread (begin im r) ss (run im ss) (r .place .head)) = record
           { safe = copy-safe q x es i a room; image = refl; rested = c .0 } in
-      
       subst (Done l im) (sym (move-by im r (x ∷ es) ss (reread (begin im r) ss (run im ss) (r .place .head)) (entries-is ∙ i)
           (copy-live r x es (live-is x es i ∙ a))
       (after-some (begin im r) ss (r .place .head) (copy-some q x es i a room))))

@@ -3,12 +3,10 @@ use Prim.Native.Nat.{ℕ, _+_, _-_, _%_, min, _≤_}
 use native.Mathlib.Omega.{arith}
 use native.Mathlib.Nat.{add-zero}
 use mathlib.Core.Path.{_≡_, refl, sym, ap, ap₂, _∙_, subst}
-use mathlib.Core.Bool.{Bool, true, false, _&&_}
+use mathlib.Core.Bool.{Bool, true, false}
 use mathlib.Core.List.{List, [], _∷_, _++_, append-assoc, append-nil}
 use lib.ListN.{length, take, drop, set, length-set, length-append, length-replicate, take-append-drop}
 use lib.Seq.{take-append-add, take-append-le, drop-append-seam, length-take-le}
-use lib.Dec.{eqb, leb}
-use borrow.Author.Tests.{eqb-true}
 use Rattle.spec.specs.declared.Ending.{Ending}
 use Rattle.spec.specs.Step.{Image, program}
 use Rattle.spec.specs.Basics.{Each, part, blank}
@@ -18,12 +16,12 @@ use Rattle.spec.specs.Files.{named}
 use Rattle.spec.specs.Chain.{Reading, read, reading-from}
 use Rattle.spec.specs.Reading.{limit, tail-blank}
 use Rattle.spec.specs.History.{Ledger}
-use Rattle.history.specs.Lists.{and-left}
 use Rattle.history.specs.Blanks.{blanks, blank-blanks, blank-split, blank-is, take-blanks}
 use Rattle.history.specs.Store.{alive, Unmarked}
 use Rattle.history.specs.Lay.{sizes, low-start}
 use Rattle.history.specs.Seg.{Seg, seg-none}
 use Rattle.history.specs.Safe.{Safe}
+use Rattle.history.specs.Erase.{good-is}
 use Rattle.history.specs.Laid.{Laid, laid-straight, laid-turned, Hole, Tail, tail-clear, tail-floor, tail-N, tail-turn, low-high, Bare, place}
 use Rattle.history.specs.StraightEdit.{relow}
 use Rattle.history.specs.LaidEdit.{laid-first, laid-limit, laid-head, hole-of, relow-laid}
@@ -72,11 +70,6 @@ part-blanks pre s S m M e g l =
     ap₂ (λ (a b : ℕ). blank (drop a (take b (pre ++ (blanks m ++ s))))) (sym e) n
     ∙ ap (λ (x : List ℕ). blank (drop (length pre) x)) (take-append-add pre (blanks m ++ s) j)
     ∙ ap blank (drop-append-seam pre (take j (blanks m ++ s)) ∙ take-blanks j m s (omega arith)) ∙ blank-blanks j
-
--- a good length is sectors
-pub good-mod : (n : ℕ) → good-length n ≡ true → n % 4096 ≡ 0
-unfolding good-length
-good-mod n e = eqb-true (n % 4096) 0 (and-left (eqb (n % 4096) 0) (leb 8192 n) (and-left (eqb (n % 4096) 0 && leb 8192 n) (leb n 16777216) e))
 
 limit-mod : (im : Image) (h S : ℕ) (t : Bool) → length im % 4096 ≡ 0 → limit (place im h S t) % 4096 ≡ 0
 limit-mod im h S true e = omega arith
@@ -173,7 +166,7 @@ vacant-of {im} {h} {S} {t} {es} {below} {free} d g s e b =
     let m : ℕ = floor S + 4096 - S in
     let f : 8 ≤ length free = omega (arith, ap length e, length-append (blanks 8) s) in
     let L : limit (place im h S t) ≡ S + length free = limit-is d in
-    let z : limit (place im h S t) % 4096 ≡ 0 = limit-mod im h S t (good-mod (length im) g) in
+    let z : limit (place im h S t) % 4096 ≡ 0 = limit-mod im h S t (good-is (length im) g .0) in
     let w : m ≤ length free = omega arith in
     record {
       below = below;
