@@ -1,5 +1,5 @@
 -- Erasing sector by sector, cut anywhere: what is left has no mark if it had none from its second sector on.
-use Prim.Native.Nat.{ℕ, zero, suc, _+_, _-_, _*_, _≤_, _<_, _%_}
+use Prim.Native.Nat.{ℕ, zero, suc, _+_, _-_, _*_, _≤_, _<_, _%_, _/_}
 use native.Mathlib.Omega.{arith}
 use native.Mathlib.Nat.{not-suc-le-zero}
 use mathlib.Core.Path.{_≡_, refl, sym, ap, ap₂, _∙_, subst}
@@ -11,8 +11,8 @@ use Rattle.spec.specs.Step.{Step, erase, sector, apply, run, Image}
 use Rattle.spec.specs.Geometry.{sectors-by, sectors, good-length}
 use Rattle.history.specs.Lists.{and-left, and-right}
 use Rattle.history.specs.Blanks.{blanks, blank-split}
-use Rattle.history.specs.Lay.{drop-past, body, onto}
-use Rattle.history.specs.Markless.{markless-blanks, markless-append, markless-drop, markless-take, Markless}
+use Rattle.history.specs.Lay.{drop-past, body, onto, rsize, rsize-words, lay-is, length-lay}
+use Rattle.history.specs.Markless.{markless-blanks, markless-append, markless-drop, markless-take, Markless, Cleaned}
 use Rattle.spec.specs.Record.{Rec}
 use lib.Dec.{eqb, leb}
 use mathlib.Core.Bool.{_&&_, true}
@@ -182,12 +182,37 @@ module _ (k r : ℕ) (q : List ℕ) (long : length q ≡ 4096 * suc k + 8 * r) (
       subst (λ (n : ℕ). Markless n (half-erased (suc i) (suc k) q)) v
       (markless-append (512 * suc i) (512 * (k - i)) (blanks (4096 * suc i)) (take m d) (length-replicate (4096 * suc i) 255 ∙ omega arith) b a)
 
--- the head's first sector holds its header, so the rest of it has no mark
-pub markless-second : (x : Rec) (lost z : List ℕ) (l w : ℕ) → length lost ≡ 8 * l → 8 * l < 4096 → Markless (511 - l + w) (body (x .name) (x .content) z)
-    → Markless w (drop 4096 (lost ++ onto x z))
-markless-second x lost z l w e h q =
+-- ---- the old head X, whose sectors are erased
+
+-- X, with the lost bytes before it in its sector and t behind it
+unfoldable pub old-head : List ℕ → Rec → List ℕ → List ℕ
+old-head lost x t = lost ++ onto x t
+
+-- its first sector holds its header, so what stands behind that sector has no mark
+pub old-head-second : (x : Rec) (lost t : List ℕ) (l w : ℕ) → length lost ≡ 8 * l → l < 512 → Markless (511 - l + w) (body (x .name) (x .content) t)
+    → Markless w (drop 4096 (old-head lost x t))
+unfolding old-head
+old-head-second x lost t l w e h q =
     let n : 4096 - 8 * l ≡ 8 + 8 * (511 - l) = omega arith in
-    let d : drop 4096 (lost ++ onto x z) ≡ drop (8 * (511 - l)) (body (x .name) (x .content) z) =
-    drop-past lost (onto x z) 4096 (4096 - 8 * l) (omega arith)
-    ∙ ap (λ (m : ℕ). drop m (onto x z)) n ∙ sym (drop-drop (8 * (511 - l)) 8 (onto x z)) in
-    rw d (markless-drop (511 - l) w (body (x .name) (x .content) z) q)
+    let d : drop 4096 (lost ++ onto x t) ≡ drop (8 * (511 - l)) (body (x .name) (x .content) t) =
+    drop-past lost (onto x t) 4096 (4096 - 8 * l) (omega arith)
+    ∙ ap (λ (m : ℕ). drop m (onto x t)) n ∙ sym (drop-drop (8 * (511 - l)) 8 (onto x t)) in
+    rw d (markless-drop (511 - l) w (body (x .name) (x .content) t) q)
+
+-- X alone, cleaned: k + 1 sectors, and r words that stay
+module _ (x : Rec) (lost : List ℕ) (l k r : ℕ) (long : length lost ≡ 8 * l) (all : 512 * suc k + r ≡ l + rsize x / 8) where
+  -- how long it is
+  pub old-head-length : length (old-head lost x []) ≡ 4096 * suc k + 8 * r
+  unfolding old-head
+  old-head-length = length-append lost (onto x []) ∙ omega (arith, length-lay (x ∷ []) [], rsize-words x)
+
+  -- no mark from its second sector on
+  pub old-head-markless : l < 512 → Cleaned x → Markless (512 * k + r) (drop 4096 (old-head lost x []))
+  old-head-markless h c =
+      let n : rsize x / 8 - 1 ≡ 511 - l + (512 * k + r) = omega arith in
+      old-head-second x lost [] l (512 * k + r) long h (subst (λ (m : ℕ). Markless m (body (x .name) (x .content) [])) n c)
+
+-- it stands before the records ys
+pub old-head-lay : (lost : List ℕ) (x : Rec) (t : List ℕ) → lost ++ onto x t ≡ old-head lost x [] ++ t
+unfolding old-head
+old-head-lay lost x t = ap (λ (m : List ℕ). lost ++ m) (lay-is (x ∷ []) t) ∙ sym (append-assoc lost (onto x []) t)

@@ -17,15 +17,15 @@ use Rattle.history.specs.Blanks.{blanks, split-front}
 use Rattle.history.specs.Lay.{body, onto, rsize, sizes, entries-of, length-lay, length-body, rsize-words}
 use Rattle.history.specs.Markless.{markless-append, markless-blanks, Markless, Cleaned}
 use Rattle.history.specs.Seg.{seg-none}
-use Rattle.history.specs.Erase.{erases, sectors-are, half-erased, half-erased-length, all-erased, take-erases, good-is, no-map}
+use Rattle.history.specs.Erase.{erases, sectors-are, half-erased, half-erased-length, all-erased, take-erases, good-is, no-map, old-head}
 use Rattle.history.specs.Straight.{Straight}
 use Rattle.history.specs.Turned.{Turned, End, exact, marker, end-bytes, Opens, open-ff, opens-blanks}
 use Rattle.history.specs.Laid.{Laid, laid-straight, laid-turned, Tail, tail-clear, tail-floor, tail-N, tail-turn, Bare, clear-ff}
 use Rattle.history.specs.StraightEdit.{straight-length}
 use Rattle.history.specs.TurnedLaid.{turned-length}
 use Rattle.history.specs.Vacant.{Vacant, vacant-at}
-use Rattle.history.specs.StraightErase.{old-head, to-m3, vacated-are, done}
-use Rattle.history.specs.TurnedErase.{turned-m3, last-head, zero-m3, zero-markless}
+use Rattle.history.specs.StraightErase.{straight-erased, vacated-are, straight-all-erased}
+use Rattle.history.specs.TurnedErase.{turned-erased, zero-erased, zero-markless}
 
 -- X is left behind: with no erase, or with k + 1 of them
 pub data Leaves (im : Image) (x y : Entry) (es : List Entry) : Type 0 where
@@ -101,7 +101,7 @@ module _ {im : Image} {a l : ℕ} {lost : List ℕ} {h : ℕ} {x y : Rec} {ys : 
     A = 4096 * a
 
     abbrev q : List ℕ
-    q = old-head lost x
+    q = old-head lost x []
 
     abbrev rest : ℕ → List ℕ
     rest i = take (4096 * (suc k - suc i)) (drop (4096 * suc i) q)
@@ -114,13 +114,13 @@ module _ {im : Image} {a l : ℕ} {lost : List ℕ} {h : ℕ} {x y : Rec} {ys : 
     all-ff =
         subst (λ (g : List ℕ). Straight (run im (erases A (suc k))) (a + suc k) r g (drop (4096 * suc k) q) (h + rsize x) (y ∷ ys) seg-none
             (blanks F))
-        (replicate-append-replicate B (4096 * suc k) 255) (done s c k r all short)
+        (replicate-append-replicate B (4096 * suc k) 255) (straight-all-erased s c k r all short)
 
     -- something is free behind the records
     straight-clear : (S : ℕ) → S ≡ h + sizes (x ∷ y ∷ ys) → 8 ≤ F → Leaves im X Y E
     straight-clear S e h₈ =
         far A k S false (vacated-are (length im) h x y a l k r (s .at) (s .lost-small) all short) (omega arith) sectors-in
-        (λ i p. vacant-at (laid-straight f (to-m3 s c k r all short i p) refl (omega arith) refl lf qf) F [] (sym (append-nil (blanks F)))
+        (λ i p. vacant-at (laid-straight f (straight-erased s c k r all short i p) refl (omega arith) refl lf qf) F [] (sym (append-nil (blanks F)))
         (omega (arith, good-is (length im) g .0, straight-length s, length-replicate {A = ℕ} F 255)))
         (record { S = S; B = B + 4096 * suc k; F = F; t = false; laid = laid-straight f all-ff refl (omega arith) refl lf qf; tail = clear-ff F h₈ })
 
@@ -138,7 +138,7 @@ module _ {im : Image} {a l : ℕ} {lost : List ℕ} {h : ℕ} {x y : Rec} {ys : 
         (y ∷ ys) exact =
         λ i p. turn-open (subst (λ (m : List ℕ). Straight (run im (take (suc i) (erases A (suc k)))) (a + suc k) r
             (blanks B ++ half-erased (suc i) (suc k) q) (drop (4096 * suc k) q)
-        (h + rsize x) (y ∷ ys) seg-none m) z (to-m3 s c k r all short i p))
+        (h + rsize x) (y ∷ ys) seg-none m) z (straight-erased s c k r all short i p))
         (open-ff (B + 4096 * suc i) (rest i) (blanks B ++ half-erased (suc i) (suc k) q) (sym (split-front B (4096 * suc i) (B + (4096 * suc i)) (rest i) refl)) (omega arith))
             (omega arith) in
         far A k 0 true (vacated-are (length im) h x y a l k r (s .at) (s .lost-small) all short) (omega arith) sectors-in
@@ -188,7 +188,7 @@ module _ {im : Image} {a l : ℕ} {lost : List ℕ} {h : ℕ} {low : List Rec} {
   turned-far : (k r : ℕ) → 512 * suc k + r ≡ l + rsize x / 8 → r < 512 → Leaves im X₁ Y₁ E₁
   turned-far k r all short =
       let A : ℕ = 4096 * a in
-      let q : List ℕ = old-head lost x in
+      let q : List ℕ = old-head lost x [] in
       let rest : ℕ → List ℕ = λ i. take (4096 * (suc k - suc i)) (drop (4096 * suc i) q) in
       let last : Turned (run im (erases A (suc k))) (a + suc k) r (drop (4096 * suc k) q) (h + rsize x) low seg-none (f + 512 * suc k)
           (blanks (F + 4096 * suc k)) (y ∷ ys) end =
@@ -197,10 +197,10 @@ module _ {im : Image} {a l : ℕ} {lost : List ℕ} {h : ℕ} {low : List Rec} {
       (ap (λ (m : List ℕ). blanks F ++ m) (all-erased (suc k) q) ∙ replicate-append-replicate F (4096 * suc k) 255)
       (subst (λ (ss : List Step). Turned (run im ss) (a + suc k) r (drop (4096 * suc k) q) (h + rsize x) low seg-none (f + 512 * suc k)
           (blanks F ++ half-erased (suc k) (suc k) q) (y ∷ ys) end)
-      (take-erases (suc k) (suc k) A (omega arith)) (turned-m3 s c k r all short k (omega arith))) in
+      (take-erases (suc k) (suc k) A (omega arith)) (turned-erased s c k r all short k (omega arith))) in
       far A k (sizes low) true (vacated-are (length im) h x y a l k r (s .at) (s .lost-small) all short) (omega arith)
           (omega (arith, s .at, rsize-words x, turned-length s))
-      (λ i e. vacant-at (laid-turned (turned-m3 s c k r all short i e) refl refl refl refl) (F + 4096 * suc i) (rest i)
+      (λ i e. vacant-at (laid-turned (turned-erased s c k r all short i e) refl refl refl refl) (F + 4096 * suc i) (rest i)
           (sym (split-front F (4096 * suc i) (F + (4096 * suc i)) (rest i) refl)) (omega (arith, s .below, F-is)))
       (record {
         S = sizes low;
@@ -259,15 +259,15 @@ module _ {im : Image} {a l : ℕ} {lost : List ℕ} {h : ℕ} {y : Rec} {low : L
       (markless-append (rsize x / 8 - 1) e (body (x .name) (x .content) []) (end-bytes end)
           (omega (arith, length-body (x .name) (x .content) [], rsize-words x)) c (end-markless end e m)))
 
-  behind-length : (k : ℕ) → length im ≡ 4096 * (a + suc k) → length (last-head lost x end) ≡ 4096 * suc k
-  unfolding last-head
+  behind-length : (k : ℕ) → length im ≡ 4096 * (a + suc k) → length (old-head lost x (end-bytes end)) ≡ 4096 * suc k
+  unfolding old-head
   behind-length k n =
       length-append lost (onto x (end-bytes end)) ∙ omega (arith, s .lost-length, length-lay (x ∷ []) (end-bytes end), turned-length s, s .at)
 
   zero-far : (k : ℕ) → length im ≡ 4096 * (a + suc k) → Leaves im X₂ Y₂ E₂
   zero-far k n =
       let A : ℕ = 4096 * a in
-      let q : List ℕ = last-head lost x end in
+      let q : List ℕ = old-head lost x (end-bytes end) in
       let b : Markless (511 - l + 512 * k) (body (x .name) (x .content) (end-bytes end)) = behind-markless k n in
       let S : ℕ = 0 + sizes (y ∷ low) in
       let rest : ℕ → List ℕ = λ i. take (4096 * (suc k - suc i)) (drop (4096 * suc i) q) in
@@ -276,7 +276,7 @@ module _ {im : Image} {a l : ℕ} {lost : List ℕ} {h : ℕ} {y : Rec} {low : L
       ∙ omega (arith, half-erased-length (suc i) (suc k) q (omega arith) (omega (arith, behind-length k n)), length-replicate {A = ℕ} F 255, F₂) in
       let laid : (i : ℕ) → i ≤ k
           → Laid (run im (take (suc i) (erases A (suc k)))) 0 S false (Y₂ ∷ E₂) seg-none [] (blanks F ++ half-erased (suc i) (suc k) q) =
-      λ i p. laid-straight (f + 512 * suc k) (zero-m3 s k n b i p) refl refl refl (long i p) (zero-markless s k n b i p) in
+      λ i p. laid-straight (f + 512 * suc k) (zero-erased s k n b i p) refl refl refl (long i p) (zero-markless s k n b i p) in
       far A k S false (vacated-all (length im) X₂ Y₂ a k refl (omega (arith, s .at, s .lost-small)) n) (omega arith) (omega arith)
       (λ i p. vacant-at (laid i p) (F + 4096 * suc i) (rest i) (sym (split-front F (4096 * suc i) (F + (4096 * suc i)) (rest i) refl)) (omega (arith, s .below, F₂)))
       (record {

@@ -11,10 +11,10 @@ use borrow.Author.Tests.{ne-eqb}
 use Rattle.spec.specs.Geometry.{floor, sectors}
 use Rattle.spec.specs.Move.{vacated-end, vacated}
 use Rattle.history.specs.Blanks.{blanks}
-use Rattle.history.specs.Lay.{body, onto, lay, rsize, lay-is, length-lay, rsize-words}
+use Rattle.history.specs.Lay.{lay, rsize, rsize-words}
 use Rattle.history.specs.Markless.{markless-append, Cleaned, Markless}
 use Rattle.history.specs.Seg.{seg-none}
-use Rattle.history.specs.Erase.{erases, half-erased, half-erased-length, erase-cut, markless-lost, half-erased-markless, markless-second, sectors-are, all-erased, take-erases}
+use Rattle.history.specs.Erase.{erases, half-erased, half-erased-length, erase-cut, markless-lost, half-erased-markless, sectors-are, all-erased, take-erases, old-head, old-head-lay, old-head-length, old-head-markless}
 use Rattle.history.specs.Straight.{Straight}
 
 -- the second byte is FF, so no record stands at 0
@@ -29,27 +29,19 @@ front-keep [] lost D L a l f g = g
 front-keep (x ∷ []) lost D L a l f g = absurd (omega arith)
 front-keep (x ∷ y ∷ gap) lost D L a l f g = f
 
--- the head X and the lost bytes before it in its sector
-unfoldable pub old-head : List ℕ → Rec → List ℕ
-old-head lost x = lost ++ onto x []
-
 module _ {im : List ℕ} {a l : ℕ} {gap lost : List ℕ} {h : ℕ} {x y : Rec} {ys : List Rec} {free : List ℕ}
     (s : Straight im a l gap lost h (x ∷ y ∷ ys) seg-none free) (c : Cleaned x) where
   abbrev q : List ℕ
-  q = old-head lost x
-
-  q-length : length q ≡ 8 * (l + rsize x / 8)
-  unfolding old-head
-  q-length = length-append lost (onto x []) ∙ omega (arith, s .lost-length, length-lay (x ∷ []) [], rsize-words x)
+  q = old-head lost x []
 
   im-is : im ≡ gap ++ (q ++ lay (y ∷ ys) free)
-  unfolding old-head
-  im-is =
-      s .is ∙ ap (λ (m : List ℕ). gap ++ m)
-          (ap (λ (m : List ℕ). lost ++ m) (lay-is (x ∷ []) (lay (y ∷ ys) free)) ∙ sym (append-assoc lost (onto x []) (lay (y ∷ ys) free)))
+  im-is = s .is ∙ ap (λ (m : List ℕ). gap ++ m) (old-head-lay lost x (lay (y ∷ ys) free))
 
   -- the sectors to erase: suc k of them, r words of q are left behind them
   module _ (k r : ℕ) (all : 512 * suc k + r ≡ l + rsize x / 8) (short : r < 512) where
+    q-length : length q ≡ 4096 * suc k + 8 * r
+    q-length = old-head-length x lost l k r (s .lost-length) all
+
     erased : (i : ℕ) → i ≤ suc k
         → run im (take i (erases (4096 * a) (suc k))) ≡ gap ++ (half-erased i (suc k) q ++ (drop (4096 * suc k) q ++ lay (y ∷ ys) free))
     erased i e =
@@ -57,33 +49,28 @@ module _ {im : List ℕ} {a l : ℕ} {gap lost : List ℕ} {h : ℕ} {x y : Rec}
             ∙ erase-cut i (suc k) (4096 * a) gap q (lay (y ∷ ys) free) (s .gap-length) (omega (arith, q-length)) e
 
     markless-q : Markless (512 * k + r) (drop 4096 q)
-    unfolding old-head
-    markless-q =
-        let n : rsize x / 8 - 1 ≡ 511 - l + (512 * k + r) = omega (arith, s .lost-small) in
-        markless-second x lost [] l (512 * k + r) (s .lost-length) (omega (arith, s .lost-small))
-            (subst (λ (m : ℕ). Markless m (body (x .name) (x .content) [])) n c)
+    markless-q = old-head-markless x lost l k r (s .lost-length) all (s .lost-small) c
 
     -- after at least one erase: the head is Y, the free run may hold remains, without marks
-    pub to-m3 : (i : ℕ) → i ≤ k →
-        Straight (run im (take (suc i) (erases (4096 * a) (suc k)))) (a + suc k) r (gap ++ half-erased (suc i) (suc k) (old-head lost x))
-            (drop (4096 * suc k) (old-head lost x)) (h + rsize x)
+    pub straight-erased : (i : ℕ) → i ≤ k →
+        Straight (run im (take (suc i) (erases (4096 * a) (suc k)))) (a + suc k) r (gap ++ half-erased (suc i) (suc k) (old-head lost x []))
+            (drop (4096 * suc k) (old-head lost x [])) (h + rsize x)
         (y ∷ ys) seg-none free
-    to-m3 i e =
+    straight-erased i e =
         let D : List ℕ = half-erased (suc i) (suc k) q in
         let L : List ℕ = drop (4096 * suc k) q in
-        let ql : length q ≡ 4096 * suc k + 8 * r = q-length ∙ omega arith in
         let qn : 512 * a + 512 * suc k ≡ 512 * (a + suc k) = omega arith in
-        let ld : length D ≡ 4096 * suc k = half-erased-length (suc i) (suc k) q (omega arith) (omega arith) in
+        let ld : length D ≡ 4096 * suc k = half-erased-length (suc i) (suc k) q (omega arith) (omega (arith, q-length)) in
         record {
           is = erased (suc i) (omega arith) ∙ sym (append-assoc gap D (L ++ lay (y ∷ ys) free));
           at = omega (arith, s .at, rsize-words x);
           gap-length = length-append gap D ∙ omega (arith, s .gap-length, ld);
           gap-markless =
               subst (λ (n : ℕ). Markless n (gap ++ D)) qn
-                  (markless-append (512 * a) (512 * suc k) gap D (s .gap-length ∙ omega arith) (s .gap-markless) (half-erased-markless k r q ql markless-q i e));
-          lost-length = length-drop (4096 * suc k) q ∙ omega arith;
+                  (markless-append (512 * a) (512 * suc k) gap D (s .gap-length ∙ omega arith) (s .gap-markless) (half-erased-markless k r q q-length markless-q i e));
+          lost-length = length-drop (4096 * suc k) q ∙ omega (arith, q-length);
           lost-small = short;
-          lost-markless = markless-lost k r q ql markless-q;
+          lost-markless = markless-lost k r q q-length markless-q;
           front =
               front-keep gap lost D L a (s .gap-length) (s .front)
                   (second-ff (4096 * suc i) (take (4096 * (suc k - suc i)) (drop (4096 * suc i) q)) L (omega arith));
@@ -114,13 +101,13 @@ module _ {im : Image} {a l : ℕ} {gap lost : List ℕ} {h : ℕ} {x y : Rec} {y
   A = 4096 * a
 
   -- all of (d): the gap's new sectors are FF
-  pub done : Straight (run im (erases A (suc k))) (a + suc k) r (gap ++ blanks (4096 * suc k)) (drop (4096 * suc k) (old-head lost x)) (h + rsize x)
+  pub straight-all-erased : Straight (run im (erases A (suc k))) (a + suc k) r (gap ++ blanks (4096 * suc k)) (drop (4096 * suc k) (old-head lost x [])) (h + rsize x)
       (y ∷ ys) seg-none free
-  done =
-      subst (λ (g : List ℕ). Straight (run im (erases A (suc k))) (a + suc k) r (gap ++ g) (drop (4096 * suc k) (old-head lost x)) (h + rsize x)
+  straight-all-erased =
+      subst (λ (g : List ℕ). Straight (run im (erases A (suc k))) (a + suc k) r (gap ++ g) (drop (4096 * suc k) (old-head lost x [])) (h + rsize x)
           (y ∷ ys) seg-none free)
-      (all-erased (suc k) (old-head lost x))
-      (subst (λ (ss : List Step). Straight (run im ss) (a + suc k) r (gap ++ half-erased (suc k) (suc k) (old-head lost x))
-          (drop (4096 * suc k) (old-head lost x)) (h + rsize x)
+      (all-erased (suc k) (old-head lost x []))
+      (subst (λ (ss : List Step). Straight (run im ss) (a + suc k) r (gap ++ half-erased (suc k) (suc k) (old-head lost x []))
+          (drop (4096 * suc k) (old-head lost x [])) (h + rsize x)
       (y ∷ ys) seg-none free)
-      (take-erases (suc k) (suc k) A (omega arith)) (to-m3 s c k r all short k (omega arith)))
+      (take-erases (suc k) (suc k) A (omega arith)) (straight-erased s c k r all short k (omega arith)))

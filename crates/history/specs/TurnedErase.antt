@@ -8,13 +8,12 @@ use Rattle.spec.specs.declared.Next.{Next}
 use Rattle.spec.specs.Step.{run}
 use Rattle.spec.specs.Record.{Rec}
 use Rattle.history.specs.Blanks.{blank-split}
-use Rattle.history.specs.Lay.{body, onto, lay, rsize, lay-is, length-lay, lay-past, rsize-words}
+use Rattle.history.specs.Lay.{body, onto, lay, rsize, length-lay, lay-past, rsize-words}
 use Rattle.history.specs.Markless.{markless-append, Markless, Cleaned}
 use Rattle.history.specs.Seg.{seg-none}
-use Rattle.history.specs.Erase.{erases, half-erased, half-erased-length, erase-cut, markless-lost, half-erased-markless, markless-second}
+use Rattle.history.specs.Erase.{erases, half-erased, half-erased-length, erase-cut, markless-lost, half-erased-markless, old-head, old-head-lay, old-head-length, old-head-markless, old-head-second}
 use Rattle.history.specs.Straight.{Straight}
 use Rattle.history.specs.Turned.{End, end-bytes, Opens, opens-ff, opens-none, Turned}
-use Rattle.history.specs.StraightErase.{old-head}
 
 -- the free run with what is being erased behind it
 more-open : {free : List ℕ} {x : Next} (i k : ℕ) (q : List ℕ) → Opens free x → Opens (free ++ half-erased (suc i) k q) Next.Clear
@@ -35,36 +34,30 @@ module _ {im : List ℕ} {a l : ℕ} {lost : List ℕ} {h : ℕ} {low : List Rec
     (s : Turned im a l lost h low seg-none f free (x ∷ y ∷ ys) end) (c : Cleaned x)
     (k r : ℕ) (all : 512 * suc k + r ≡ l + rsize x / 8) (short : r < 512) where
   abbrev q : List ℕ
-  q = old-head lost x
+  q = old-head lost x []
 
   q-length : length q ≡ 4096 * suc k + 8 * r
-  unfolding old-head
-  q-length = length-append lost (onto x []) ∙ omega (arith, s .lost-length, length-lay (x ∷ []) [], rsize-words x)
+  q-length = old-head-length x lost l k r (s .lost-length) all
 
   rest : List ℕ
   rest = lay (y ∷ ys) (end-bytes end)
 
   im-is : im ≡ lay low free ++ (q ++ rest)
-  unfolding old-head rest
+  unfolding rest
   im-is =
-      s .is ∙ ap (λ (l : List ℕ). lay low (free ++ l)) (ap (λ (l : List ℕ). lost ++ l) (lay-is (x ∷ []) (lay (y ∷ ys) (end-bytes end))) ∙ sym
-      (append-assoc lost (onto x []) (lay (y ∷ ys) (end-bytes end))))
-      ∙ sym (lay-past low free ((lost ++ onto x []) ++ lay (y ∷ ys) (end-bytes end)))
+      s .is ∙ ap (λ (l : List ℕ). lay low (free ++ l)) (old-head-lay lost x (lay (y ∷ ys) (end-bytes end)))
+      ∙ sym (lay-past low free (old-head lost x [] ++ lay (y ∷ ys) (end-bytes end)))
 
   markless-q : Markless (512 * k + r) (drop 4096 q)
-  unfolding old-head
-  markless-q =
-      let n : rsize x / 8 - 1 ≡ 511 - l + (512 * k + r) = omega (arith, s .lost-small) in
-      markless-second x lost [] l (512 * k + r) (s .lost-length) (omega (arith, s .lost-small))
-          (subst (λ (m : ℕ). Markless m (body (x .name) (x .content) [])) n c)
+  markless-q = old-head-markless x lost l k r (s .lost-length) all (s .lost-small) c
 
   -- after at least one erase: the head is Y
-  pub turned-m3 : (i : ℕ) → i ≤ k →
-      Turned (run im (take (suc i) (erases (4096 * a) (suc k)))) (a + suc k) r (drop (4096 * suc k) (old-head lost x)) (h + rsize x) low seg-none
+  pub turned-erased : (i : ℕ) → i ≤ k →
+      Turned (run im (take (suc i) (erases (4096 * a) (suc k)))) (a + suc k) r (drop (4096 * suc k) (old-head lost x [])) (h + rsize x) low seg-none
           (f + 512 * suc k)
-      (free ++ half-erased (suc i) (suc k) (old-head lost x)) (y ∷ ys) end
+      (free ++ half-erased (suc i) (suc k) (old-head lost x [])) (y ∷ ys) end
   unfolding rest
-  turned-m3 i e =
+  turned-erased i e =
       let D : List ℕ = half-erased (suc i) (suc k) q in
       let L : List ℕ = drop (4096 * suc k) q in
       let ld : length D ≡ 4096 * suc k = half-erased-length (suc i) (suc k) q (omega arith) (omega (arith, q-length)) in
@@ -87,19 +80,15 @@ module _ {im : List ℕ} {a l : ℕ} {lost : List ℕ} {h : ℕ} {low : List Rec
         fine-high = s .fine-high .1;
       }
 
--- the head X that is the last before the turn, with the lost bytes before it and all up to N
-unfoldable pub last-head : List ℕ → Rec → End → List ℕ
-last-head lost x end = lost ++ onto x (end-bytes end)
-
 -- Y at 0, X the last before the turn: to N
 module _ {im : List ℕ} {a l : ℕ} {lost : List ℕ} {h : ℕ} {low : List Rec} {f : ℕ} {free : List ℕ} {x : Rec} {end : End}
     (s : Turned im a l lost h low seg-none f free (x ∷ []) end)
     (k : ℕ) (all : length im ≡ 4096 * (a + suc k)) (c : Markless (511 - l + 512 * k) (body (x .name) (x .content) (end-bytes end))) where
   abbrev q₀ : List ℕ
-  q₀ = last-head lost x end
+  q₀ = old-head lost x (end-bytes end)
 
   im₀-is : im ≡ lay low free ++ (q₀ ++ [])
-  unfolding last-head
+  unfolding old-head
   im₀-is =
       s .is ∙ sym (lay-past low free (lost ++ onto x (end-bytes end)))
           ∙ ap (λ (l : List ℕ). lay low free ++ l) (sym (append-nil (lost ++ onto x (end-bytes end))))
@@ -110,17 +99,16 @@ module _ {im : List ℕ} {a l : ℕ} {lost : List ℕ} {h : ℕ} {low : List Rec
       omega (arith, e, pre-length s, length-append q₀ [])
 
   markless-q₀ : Markless (512 * k + 0) (drop 4096 q₀)
-  unfolding last-head
   markless-q₀ =
       let n : 511 - l + 512 * k ≡ 511 - l + (512 * k + 0) = omega arith in
-      markless-second x lost (end-bytes end) l (512 * k + 0) (s .lost-length) (omega (arith, s .lost-small))
+      old-head-second x lost (end-bytes end) l (512 * k + 0) (s .lost-length) (s .lost-small)
           (subst (λ (m : ℕ). Markless m (body (x .name) (x .content) (end-bytes end))) n c)
 
   -- after at least one erase: not turned, the head is at 0
-  pub zero-m3 : (i : ℕ) → i ≤ k
+  pub zero-erased : (i : ℕ) → i ≤ k
       → Straight (run im (take (suc i) (erases (4096 * a) (suc k)))) 0 0 [] [] 0 low seg-none
-      (free ++ half-erased (suc i) (suc k) (last-head lost x end))
-  zero-m3 i e =
+      (free ++ half-erased (suc i) (suc k) (old-head lost x (end-bytes end)))
+  zero-erased i e =
       let D : List ℕ = half-erased (suc i) (suc k) q₀ in
       let L : drop (4096 * suc k) q₀ ≡ [] = drop-of-length-le q₀ {i = 4096 * suc k} (omega (arith, q₀-length)) in
       record {
@@ -141,7 +129,7 @@ module _ {im : List ℕ} {a l : ℕ} {lost : List ℕ} {h : ℕ} {low : List Rec
       zero-not e = omega arith
 
   -- and its free run has no mark: so nothing is found, and CLEAN at 0 is the head
-  pub zero-markless : (i : ℕ) → i ≤ k → Markless (f + 512 * suc k) (free ++ half-erased (suc i) (suc k) (last-head lost x end))
+  pub zero-markless : (i : ℕ) → i ≤ k → Markless (f + 512 * suc k) (free ++ half-erased (suc i) (suc k) (old-head lost x (end-bytes end)))
   zero-markless i e =
       markless-append f (512 * suc k) free (half-erased (suc i) (suc k) q₀) (s .free-length) (s .free-markless)
           (half-erased-markless k 0 q₀ q₀-length markless-q₀ i e)
