@@ -16,13 +16,13 @@ use Rattle.spec.specs.Geometry.{good-length, floor, ceiling, sectors-by, sector
 use Rattle.spec.specs.Record.{Entry}
 use Rattle.spec.specs.Reading.{limit}
 use Rattle.spec.specs.Mount.{free-sectors, dirty, erase-steps}
-use Rattle.history.specs.Lists.{keep-yes, keep-no, each-map, each-append}
+use Rattle.history.specs.Lists.{each-map, each-append, each-keep}
 use Rattle.history.specs.Blanks.{blanks, take-blanks}
 use Rattle.history.specs.Lay.{lay}
 use Rattle.history.specs.Markless.{markless-append, markless-drop, markless-take, markless-ff, Markless}
 use Rattle.history.specs.Seg.{seg-none, seg-onto}
 use Rattle.history.specs.Safe.{Safe}
-use Rattle.history.specs.Erase.{erase-mid, length-sector, sector-is, good-is, erase-length}
+use Rattle.history.specs.Erase.{erase-mid, length-sector, sector-is, erase-length}
 use Rattle.history.specs.Turned.{open-ff}
 use Rattle.history.specs.Laid.{Laid, laid-straight, laid-turned, Hole, place}
 use Rattle.history.specs.LaidEdit.{laid-below, laid-head, laid-length, hole-of, free-markless}
@@ -215,20 +215,12 @@ sectors-between (suc n) a b = go (leb (a + 4096) b) refl (sectors-between n (a +
             (λ z p. (omega (arith, p .0), p .1, p .2 ∙ omega arith)) i)
     go false e i = rw (sectors-by, e) tt
 
-each-keep : {A : Type 0} (P : A → Type 0) (f : A → Bool) (xs : List A) → Each P xs → Each P (keep f xs)
-each-keep P f [] p = tt
-each-keep P f (x ∷ xs) p = go (f x) refl (each-keep P f xs (p .1))
-  where
-    go : (b : Bool) → f x ≡ b → Each P (keep f xs) → Each P (keep f (x ∷ xs))
-    go true e i = subst (Each P) (sym (keep-yes f x xs e)) (p .0, i)
-    go false e i = subst (Each P) (sym (keep-no f x xs e)) i
-
-free-erasable : (im : Image) (h S : ℕ) (t : Bool) → length im % 4096 ≡ 0
+free-erasable : (im : Image) (h S : ℕ) (t : Bool)
     → Each (Erasable h S (limit (place im h S t)) t) (free-sectors (place im h S t))
 unfolding free-sectors Between
-free-erasable im h S true n =
+free-erasable im h S true =
     each-map (sectors (ceiling S) (floor h)) (λ z p. high-sector (p .2 ∙ omega arith) (p .0) (p .1)) (sectors-between (floor h) (ceiling S) (floor h))
-free-erasable im h S false n =
+free-erasable im h S false =
     each-append (Erasable h S (length im) false) (sectors 0 (floor h)) (sectors (ceiling S) (length im))
     (each-map (sectors 0 (floor h)) (λ z p. low-sector refl (p .2 ∙ omega arith) (p .1)) (sectors-between (floor h) 0 (floor h)))
     (each-map (sectors (ceiling S) (length im)) (λ z p. high-sector (p .2 ∙ omega arith) (p .0) (p .1))
@@ -250,5 +242,5 @@ pub erase-safe : {im : Image} {h S : ℕ} {t : Bool} {es : List Entry} → good-
 unfolding erase-steps
 erase-safe {im} {h} {S} {t} g d =
     mid-safe (keep (dirty im) (free-sectors (place im h S t))) im
-    (each-keep (Erasable h S (limit (place im h S t)) t) (dirty im) (free-sectors (place im h S t)) (free-erasable im h S t (good-is (length im) g .0)))
-        d
+    (each-keep (Erasable h S (limit (place im h S t)) t) (dirty im) (free-sectors (place im h S t))
+        (each-map (free-sectors (place im h S t)) (λ z e k. e) (free-erasable im h S t))) d

@@ -146,40 +146,33 @@ reaches-torn {c} {t} at x y z w j g s b n e q =
       far = omega arith;
     }
 
--- behind a record whose name was not ended
-pub reaches-begun : {m : ℕ} (at d : ℕ) (n s t : List ℕ) → Fit d n → Reaches₁ (at + size-of (length n) d) s t m
-    → Reaches at (begun d n s) t (size-of (length n) d + m)
-reaches-begun at d n s t f r =
+-- behind u, z bytes that the walk steps over
+reaches-over : {m : ℕ} (at z : ℕ) (u s t : List ℕ) → ((k : ℕ) → walk (suc k) at u ≡ walk k (at + z) s) → drop z u ≡ s → Reaches₁ (at + z) s t m
+    → Reaches at u t (z + m)
+reaches-over at z u s t w e r =
     record {
-      by = size-of (length n) d + r .by;
+      by = z + r .by;
       g = r .g;
       j = r .j;
       land = record {
-        lands = λ k. walk-begun (suc k) at d n s f ∙ r .land .lands k ∙ add-assoc at (size-of (length n) d) (r .by);
-        there = sym (drop-drop (r .by) (size-of (length n) d) (begun d n s)) ∙ ap (drop (r .by)) (drop-begun d n s) ∙ r .land .there;
+        lands = λ k. w (suc k) ∙ r .land .lands k ∙ add-assoc at z (r .by);
+        there = sym (drop-drop (r .by) z u) ∙ ap (drop (r .by)) e ∙ r .land .there;
       };
       whole = r .whole;
       markless = r .markless;
       far = omega (arith, r .far);
     }
 
+-- behind a record whose name was not ended
+pub reaches-begun : {m : ℕ} (at d : ℕ) (n s t : List ℕ) → Fit d n → Reaches₁ (at + size-of (length n) d) s t m
+    → Reaches at (begun d n s) t (size-of (length n) d + m)
+reaches-begun at d n s t f r = reaches-over at (size-of (length n) d) (begun d n s) s t (λ k. walk-begun k at d n s f) (drop-begun d n s) r
+
 -- behind a record that was not committed
 pub reaches-held : {m : ℕ} (at : ℕ) (n c s t : List ℕ) → Fit (length c) n → Reaches₁ (at + size-of (length n) (length c)) s t m
     → Reaches at (onto (held n c) s) t (size-of (length n) (length c) + m)
-reaches-held at n c s t f z =
-    record {
-      by = size-of (length n) (length c) + z .by;
-      g = z .g;
-      j = z .j;
-      land = record {
-        lands = λ k. walk-held (suc k) at n c s f ∙ z .land .lands k ∙ add-assoc at (size-of (length n) (length c)) (z .by);
-        there =
-            sym (drop-drop (z .by) (size-of (length n) (length c)) (onto (held n c) s)) ∙ ap (drop (z .by)) (drop-onto (held n c) s) ∙ z .land .there;
-      };
-      whole = z .whole;
-      markless = z .markless;
-      far = omega (arith, z .far);
-    }
+reaches-held at n c s t f r =
+    reaches-over at (size-of (length n) (length c)) (onto (held n c) s) s t (λ k. walk-held k at n c s f) (drop-onto (held n c) s) r
 
 -- ---- the theorem
 
@@ -233,10 +226,11 @@ found {b} low s t m f w h r =
     (search-found (r .j) (length (lay low s)) (sizes low + r .by) (r .g) t (r .whole) (r .markless) h (omega (arith, length-lay low s))
         ∙ omega (arith, r .far))
 
-there-is : {b : ℕ} (low : List Rec) (s t : List ℕ) (m : ℕ) → Reaches (sizes low) s (b ∷ 90 ∷ t) m → drop (sizes low + m) (lay low s) ≡ b ∷ 90 ∷ t
-there-is {b} low s t m r =
+-- what stands there
+there-is : (low : List Rec) (s t : List ℕ) (m : ℕ) → Reaches (sizes low) s t m → drop (sizes low + m) (lay low s) ≡ t
+there-is low s t m r =
     drop-lay low s m ∙ ap (λ (k : ℕ). drop k s) (sym (r .far)) ∙ sym (drop-drop (8 * r .j) (r .by) s) ∙ ap (drop (8 * r .j)) (r .land .there)
-    ∙ drop-at (r .g) (b ∷ 90 ∷ t) (8 * r .j) (r .whole)
+    ∙ drop-at (r .g) t (8 * r .j) (r .whole)
 
 start-is : (t : List ℕ) → start-here (0 ∷ 90 ∷ t) ≡ true
 unfolding is-start is-high
@@ -255,7 +249,7 @@ pub head-start : (low : List Rec) (s t : List ℕ) (m : ℕ) → All-fine low �
     → head (lay low s) ≡ give (sizes low + m)
 head-start low s t m f w p r =
     head-by (lay low s) (sizes low + m) (give (sizes low + m)) (front-start p w) (front-wrap p w) (found low s t m f w is-START r)
-    (chosen-start (lay low s) (sizes low + m) (ap start-here (there-is low s t m r) ∙ start-is t))
+    (chosen-start (lay low s) (sizes low + m) (ap start-here (there-is low s _ m r) ∙ start-is t))
 
 -- CLEAN is found, if the image doesn't begin with CLEAN
 pub head-clean : (low : List Rec) (s t : List ℕ) (m : ℕ) → All-fine low → Walked 0 low → Front low s → clean-here (lay low s) ≡ false
@@ -263,8 +257,8 @@ pub head-clean : (low : List Rec) (s t : List ℕ) (m : ℕ) → All-fine low �
     head (lay low s) ≡ give (sizes low + m)
 head-clean low s t m f w p c r =
     head-by (lay low s) (sizes low + m) (give (sizes low + m)) (front-start p w) (front-wrap p w) (found low s t m f w is-CLEAN r)
-    (chosen-clean (lay low s) (sizes low + m) (ap start-here (there-is low s t m r) ∙ clean-no-start t)
-        (ap clean-here (there-is low s t m r) ∙ clean-is t) c)
+    (chosen-clean (lay low s) (sizes low + m) (ap start-here (there-is low s _ m r) ∙ clean-no-start t)
+        (ap clean-here (there-is low s _ m r) ∙ clean-is t) c)
 
 -- START at 0
 pub head-zero : (t : List ℕ) → head (0 ∷ 90 ∷ t) ≡ give 0
@@ -290,16 +284,11 @@ nothing low s m f w l r =
     ∙ search-none (r .j) (length (lay low s)) (sizes low + r .by) (r .g) (r .whole) (r .markless) (omega (arith, length-lay low s, r .whole))
         ∙ omega (arith, r .far))
 
-none-there : (low : List Rec) (s : List ℕ) (m : ℕ) → Reaches (sizes low) s [] m → drop (sizes low + m) (lay low s) ≡ []
-none-there low s m r =
-    drop-lay low s m ∙ ap (λ (k : ℕ). drop k s) (sym (r .far)) ∙ sym (drop-drop (8 * r .j) (r .by) s) ∙ ap (drop (8 * r .j)) (r .land .there)
-    ∙ drop-at (r .g) [] (8 * r .j) (r .whole)
-
 -- no head is found, and CLEAN stands at 0: 0 is the head
 pub head-none : (low : List Rec) (s : List ℕ) (m : ℕ) → All-fine low → Walked 0 low → Front low s → clean-here (lay low s) ≡ true
     → 1 ≤ length (lay low s) → Reaches (sizes low) s [] m →
     head (lay low s) ≡ give 0
 head-none low s m f w p c l r =
     head-by (lay low s) (sizes low + m) (give 0) (front-start p w) (front-wrap p w) (nothing low s m f w l r)
-    (chosen-none (lay low s) (sizes low + m) (ap start-here (none-there low s m r) ∙ no-start [] mark-nil)
-        (ap clean-here (none-there low s m r) ∙ no-clean [] mark-nil) c)
+    (chosen-none (lay low s) (sizes low + m) (ap start-here (there-is low s [] m r) ∙ no-start [] mark-nil)
+        (ap clean-here (there-is low s [] m r) ∙ no-clean [] mark-nil) c)

@@ -13,9 +13,10 @@ use Rattle.spec.specs.Basics.{long}
 use Rattle.spec.specs.Geometry.{up8}
 use Rattle.spec.specs.Bytes.{is-record, is-wrap, is-start, is-clean, is-high, is-erased, is-reserved, is-committed, is-migrating, is-dead, is-unfinished, is-spare, ends-name}
 use Rattle.spec.specs.Record.{name-length, data-len-of, status-of, size-of, Rec, rec-of, Entry}
-use Rattle.spec.specs.Next.{kind, sized, record-at, next-at, next}
+use Rattle.spec.specs.Next.{kind, sized, record-at, next-at, next, written-kind, record-kind}
 use Rattle.spec.specs.Chain.{Chain, add, chain}
 use Rattle.history.specs.Blanks.{blanks, drop-blanks}
+use Rattle.spec.specs.declared.Kind.{Kind}
 
 -- ---- the printer
 
@@ -182,17 +183,36 @@ record-at-onto held r s f =
     (omega (arith, length-body (r .name) (r .content) s, length-append (r .name)
         (0 ∷ (blanks (pad (length (r .name) + 1)) ++ padded (r .content) s))))
 
+-- the magic of a record, with any low byte that it may have
+low-written : {b : ℕ} → Low b → (st : ℕ) → written-kind b 90 st ≡ record-kind st
+unfolding is-record is-wrap is-start is-clean is-high
+low-written low-record st = refl
+low-written low-start st = refl
+low-written low-clean st = refl
+
+stat-record : {st : ℕ} → Stat st → record-kind st ≡ Kind.Record
+unfolding is-reserved is-committed is-migrating is-dead
+stat-record st-fc = refl
+stat-record st-f8 = refl
+stat-record st-00 = refl
+
+-- the status of a finished record is not FF
+pub stat-erased : {st : ℕ} → Stat st → is-erased st ≡ false
+unfolding is-erased
+stat-erased st-fc = refl
+stat-erased st-f8 = refl
+stat-erased st-00 = refl
+
+-- nor FE
+pub stat-reserved : {st : ℕ} → Stat st → is-reserved st ≡ false
+unfolding is-reserved
+stat-reserved st-fc = refl
+stat-reserved st-f8 = refl
+stat-reserved st-00 = refl
+
 kind-next : {b st : ℕ} → Low b → Stat st → (s : List ℕ) → next-at (kind b 90 st 255) s ≡ record-at false s
-unfolding kind next-at is-record is-wrap is-start is-clean is-high is-erased is-reserved is-committed is-migrating is-dead is-spare
-kind-next low-record st-fc s = refl
-kind-next low-record st-f8 s = refl
-kind-next low-record st-00 s = refl
-kind-next low-start st-fc s = refl
-kind-next low-start st-f8 s = refl
-kind-next low-start st-00 s = refl
-kind-next low-clean st-fc s = refl
-kind-next low-clean st-f8 s = refl
-kind-next low-clean st-00 s = refl
+unfolding kind next-at is-spare
+kind-next {b} {st} l t s = rw (kind, stat-erased t, low-written l st, stat-record t)
 
 next-laid : (b st x y z w : ℕ) (s : List ℕ) → Low b → Stat st
     → next (b ∷ 90 ∷ st ∷ 255 ∷ x ∷ y ∷ z ∷ w ∷ s) ≡ record-at false (b ∷ 90 ∷ st ∷ 255 ∷ x ∷ y ∷ z ∷ w ∷ s)
@@ -202,12 +222,10 @@ next-laid b st x y z w s l t = kind-next l t (b ∷ 90 ∷ st ∷ 255 ∷ x ∷ 
 next-onto : (r : Rec) (s : List ℕ) → Fine r → next (onto r s) ≡ Next.Record (length (r .name)) (length (r .content))
 next-onto r s f = next-laid (r .low) (r .status) _ _ _ _ _ (f .low-ok) (f .status-ok) ∙ record-at-onto false r s (f .fit)
 
--- the status says that it is finished
+-- it is not unfinished
 pub finished : {st : ℕ} → Stat st → is-unfinished st ≡ false
-unfolding is-unfinished is-erased is-reserved
-finished st-fc = refl
-finished st-f8 = refl
-finished st-00 = refl
+unfolding is-unfinished
+finished t = rw (stat-erased t, stat-reserved t)
 
 -- and its bytes give the record
 pub rec-of-onto : (r : Rec) (s : List ℕ) → rec-of (onto r s) (length (r .name)) (length (r .content)) ≡ r

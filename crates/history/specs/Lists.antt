@@ -110,6 +110,11 @@ module _ {A : Type 0} where
   pairwise-end S [] y p e = (tt, tt)
   pairwise-end S (x ∷ xs) y p e = (each-end (S x) xs y (p .0) (e .0), pairwise-end S xs y (p .1) (e .1))
 
+  -- from one relation to another
+  pub pairwise-map : (S R : A → A → Type 0) (xs : List A) → ((x y : A) → S x y → R x y) → Pairwise S xs → Pairwise R xs
+  pairwise-map S R [] f h = tt
+  pairwise-map S R (x ∷ xs) f h = (each-map xs (λ y s. f x y s) (h .0), pairwise-map S R xs f (h .1))
+
   -- two lists
   pub keep-append : (p : A → Bool) (xs ys : List A) → keep p (xs ++ ys) ≡ keep p xs ++ keep p ys
   keep-append p [] ys = refl
@@ -140,6 +145,15 @@ module _ {A : Type 0} where
   pub keep-none : (p : A → Bool) (xs : List A) → Each (λ x. p x ≡ false) xs → keep p xs ≡ []
   keep-none p [] h = refl
   keep-none p (x ∷ xs) h = keep-no p x xs (h .0) ∙ keep-none p xs (h .1)
+
+  -- what holds of each that passes holds of those that are kept
+  pub each-keep : (P : A → Type 0) (p : A → Bool) (xs : List A) → Each (λ x. p x ≡ true → P x) xs → Each P (keep p xs)
+  each-keep P p [] h = tt
+  each-keep P p (x ∷ xs) h = go (p x) refl (each-keep P p xs (h .1))
+    where
+      go : (b : Bool) → p x ≡ b → Each P (keep p xs) → Each P (keep p (x ∷ xs))
+      go true e i = rw (keep-yes p x xs e) (h .0 e, i)
+      go false e i = rw (keep-no p x xs e) i
 
   -- what holds of all
   pub each-all : (P : A → Type 0) → ((x : A) → P x) → (xs : List A) → Each P xs

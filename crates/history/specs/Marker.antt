@@ -48,9 +48,9 @@ turned-gap {a = a} {lost = lost} {high = high} s im′ end i e b =
 
 module _ {im : List ℕ} {a l : ℕ} {gap lost : List ℕ} {h : ℕ} {high : List Rec} {g : ℕ} (s : Straight im a l gap lost h high seg-none (blanks g))
     (eight : 8 ≤ g) where
-  at-tail : (j : ℕ) → j ≤ 3
+  at-tail : (j : ℕ)
       → run im (moved (h + sizes high) (take j marker-steps)) ≡ gap ++ (lost ++ lay high (run (blanks 8 ++ blanks (g - 8)) (take j marker-steps)))
-  at-tail j l =
+  at-tail j =
       run-behind high [] (sym (append-nil high)) s (take j marker-steps) (programs j)
       ∙ ap (λ (x : List ℕ). gap ++ (lost ++ lay high (run x (take j marker-steps)))) (blank-split 8 (g - 8) g (omega arith))
     where
@@ -63,15 +63,15 @@ module _ {im : List ℕ} {a l : ℕ} {gap lost : List ℕ} {h : ℕ} {high : Lis
 
   -- cut: a torn wrap stands at T
   pub torn-1 : Straight (run im (moved (h + sizes high) (take 1 marker-steps))) a l gap lost h high seg-none (torn-wrap 255 (g - 8))
-  torn-1 = other (run im (moved (h + sizes high) (take 1 marker-steps))) s (at-tail 1 (omega arith)) (s .fine)
+  torn-1 = other (run im (moved (h + sizes high) (take 1 marker-steps))) s (at-tail 1) (s .fine)
 
   pub torn-2 : Straight (run im (moved (h + sizes high) (take 2 marker-steps))) a l gap lost h high seg-none (torn-wrap 90 (g - 8))
-  torn-2 = other (run im (moved (h + sizes high) (take 2 marker-steps))) s (at-tail 2 (omega arith)) (s .fine)
+  torn-2 = other (run im (moved (h + sizes high) (take 2 marker-steps))) s (at-tail 2) (s .fine)
 
   -- done: the chain has turned, T is 0
   pub turned-by : gap ≡ blanks (4096 * a) → 1 ≤ a
       → Turned (run im (moved (h + sizes high) marker-steps)) a l lost h [] seg-none (512 * a) (blanks (4096 * a)) high (marker (g - 8))
-  turned-by e b = turned-gap s (run im (moved (h + sizes high) marker-steps)) (marker (g - 8)) (at-tail 3 (omega arith)) e b
+  turned-by e b = turned-gap s (run im (moved (h + sizes high) marker-steps)) (marker (g - 8)) (at-tail 3) e b
 
 -- a chain that ends at N with floor(h) > 0 has turned: the same bytes
 pub turned-exact : {im : List ℕ} {a l : ℕ} {gap lost : List ℕ} {h : ℕ} {high : List Rec} (s : Straight im a l gap lost h high seg-none [])

@@ -1,10 +1,9 @@
 -- Mount on a rested image, and on a move that was cut.
 use Prim.Native.Nat.{ℕ, _+_}
-use mathlib.Core.Path.{_≡_, refl, sym, ap, _∙_}
-use mathlib.Core.Bool.{Bool, true, false, _||_}
+use mathlib.Core.Path.{_≡_, sym, ap, _∙_}
+use mathlib.Core.Bool.{Bool, true, false, or-true}
 use mathlib.Core.List.{List, [], _∷_, _++_, map}
 use lib.ListN.{length}
-use lib.Dec.{eqb}
 use borrow.Author.Tests.{eq-eqb}
 use Rattle.spec.specs.declared.Ending.{Ending}
 use Rattle.spec.specs.Step.{Image, program, erase}
@@ -59,13 +58,6 @@ second-start : (w : Work) (x y : Entry) (es : List Entry) → y .it .low ≡ 0 �
 unfolding repair-2
 second-start w x y es e = rw (repair-2, is-clean-0 (y .it .low) e, is-start-0 (y .it .low) e)
 
-or-first : (a b : Bool) → a ≡ true → (a || b) ≡ true
-or-first a b e = rw e
-
-or-second : (a b : Bool) → b ≡ true → (a || b) ≡ true
-or-second true b e = refl
-or-second false b e = e
-
 -- the kind clean: mount does the rest of the move
 pub mends-clean :
     {l : Ledger} {im : Image} {h S T : ℕ} (B F : ℕ) {t u : Bool} {x y : Entry} {es : List Entry} → good-length (length im) ≡ true →
@@ -75,7 +67,7 @@ pub mends-clean :
 mends-clean {l} {im} {h} {T = T} B F {u = u} {x} {y} {es} g d e a b c m o =
     let r : Reading = read (length im) h T u (x ∷ y ∷ es) Ending.Tail in
     mends-2 {r = r} (start-read B F d e a
-        (second-ruled x y es l o b (or-first (is-clean (y .it .low)) (eqb (floor (y .at)) (floor (x .at))) (is-clean-A0 (y .it .low) c)) m))
+        (second-ruled x y es l o b (rw (is-clean-A0 (y .it .low) c)) m))
     (close-rests B F g d e a b c m o) (close-some (length im) x y)
     (one-none (begin im r) (is-clean-0 (x .it .low) a)) (second-clean (begin im r) x y es c)
 
@@ -90,7 +82,7 @@ mends-both {l} {im} {h} {T = T} B F {u = u} {x} {y} {es} g d e a b c k f m o =
     let n : floor (y .at) ≡ floor (x .at) = f ∙ ap floor (sym (first-is d)) in
     mends-2 {r = r} (start-read B F d e a
         (second-ruled x y es l o b
-        (or-second (is-clean (y .it .low)) (eqb (floor (y .at)) (floor (x .at))) (eq-eqb (floor (y .at)) (floor (x .at)) n)) m))
+        (rw (eq-eqb (floor (y .at)) (floor (x .at)) n) (or-true (is-clean (y .it .low)))) m))
     (both-rests B F g d e a b c k f m o) (some-behind [] [] (program (x .at + 1) 0))
     (one-none (begin im r) (is-clean-0 (x .it .low) a)) (second-start (begin im r) x y es k)
 

@@ -11,7 +11,7 @@ use Rattle.spec.specs.Record.{Entry, name-of}
 use Rattle.spec.specs.Files.{same-name, named, named-as, has-named, live, doubled}
 use Rattle.spec.specs.Reading.{marked, second-ok, marks-ok, name-legal, names-ok, single}
 use Rattle.spec.specs.History.{Ledger}
-use Rattle.history.specs.Lists.{and-no, any-none, all-each, each-map, each-all, each-both, each-left, each-right, each-insert, Pairwise, pairwise-insert}
+use Rattle.history.specs.Lists.{and-no, any-none, all-each, each-map, each-all, each-both, each-left, each-right, each-insert, Pairwise, pairwise-insert, pairwise-map}
 use Rattle.history.specs.Store.{alive, Apart, Well-named, Finished, Unmarked, names-by, unique-single, marks-by, live-alive, fc-alive, f8-alive, fc-not-f8, no-fc, same-sym}
 use Rattle.history.specs.Shadow.{Shadowed, live-same, o-dead}
 use Rattle.history.specs.Lay.{Fine, finished}
@@ -92,11 +92,6 @@ differ-none st [] u = refl
 differ-none st (e ∷ es) u =
     rw (doubled, and-no (named st e) (any (named-as st e) es) (λ h. any-none (named-as st e) es (each-map es (λ f q. q h) (u .0))))
         (differ-none st es (u .1))
-
-module _ {A : Type 0} where
-  pairwise-map : (S R : A → A → Type 0) (xs : List A) → ((x y : A) → S x y → R x y) → Pairwise S xs → Pairwise R xs
-  pairwise-map S R [] f h = tt
-  pairwise-map S R (x ∷ xs) f h = (each-map xs (λ y s. f x y s) (h .0), pairwise-map S R xs f (h .1))
 
 module _ (xs ys : List Entry) (o : Entry) (l : Ledger) (s : Shadowed xs ys o) (ok : Ok (xs ++ ys) l) where
   abbrev es : List Entry

@@ -2,7 +2,7 @@
 use Prim.Native.Nat.{ℕ}
 use native.Mathlib.Omega.{arith}
 use mathlib.Core.Path.{_≡_, refl, sym, _∙_}
-use mathlib.Core.Bool.{Bool, true, false, _&&_, _||_, not}
+use mathlib.Core.Bool.{Bool, true, false, _&&_, _||_, not, or-true}
 use mathlib.Core.List.{List, [], _∷_}
 use lib.Dec.{eqb}
 use borrow.Author.Tests.{ne-eqb, eqb-true, eqb-false}
@@ -52,10 +52,6 @@ fc-alive e h = rw h
 pub f8-alive : (e : Entry) → named 0xF8 e ≡ true → alive e ≡ true
 unfolding alive
 f8-alive e h = rw h (or-true (named 0xFC e))
-  where
-    or-true : (b : Bool) → (b || true) ≡ true
-    or-true true = refl
-    or-true false = refl
 
 -- F8 is not FC
 pub fc-not-f8 : (e : Entry) → named 0xF8 e ≡ true → named 0xFC e ≡ false

@@ -16,7 +16,7 @@ use Rattle.spec.specs.Record.{status-of, start-here, clean-here, size-of, Rec}
 use Rattle.spec.specs.Next.{record-at}
 use Rattle.spec.specs.Head.{torn-here, walked-here, walk-next, walk, search}
 use Rattle.spec.specs.Move.{mark-here}
-use Rattle.history.specs.Lay.{onto, lay, rsize, sizes, Fit, Fine, All-fine, Stat, st-fc, st-f8, st-00, record-at-onto, drop-onto, long-le}
+use Rattle.history.specs.Lay.{onto, lay, rsize, sizes, Fit, Fine, All-fine, Stat, record-at-onto, drop-onto, long-le, stat-erased, stat-reserved}
 use Rattle.history.specs.Last.{held, begun, record-at-begun, drop-begun}
 use Rattle.history.specs.Markless.{Markless, no-record, no-clean, no-start, mark-append}
 
@@ -46,19 +46,16 @@ unfolding walk
 walk-torn k at s e = rw (walk, e)
 
 not-torn : {st : ℕ} (b c : ℕ) (s : List ℕ) → Stat st → torn-here (b ∷ c ∷ st ∷ s) ≡ false
-unfolding is-erased
-not-torn b c s st-fc = refl
-not-torn b c s st-f8 = refl
-not-torn b c s st-00 = refl
+not-torn b c s t = rw (stat-erased t)
+
+walks-low : {at b : ℕ} → Walks at b → ((is-record b && is-high 90) || (eqb at 0 && (is-clean b && is-high 90))) ≡ true
+unfolding is-record is-high is-clean
+walks-low walks-record = refl
+walks-low walks-clean = refl
 
 steps-over : {at b st : ℕ} (s : List ℕ) → Walks at b → Stat st → walk-next at (b ∷ 90 ∷ st ∷ s) ≡ record-at false (b ∷ 90 ∷ st ∷ s)
-unfolding walk-next is-record is-high is-clean is-erased is-reserved
-steps-over s walks-record st-fc = refl
-steps-over s walks-record st-f8 = refl
-steps-over s walks-record st-00 = refl
-steps-over s walks-clean st-fc = refl
-steps-over s walks-clean st-f8 = refl
-steps-over s walks-clean st-00 = refl
+unfolding walk-next
+steps-over s w t = rw (walk-next, stat-erased t, walks-low w, stat-reserved t)
 
 walk-onto : (r : Rec) (k at : ℕ) (s : List ℕ) → Fine r → Walks at (r .low) → walk (suc k) at (onto r s) ≡ walk k (at + rsize r) s
 walk-onto r k at s f w =
@@ -73,7 +70,8 @@ walk-lay (r ∷ rs) k at s f w =
     rw (suc-add (length rs) k, walk-onto r (length rs + k) at (lay rs s) (f .0) (w .0))
     (walk-lay rs k (at + rsize r) s (f .1) (w .1) ∙ rw (add-assoc at (rsize r)))
 
--- a reserved record, by its finished size
+-- ---- "a reserved record is stepped over by its finished size"
+
 reserved-not-torn : (s : List ℕ) → torn-here (165 ∷ 90 ∷ 254 ∷ s) ≡ false
 unfolding is-erased
 reserved-not-torn s = refl
@@ -82,19 +80,21 @@ over-reserved : (at : ℕ) (s : List ℕ) → walk-next at (165 ∷ 90 ∷ 254 �
 unfolding walk-next is-record is-high is-erased is-reserved
 over-reserved at s = refl
 
+walk-reserved : (k at n d : ℕ) (u s : List ℕ) → record-at true (165 ∷ 90 ∷ 254 ∷ u) ≡ Next.Record n d
+    → drop (size-of n d) (165 ∷ 90 ∷ 254 ∷ u) ≡ s → walk (suc k) at (165 ∷ 90 ∷ 254 ∷ u) ≡ walk k (at + size-of n d) s
+walk-reserved k at n d u s e f =
+    walk-over k at n d (165 ∷ 90 ∷ 254 ∷ u) (reserved-not-torn u) (over-reserved at u ∙ e) ∙ ap (walk k (at + size-of n d)) f
+
 -- over a record whose name was not ended
 pub walk-begun : (k at d : ℕ) (n s : List ℕ) → Fit d n → walk (suc k) at (begun d n s) ≡ walk k (at + size-of (length n) d) s
-walk-begun k at d n s f =
-    walk-over k at (length n) d (begun d n s) (reserved-not-torn (drop 3 (begun d n s)))
-        (over-reserved at (drop 3 (begun d n s)) ∙ record-at-begun d n s f)
-    ∙ ap (walk k (at + size-of (length n) d)) (drop-begun d n s)
+walk-begun k at d n s f = walk-reserved k at (length n) d (drop 3 (begun d n s)) s (record-at-begun d n s f) (drop-begun d n s)
 
 -- over a record that was not committed
 pub walk-held : (k at : ℕ) (n c s : List ℕ) → Fit (length c) n → walk (suc k) at (onto (held n c) s) ≡ walk k (at + size-of (length n) (length c)) s
 walk-held k at n c s f =
-    walk-over k at (length n) (length c) (onto (held n c) s) (reserved-not-torn (drop 3 (onto (held n c) s)))
-        (over-reserved at (drop 3 (onto (held n c) s)) ∙ record-at-onto true (held n c) s f)
-    ∙ ap (walk k (at + size-of (length n) (length c))) (drop-onto (held n c) s)
+    walk-reserved k at (length n) (length c) (drop 3 (onto (held n c) s)) s (record-at-onto true (held n c) s f) (drop-onto (held n c) s)
+
+-- ---- where the walk ends
 
 -- where the walk ends, by further on, with g
 pub record Lands (at by : ℕ) (s g : List ℕ) : Type 0 where
