@@ -13,8 +13,8 @@ use Rattle.spec.specs.Step.{Step, program, run}
 use Rattle.spec.specs.Bytes.{is-start, is-clean, is-record, is-high}
 use Rattle.spec.specs.Move.{mark-here, mark-steps, clean-steps}
 use Rattle.history.specs.Lists.{not-both}
-use Rattle.history.specs.Markless.{mark-second, calm-markless, Markless, mark-append}
 use Rattle.history.specs.Steps.{set-past}
+use Rattle.history.specs.Markless.{mark-second, calm-markless, Markless, mark-append}
 
 clean-nil : (k a : ℕ) → clean-steps k a [] ≡ []
 unfolding clean-steps is-high is-start

@@ -20,9 +20,9 @@ use Rattle.history.specs.Lists.{keep-no, some-behind}
 use Rattle.history.specs.Blanks.{blanks}
 use Rattle.history.specs.Store.{alive}
 use Rattle.history.specs.Ledger.{as-file, Matches, perm-length, contents}
-use Rattle.history.specs.Seg.{seg-none}
 use Rattle.history.specs.Steps.{run-append}
 use Rattle.history.specs.Safe.{Safe, safe-append, safe-end, safe-map}
+use Rattle.history.specs.Seg.{seg-none}
 use Rattle.history.specs.Laid.{Laid}
 use Rattle.history.specs.LaidEdit.{laid-first, status-at, entry-inside}
 use Rattle.history.specs.Kinds.{Ok, Kind, quiet, half, shadow, clean, both, vacated, Inv, Rested}

@@ -19,10 +19,10 @@ use Rattle.spec.specs.Mount.{free-sectors, dirty, erase-steps}
 use Rattle.history.specs.Lists.{each-map, each-append, each-keep}
 use Rattle.history.specs.Blanks.{blanks, take-blanks}
 use Rattle.history.specs.Lay.{lay}
-use Rattle.history.specs.Markless.{markless-append, markless-drop, markless-take, markless-ff, Markless}
-use Rattle.history.specs.Seg.{seg-none, seg-onto}
 use Rattle.history.specs.Safe.{Safe}
+use Rattle.history.specs.Markless.{markless-append, markless-drop, markless-take, markless-ff, Markless}
 use Rattle.history.specs.Erase.{erase-mid, length-sector, sector-is, erase-length}
+use Rattle.history.specs.Seg.{seg-none, seg-onto}
 use Rattle.history.specs.Turned.{open-ff}
 use Rattle.history.specs.Laid.{Laid, laid-straight, laid-turned, Hole, place}
 use Rattle.history.specs.LaidEdit.{laid-below, laid-head, laid-length, hole-of, free-markless}

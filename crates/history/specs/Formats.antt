@@ -18,14 +18,14 @@ use Rattle.spec.specs.Answers.{Plan, Outcome, doing, carry-out, format-plan, fo
 use Rattle.history.specs.Blanks.{blanks, blank-split}
 use Rattle.history.specs.Store.{alive}
 use Rattle.history.specs.Lay.{onto, lay, length-lay, low-start, st-00}
-use Rattle.history.specs.Markless.{markless-blanks}
-use Rattle.history.specs.Seg.{seg-none}
 use Rattle.history.specs.Steps.{run-append}
+use Rattle.history.specs.Markless.{markless-blanks}
 use Rattle.history.specs.Erase.{erase-run, sectors-are, good-is}
+use Rattle.history.specs.Seg.{seg-none}
 use Rattle.history.specs.Straight.{Straight}
 use Rattle.history.specs.Laid.{laid-straight, tail-clear}
 use Rattle.history.specs.Kinds.{Ok, quiet, Inv}
-use Rattle.history.specs.Top.{carried-done, carried-cut}
+use Rattle.history.specs.Induction.{carried-done, carried-cut}
 
 -- ---- the bytes
 
@@ -66,7 +66,7 @@ fresh-straight f =
       lost-small = omega arith;
       lost-markless = tt;
       front = no-front;
-      fine = (record { low-ok = low-start; status-ok = st-00; fit = record { short = omega arith; plain = tt; small = omega arith } }, tt);
+      fine = (record { low-ok = low-start; status-ok = st-00; fit = record { short = omega arith; printable = tt; small = omega arith } }, tt);
     }
 
 abbrev head : Entry

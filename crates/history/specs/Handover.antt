@@ -17,8 +17,8 @@ use Rattle.history.specs.Blanks.{blanks}
 use Rattle.history.specs.Store.{alive}
 use Rattle.history.specs.Lay.{rsize, entries-of, low-clean}
 use Rattle.history.specs.Seg.{Seg, seg-none}
-use Rattle.history.specs.Laid.{Laid, laid-straight, laid-turned, Lowered, low-high, low-zero}
 use Rattle.history.specs.StraightEdit.{relow}
+use Rattle.history.specs.Laid.{Laid, laid-straight, laid-turned, Lowered, low-high, low-zero}
 use Rattle.history.specs.LaidEdit.{laid-fine, relow-laid, low-at, entry-inside}
 use Rattle.history.specs.Kinds.{Ok, Starts, Rested}
 use Rattle.history.specs.OkLaws.{ok-same}

@@ -17,13 +17,13 @@ use Rattle.spec.specs.Move.{mark-here, mark-steps, clean-steps}
 use Rattle.spec.specs.History.{Ledger}
 use Rattle.history.specs.Blanks.{blanks}
 use Rattle.history.specs.Store.{alive, Unmarked}
-use Rattle.history.specs.Lay.{pad, lens, body, onto, rsize, Plain}
-use Rattle.history.specs.Markless.{markless-body, Markless, Cleaned}
-use Rattle.history.specs.Seg.{Seg, seg-none}
+use Rattle.history.specs.Lay.{pad, lens, body, onto, rsize, Printable}
 use Rattle.history.specs.Steps.{set-past}
 use Rattle.history.specs.Safe.{Safe, safe-map, safe-end}
-use Rattle.history.specs.Laid.{Laid, Inside, Tail, low-same}
+use Rattle.history.specs.Markless.{markless-body, Markless, Cleaned}
+use Rattle.history.specs.Seg.{Seg, seg-none}
 use Rattle.history.specs.StraightEdit.{recontent}
+use Rattle.history.specs.Laid.{Laid, Inside, Tail, low-same}
 use Rattle.history.specs.LaidEdit.{inside-of}
 use Rattle.history.specs.Kinds.{Ok, clean, Inv}
 use Rattle.history.specs.OkLaws.{ok-dead}
@@ -127,7 +127,7 @@ markless-fewer (suc j) k s q =
     let r : Markless (suc (j + k)) s = subst (λ (n : ℕ). Markless n s) (suc-add j k) q in
     (r .0, markless-fewer j k (drop 8 s) (r .1))
 
-cleaned-by : (x : Rec) → Plain (x .name) → Markless (length (x .content)) (x .content) → Cleaned x
+cleaned-by : (x : Rec) → Printable (x .name) → Markless (length (x .content)) (x .content) → Cleaned x
 cleaned-by x p q =
     let d : ℕ = length (x .content) in
     let n : d ≡ up8 d / 8 + (d - up8 d / 8) = omega arith in
@@ -194,7 +194,7 @@ module _ {im : Image} {h S : ℕ} {t : Bool} {x : Entry} {ys : List Entry} {seg 
       (record {
         low-ok = I .fine .low-ok;
         status-ok = I .fine .status-ok;
-        fit = record { short = I .fine .fit .short; plain = I .fine .fit .plain; small = rw (c .sized) (I .fine .fit .small) };
+        fit = record { short = I .fine .fit .short; printable = I .fine .fit .printable; small = rw (c .sized) (I .fine .fit .small) };
       }) (low-same refl))
 
   resized : (i : Image) → Data P Q d i → length i ≡ length im
@@ -211,12 +211,12 @@ module _ {im : Image} {h S : ℕ} {t : Bool} {x : Entry} {ys : List Entry} {seg 
       subst (λ (i : Image). Clean-now d P (content-of x) Q (run i steps)) (sym start)
           (clean-done d (data-at x) P (content-of x) Q P-length (omega arith)) in
       let same : done .now ≡ c .now = same-mid P Q (done .now) (c .now) (sym (done .is) ∙ c .is) (done .same-length ∙ sym (c .sized)) in
-      cleaned-by (recontent (c .now) (x .it)) (I .fine .fit .plain) (subst₂ (λ (n : ℕ) (s : List ℕ). Markless n s) (sym (c .sized)) same (done .markless))
+      cleaned-by (recontent (c .now) (x .it)) (I .fine .fit .printable) (subst₂ (λ (n : ℕ) (s : List ℕ). Markless n s) (sym (c .sized)) same (done .markless))
 
 -- ---- step (c) on a laid image
 
 -- what (c) leaves, cut anywhere and at the end
-pub record Swept (l : Ledger) (im : Image) (ss : List Step) (h S B F : ℕ) (t : Bool) (x y : Entry) (es : List Entry) : Type 0 where
+pub record Cleans (l : Ledger) (im : Image) (ss : List Step) (h S B F : ℕ) (t : Bool) (x y : Entry) (es : List Entry) : Type 0 where
   pub safe : Safe (Inv l) im ss
   pub same : length (run im ss) ≡ length im
   pub now : List ℕ
@@ -226,18 +226,18 @@ pub record Swept (l : Ledger) (im : Image) (ss : List Step) (h S B F : ℕ) (t :
   pub ok : Ok (anew x now ∷ y ∷ es) l
 
 -- step (c) on a laid image
-pub sweep-data :
+pub clean-data :
     {l : Ledger} {im : Image} {h S : ℕ} (B F : ℕ) {t : Bool} {x y : Entry} {es : List Entry} → good-length (length im) ≡ true →
     Laid im h S t (x ∷ y ∷ es) seg-none (blanks B) (blanks F) → Tail h S t seg-none (blanks B) (blanks F) S t → x .it .low ≡ 0 → alive x ≡ false
         → y .it .low ≡ 160 → Each Unmarked es →
-    Ok (x ∷ y ∷ es) l → Swept l im (clean-steps (length (content-of x)) (data-at x) (content-of x)) h S B F t x y es
-sweep-data {l} {im} {h} {S} B F {t} {x} {y} {es} g ld tl lx dead ly un ok = go (inside-of ld [] (y ∷ es) x refl)
+    Ok (x ∷ y ∷ es) l → Cleans l im (clean-steps (length (content-of x)) (data-at x) (content-of x)) h S B F t x y es
+clean-data {l} {im} {h} {S} B F {t} {x} {y} {es} g ld tl lx dead ly un ok = go (inside-of ld [] (y ∷ es) x refl)
   where
     oks : (c : List ℕ) → Ok (anew x c ∷ y ∷ es) l
     oks c = ok-dead [] (y ∷ es) x (anew x c) l ok dead (anew-alive x c ∙ dead)
 
     go : Inside im h S t [] x (y ∷ es) seg-none (blanks B) (blanks F)
-        → Swept l im (clean-steps (length (content-of x)) (data-at x) (content-of x)) h S B F t x y es
+        → Cleans l im (clean-steps (length (content-of x)) (data-at x) (content-of x)) h S B F t x y es
     go I =
         let all : Safe (Data (P I) (Q I) (d I)) im (steps I) = all-zeros I in
         let c : Data (P I) (Q I) (d I) (run im (steps I)) = safe-end (Data (P I) (Q I) (d I)) im (steps I) all in

@@ -16,13 +16,13 @@ use Rattle.spec.specs.Write.{marker-steps}
 use Rattle.history.specs.Lists.{not-both}
 use Rattle.history.specs.Blanks.{blanks}
 use Rattle.history.specs.Lay.{onto, rsize, sizes, entries-of, length-lay, Fine, Low, Stat}
+use Rattle.history.specs.Steps.{set-past}
 use Rattle.history.specs.Markless.{Markless}
 use Rattle.history.specs.Seg.{Seg, seg-none, seg-size}
-use Rattle.history.specs.Steps.{set-past}
 use Rattle.history.specs.Straight.{bottom}
+use Rattle.history.specs.StraightEdit.{restatus, relow, straight-length}
 use Rattle.history.specs.Marker.{turned-by, turned-exact}
 use Rattle.history.specs.Laid.{Laid, laid-straight, laid-turned, Hole, Inside, Lowered, low-same, place}
-use Rattle.history.specs.StraightEdit.{restatus, relow, straight-length}
 use Rattle.history.specs.Entries.{entries-fine, Found, in-first, in-second, find, among}
 use Rattle.history.specs.StraightLaid.{straight-hole, straight-inside}
 use Rattle.history.specs.TurnedLaid.{turned-hole, high-inside, low-inside, turned-length}
@@ -30,9 +30,9 @@ use Rattle.history.specs.TurnedLaid.{turned-hole, high-inside, low-insid
 -- ---- measures
 
 -- where the stretch of S ends: each case of the turn on its own
-limit-is : (im : Image) (h S n : ℕ) (t : Bool) → (t ≡ true → floor h ≡ n) → (t ≡ false → length im ≡ n) → limit (place im h S t) ≡ n
-limit-is im h S n true p q = p refl
-limit-is im h S n false p q = q refl
+limit-by : (im : Image) (h S n : ℕ) (t : Bool) → (t ≡ true → floor h ≡ n) → (t ≡ false → length im ≡ n) → limit (place im h S t) ≡ n
+limit-by im h S n true p q = p refl
+limit-by im h S n false p q = q refl
 
 module _ {im : Image} {h S : ℕ} {t : Bool} {es : List Entry} {seg : Seg} {below free : List ℕ} (d : Laid im h S t es seg below free) where
   -- there is a first record, and it stands at the head
@@ -61,9 +61,9 @@ module _ {im : Image} {h S : ℕ} {t : Bool} {es : List Entry} {seg : Seg} {belo
     where
       go : Laid im h S t es seg below free → limit (place im h (S + seg-size seg) t) ≡ S + seg-size seg + length free
       go (laid-straight f s p q r m n) =
-          limit-is im h (S + seg-size seg) (S + seg-size seg + length free) t (λ u. absurd (not-both t p u)) (λ u. straight-length s ∙ omega arith)
+          limit-by im h (S + seg-size seg) (S + seg-size seg + length free) t (λ u. absurd (not-both t p u)) (λ u. straight-length s ∙ omega arith)
       go (laid-turned s p q r b) =
-          limit-is im h (S + seg-size seg) (S + seg-size seg + length free) t (λ u. omega (arith, s .at, s .lost-small, s .below, s .free-length))
+          limit-by im h (S + seg-size seg) (S + seg-size seg + length free) t (λ u. omega (arith, s .at, s .lost-small, s .below, s .free-length))
               (λ u. absurd (not-both t u p))
 
   -- before the turn: the bytes below the head's sector

@@ -16,12 +16,12 @@ use Rattle.spec.specs.Bytes.{is-start, is-clean, is-record, is-high}
 use Rattle.history.specs.Blanks.{blanks, split-front}
 use Rattle.history.specs.Lay.{body, onto, rsize, sizes, entries-of, length-lay, length-body, rsize-words}
 use Rattle.history.specs.Markless.{markless-append, markless-blanks, Markless, Cleaned}
-use Rattle.history.specs.Seg.{seg-none}
 use Rattle.history.specs.Erase.{erases, sectors-are, half-erased, half-erased-length, all-erased, take-erases, good-is, no-map, old-head}
+use Rattle.history.specs.Seg.{seg-none}
 use Rattle.history.specs.Straight.{Straight}
+use Rattle.history.specs.StraightEdit.{straight-length}
 use Rattle.history.specs.Turned.{Turned, End, exact, marker, end-bytes, Opens, open-ff, opens-blanks}
 use Rattle.history.specs.Laid.{Laid, laid-straight, laid-turned, Tail, tail-clear, tail-floor, tail-N, tail-turn, Bare, clear-ff}
-use Rattle.history.specs.StraightEdit.{straight-length}
 use Rattle.history.specs.TurnedLaid.{turned-length}
 use Rattle.history.specs.Vacant.{Vacant, vacant-at}
 use Rattle.history.specs.StraightErase.{straight-erased, vacated-are, straight-all-erased}

@@ -10,9 +10,9 @@ use Rattle.spec.specs.Geometry.{floor}
 use Rattle.spec.specs.Record.{Rec, Entry}
 use native.Mathlib.Nat.{add-zero}
 use Rattle.history.specs.Lay.{onto, lay, rsize, sizes, entries-of, lay-is, length-body, body, lens, rsize-words}
+use Rattle.history.specs.Steps.{set-past}
 use Rattle.history.specs.Markless.{markless-append, mark-second, Markless, Cleaned}
 use Rattle.history.specs.Seg.{Seg, seg-onto}
-use Rattle.history.specs.Steps.{set-past}
 use Rattle.history.specs.Straight.{Straight}
 use Rattle.history.specs.Turned.{Turned, End, end-bytes}
 use Rattle.history.specs.Laid.{Laid, laid-straight, laid-turned}

@@ -15,11 +15,11 @@ use Rattle.spec.specs.Mount.{free-sectors, dirty, erase-steps}
 use Rattle.history.specs.Lists.{keep-append, none-at}
 use Rattle.history.specs.Blanks.{blanks, take-blanks, split-front}
 use Rattle.history.specs.Lay.{lay}
-use Rattle.history.specs.Markless.{markless-ff, Markless}
-use Rattle.history.specs.Seg.{seg-none, seg-onto}
 use Rattle.history.specs.Steps.{run-append}
 use Rattle.history.specs.Safe.{Safe, safe-map}
+use Rattle.history.specs.Markless.{markless-ff, Markless}
 use Rattle.history.specs.Erase.{sectors-are, good-is, no-map}
+use Rattle.history.specs.Seg.{seg-none, seg-onto}
 use Rattle.history.specs.Turned.{opens-blanks}
 use Rattle.history.specs.Laid.{Laid, laid-straight, laid-turned, Hole, Tail, tail-clear, tail-floor, tail-N, tail-turn, Bare, clear-ff, place}
 use Rattle.history.specs.LaidEdit.{laid-below, hole-of, free-markless}

@@ -22,13 +22,13 @@ use Rattle.history.specs.Blanks.{blanks, blank-blanks}
 use Rattle.history.specs.Store.{Unmarked}
 use Rattle.history.specs.Lay.{lay, rsize, sizes, entries-of, Low, low-record, low-start, low-clean, All-fine, chain-of}
 use Rattle.history.specs.Last.{Ends, stops-clear, stops-over}
-use Rattle.history.specs.Seg.{Seg, seg-none, seg-torn, seg-cut, seg-held, seg-onto, seg-size, seg-entries, seg-open, seg-ends}
 use Rattle.history.specs.Walk.{Walks, walks-record, walks-clean, Walked}
+use Rattle.history.specs.Seg.{Seg, seg-none, seg-torn, seg-cut, seg-held, seg-onto, seg-size, seg-entries, seg-open, seg-ends}
 use Rattle.history.specs.Shape.{shape-full, shape-last, low-clear}
 use Rattle.history.specs.Legal.{Ruled, reading-by}
 use Rattle.history.specs.Straight.{Straight, bottom, straight-clean, straight-none, straight-reading}
 use Rattle.history.specs.Turned.{Opens, opens-ff, opens-none, turned-start, turned-clean, turned-reading}
-use Rattle.history.specs.Whole.{started, gap-part, free-part, free₁, below, here, is-clean-0, is-clean-A0}
+use Rattle.history.specs.Whole.{started, gap-part, free-part, turned-free-part, below, here, is-clean-0, is-clean-A0}
 use Rattle.history.specs.Laid.{Laid, laid-straight, laid-turned, Tail, tail-clear, tail-floor, tail-N, tail-turn, place}
 
 -- ---- small things
@@ -197,7 +197,7 @@ free-is {im} {h} {S} {T} B F {t} {u} {es} {seg} (laid-straight {x = x} {ys = ys}
 free-is {im} {h} {S} {T} B F {t} {u} {es} {seg} (laid-turned {low = low} s et eS ee eb) e =
     let k = tail-turned et e in
     placed im h (k .0 ∙ ap (λ (n : ℕ). n + seg-size seg) eS) (k .1)
-    (round-blank im h (sizes low + seg-size seg) (blank-below F (part (sizes low + seg-size seg) (floor h) im) (free₁ s)))
+    (round-blank im h (sizes low + seg-size seg) (blank-below F (part (sizes low + seg-size seg) (floor h) im) (turned-free-part s)))
 
 -- head START, the free run FF
 pub start-reads :

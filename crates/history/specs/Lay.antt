@@ -92,14 +92,14 @@ pub data Stat : ℕ → Type 0 where
   st-00 : Stat 0x00
 
 -- a name's characters
-abbrev pub Plain : List ℕ → Type 0
-Plain [] = Unit {0}
-Plain (x ∷ w) = ((33 ≤ x) × (x ≤ 126)) × Plain w
+abbrev pub Printable : List ℕ → Type 0
+Printable [] = Unit {0}
+Printable (x ∷ w) = ((33 ≤ x) × (x ≤ 126)) × Printable w
 
 -- a name and a length of data that a header can say
 pub record Fit (d : ℕ) (n : List ℕ) : Type 0 where
   pub short : length n < 64
-  pub plain : Plain n
+  pub printable : Printable n
   pub small : d < 4294967296
 
 -- a record that can be written
@@ -117,17 +117,17 @@ All-fine (r ∷ rs) = Fine r × All-fine rs
 len-lens : (a b c e d : ℕ) (s : List ℕ) → d < 4294967296 → data-len-of (a ∷ b ∷ c ∷ e ∷ lens d s) ≡ d
 len-lens a b c e d s h = let top : d / 16777216 % 256 ≡ d / 16777216 = omega arith in rw top (omega arith)
 
-ends-plain : (held : Bool) (x : ℕ) → 33 ≤ x → x ≤ 126 → ends-name held x ≡ false
+ends-printable : (held : Bool) (x : ℕ) → 33 ≤ x → x ≤ 126 → ends-name held x ≡ false
 unfolding ends-name
-ends-plain held x h l = rw (ends-name, ne-eqb x 0 (λ e. omega arith), ne-eqb x 255 (λ e. omega arith)) (and-false held)
+ends-printable held x h l = rw (ends-name, ne-eqb x 0 (λ e. omega arith), ne-eqb x 255 (λ e. omega arith)) (and-false held)
 
-name-length-at : (k : ℕ) (held : Bool) (w : List ℕ) (t : ℕ) (s : List ℕ) → length w < k → Plain w → ends-name held t ≡ true
+name-length-at : (k : ℕ) (held : Bool) (w : List ℕ) (t : ℕ) (s : List ℕ) → length w < k → Printable w → ends-name held t ≡ true
     → name-length k held (w ++ (t ∷ s)) ≡ length w
 unfolding name-length
 name-length-at zero held w t s h p e = absurd (not-suc-le-zero h)
 name-length-at (suc k) held [] t s h p e = rw (e, name-length)
 name-length-at (suc k) held (x ∷ w) t s h p e =
-    rw (ends-plain held x (p .0 .0) (p .0 .1), name-length) (ap suc (name-length-at k held w t s (omega arith) (p .1) e))
+    rw (ends-printable held x (p .0 .0) (p .0 .1), name-length) (ap suc (name-length-at k held w t s (omega arith) (p .1) e))
 
 -- a record's length is its size
 pub length-body : (n c s : List ℕ) → 8 + length (body n c s) ≡ size-of (length n) (length c) + length s
@@ -167,7 +167,7 @@ pub record-at-laid : (held : Bool) (b₀ b₁ b₂ b₃ t d : ℕ) (n s : List �
     size-of (length n) d ≤ 9 + length n + length s → record-at held (b₀ ∷ b₁ ∷ b₂ ∷ b₃ ∷ lens d (n ++ (t ∷ s))) ≡ Next.Record (length n) d
 record-at-laid held b₀ b₁ b₂ b₃ t d n s f e l =
     let b : List ℕ = b₀ ∷ b₁ ∷ b₂ ∷ b₃ ∷ lens d (n ++ (t ∷ s)) in
-    ap₂ (sized b) (name-length-at 64 held n t s (f .short) (f .plain) e) (len-lens b₀ b₁ b₂ b₃ d (n ++ (t ∷ s)) (f .small))
+    ap₂ (sized b) (name-length-at 64 held n t s (f .short) (f .printable) e) (len-lens b₀ b₁ b₂ b₃ d (n ++ (t ∷ s)) (f .small))
     ∙ sized-is b (length n) d (f .short) (omega (arith, length-append n (t ∷ s)))
 
 ends-zero : (held : Bool) → ends-name held 0 ≡ true

@@ -15,13 +15,13 @@ use Rattle.spec.specs.Write.{marker-steps}
 use Rattle.history.specs.Blanks.{blanks, blank-split}
 use Rattle.history.specs.Lay.{lay, sizes, entries-of}
 use Rattle.history.specs.Last.{Begun, torn-wrap, ends-torn-wrap}
+use Rattle.history.specs.Steps.{Programs}
 use Rattle.history.specs.Markless.{Markless}
 use Rattle.history.specs.Seg.{seg-none}
-use Rattle.history.specs.Steps.{Programs}
 use Rattle.history.specs.Shape.{shape-torn-wrap}
 use Rattle.history.specs.Straight.{Straight, bottom}
+use Rattle.history.specs.StraightEdit.{straight-with, run-behind}
 use Rattle.history.specs.Turned.{Turned, exact, marker, opens-blanks, End, end-bytes}
-use Rattle.history.specs.StraightEdit.{other, run-behind}
 
 -- a chain whose records are followed by what ends them has turned: the sectors below the head are its free run
 pub turned-gap : {im : List ℕ} {a l : ℕ} {gap lost : List ℕ} {h : ℕ} {high : List Rec} {free : List ℕ}
@@ -62,11 +62,11 @@ module _ {im : List ℕ} {a l : ℕ} {gap lost : List ℕ} {h : ℕ} {high : Lis
       programs (suc (suc (suc (suc j)))) = tt
 
   -- cut: a torn wrap stands at T
-  pub torn-1 : Straight (run im (moved (h + sizes high) (take 1 marker-steps))) a l gap lost h high seg-none (torn-wrap 255 (g - 8))
-  torn-1 = other (run im (moved (h + sizes high) (take 1 marker-steps))) s (at-tail 1) (s .fine)
+  pub marker-cut-1 : Straight (run im (moved (h + sizes high) (take 1 marker-steps))) a l gap lost h high seg-none (torn-wrap 255 (g - 8))
+  marker-cut-1 = straight-with (run im (moved (h + sizes high) (take 1 marker-steps))) s (at-tail 1) (s .fine)
 
-  pub torn-2 : Straight (run im (moved (h + sizes high) (take 2 marker-steps))) a l gap lost h high seg-none (torn-wrap 90 (g - 8))
-  torn-2 = other (run im (moved (h + sizes high) (take 2 marker-steps))) s (at-tail 2) (s .fine)
+  pub marker-cut-2 : Straight (run im (moved (h + sizes high) (take 2 marker-steps))) a l gap lost h high seg-none (torn-wrap 90 (g - 8))
+  marker-cut-2 = straight-with (run im (moved (h + sizes high) (take 2 marker-steps))) s (at-tail 2) (s .fine)
 
   -- done: the chain has turned, T is 0
   pub turned-by : gap ≡ blanks (4096 * a) → 1 ≤ a

@@ -13,7 +13,7 @@ use Rattle.spec.specs.Geometry.{up8}
 use Rattle.spec.specs.Bytes.{is-record, is-start, is-clean, is-high}
 use Rattle.spec.specs.Move.{mark-here}
 use Rattle.history.specs.Blanks.{blanks, blank-split}
-use Rattle.history.specs.Lay.{pad, padded, body, Plain, rsize}
+use Rattle.history.specs.Lay.{pad, padded, body, Printable, rsize}
 use Rattle.spec.specs.Record.{low-of, high-of, start-here, clean-here, Rec}
 
 -- k words, none of which begins with a mark
@@ -121,17 +121,17 @@ calm-blanks zero = tt
 calm-blanks (suc zero) = (pair-nil 255, tt)
 calm-blanks (suc (suc k)) = (pair-ff 255, calm-blanks (suc k))
 
-plain-pair : (x y : ℕ) → 33 ≤ x → x ≤ 126 → mark-pair x y ≡ false
+printable-pair : (x y : ℕ) → 33 ≤ x → x ≤ 126 → mark-pair x y ≡ false
 unfolding is-start is-clean is-record
-plain-pair x y h l = rw (ne-eqb x 0 (λ e. omega arith), ne-eqb x 160 (λ e. omega arith), ne-eqb x 165 (λ e. omega arith))
+printable-pair x y h l = rw (ne-eqb x 0 (λ e. omega arith), ne-eqb x 160 (λ e. omega arith), ne-eqb x 165 (λ e. omega arith))
 
-calm-name : (n : List ℕ) (k : ℕ) → Plain n → Calm (n ++ (0 ∷ blanks k))
+calm-name : (n : List ℕ) (k : ℕ) → Printable n → Calm (n ++ (0 ∷ blanks k))
 calm-name [] zero p = (pair-nil 0, tt)
 calm-name [] (suc k) p = (pair-ff 0, calm-blanks (suc k))
-calm-name (x ∷ n) k p = (plain-pair x (getD (n ++ (0 ∷ blanks k)) 0 0) (p .0 .0) (p .0 .1), calm-name n k (p .1))
+calm-name (x ∷ n) k p = (printable-pair x (getD (n ++ (0 ∷ blanks k)) 0 0) (p .0 .0) (p .0 .1), calm-name n k (p .1))
 
 -- a record behind its first word: the name is calm, the data has been cleaned
-pub markless-body : (n c : List ℕ) → Plain n → Markless (up8 (length c) / 8) (padded c [])
+pub markless-body : (n c : List ℕ) → Printable n → Markless (up8 (length c) / 8) (padded c [])
     → Markless (up8 (length n + 1) / 8 + up8 (length c) / 8) (body n c [])
 markless-body n c p q =
     let N : List ℕ = n ++ (0 ∷ blanks (pad (length n + 1))) in

@@ -13,7 +13,7 @@ use Rattle.history.specs.Lists.{not-both}
 use Rattle.history.specs.Seg.{Seg, seg-none, seg-torn, seg-cut, seg-held, seg-open}
 use Rattle.history.specs.Kinds.{Kind, quiet, half, shadow, clean, both, vacated, Inv, Rested}
 use Rattle.history.specs.Vacant.{tail-here, rested-of}
-use Rattle.history.specs.Idle.{Needs, needs-none, needs-some, Mends}
+use Rattle.history.specs.Mending.{Needs, needs-none, needs-some, Mends}
 use Rattle.history.specs.Resting.{mends-quiet, mends-clean, mends-both, mends-vacated}
 use Rattle.history.specs.Unshadow.{mends-shadow}
 use Rattle.history.specs.VoidMount.{mends-void}

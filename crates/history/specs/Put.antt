@@ -11,10 +11,10 @@ use Rattle.spec.specs.Geometry.{up8}
 use Rattle.spec.specs.Record.{size-of, Rec}
 use Rattle.spec.specs.Write.{header-steps, name-steps, data-steps, record-steps}
 use Rattle.history.specs.Blanks.{blanks, blank-split, split-front}
-use Rattle.history.specs.Lay.{pad, onto, Plain, Fit, header}
+use Rattle.history.specs.Lay.{pad, onto, Printable, Fit, header}
 use Rattle.history.specs.Last.{Begun, begun-ff, begun-5a, begun-none, held}
-use Rattle.history.specs.Seg.{Seg, seg-none, seg-torn, seg-cut, seg-held, seg-onto, seg-size}
 use Rattle.history.specs.Steps.{cut-one, cut-append, run-append, Programs, length-bytes, write-over, write-blank, programs-bytes, bytes-append}
+use Rattle.history.specs.Seg.{Seg, seg-none, seg-torn, seg-cut, seg-held, seg-onto, seg-size}
 
 -- ---- the states of a record under way, each with f bytes from its start to what follows, s
 
@@ -33,18 +33,18 @@ joined-blanks a b c m s e =
         (ap (λ (l : List ℕ). l ++ s) (blank-split a (b + c) (a + (b + c)) refl) ∙ append-assoc (blanks a) (blanks (b + c)) s
     ∙ ap (λ (l : List ℕ). blanks a ++ l) (ap (λ (l : List ℕ). l ++ s) (blank-split b c (b + c) refl) ∙ append-assoc (blanks b) (blanks c) s))
 
-take-plain : (j : ℕ) (n : List ℕ) → Plain n → Plain (take j n)
-take-plain zero n p = tt
-take-plain (suc j) [] p = tt
-take-plain (suc j) (x ∷ n) p = (p .0, take-plain j n (p .1))
+take-printable : (j : ℕ) (n : List ℕ) → Printable n → Printable (take j n)
+take-printable zero n p = tt
+take-printable (suc j) [] p = tt
+take-printable (suc j) (x ∷ n) p = (p .0, take-printable j n (p .1))
 
 -- a name with j bytes written
-cut-state : (d j f m : ℕ) (n s : List ℕ) → length n ≡ j → j < 64 → Plain n → d < 4294967296 → size-of j d ≤ f → m + j + 8 ≡ f
+cut-state : (d j f m : ℕ) (n s : List ℕ) → length n ≡ j → j < 64 → Printable n → d < 4294967296 → size-of j d ≤ f → m + j + 8 ≡ f
     → Opened f s (header d (n ++ (blanks m ++ s)))
 cut-state d j f m n s e h p l i k =
     let left : ℕ = f - size-of j d in
     record {
-      seg = seg-cut d n (record { short = omega arith; plain = p; small = l });
+      seg = seg-cut d n (record { short = omega arith; printable = p; small = l });
       left = left;
       is = ap (λ (z : List ℕ). header d (n ++ z)) (joined-blanks (pad (length n + 1)) (up8 d) left m s (omega arith));
       sum = rw e (omega arith);
@@ -79,12 +79,12 @@ header-cut d f s l h (suc (suc (suc (suc (suc (suc (suc zero))))))) i = cut-stat
 header-cut d f s l h (suc (suc (suc (suc (suc (suc (suc (suc k)))))))) i = absurd (omega arith)
 
 -- the name
-name-cut : (d f : ℕ) (n s : List ℕ) → length n < 64 → Plain n → d < 4294967296 → size-of (length n) d ≤ f → (j : ℕ) → j ≤ length n →
+name-cut : (d f : ℕ) (n s : List ℕ) → length n < 64 → Printable n → d < 4294967296 → size-of (length n) d ≤ f → (j : ℕ) → j ≤ length n →
     Opened f s (run (header d (blanks (f - 8) ++ s)) (take j (bytes-at 8 n)))
 name-cut d f n s h p l i j k =
     let e : run (header d (blanks (f - 8) ++ s)) (take j (bytes-at 8 n)) ≡ header d (take j n ++ (blanks (f - 8 - j) ++ s)) =
     write-blank (header d []) n s 8 j (f - 8 - j) (f - 8) refl k (omega arith) in
-    rw e (cut-state d j f (f - 8 - j) (take j n) s (length-take-le j n k) (omega arith) (take-plain j n p) l (omega arith) (omega arith))
+    rw e (cut-state d j f (f - 8 - j) (take j n) s (length-take-le j n k) (omega arith) (take-printable j n p) l (omega arith) (omega arith))
 
 -- the name and its 00: a held record with no data yet
 named : (n c s : List ℕ) (f : ℕ) → size-of (length n) (length c) ≤ f →
@@ -122,7 +122,7 @@ data-cut n c s f g h j i =
     let l : length (take j c ++ blanks (length c - j)) ≡ length c = simp (length-append, length-replicate, length-take-le j c i) (omega arith) in
     rw (data-done n c (blanks (f - size-of (length n) (length c)) ++ s) j (length c - j) i (omega arith))
     (record {
-      seg = seg-held n (take j c ++ blanks (length c - j)) (record { short = g .short; plain = g .plain; small = rw l (g .small) });
+      seg = seg-held n (take j c ++ blanks (length c - j)) (record { short = g .short; printable = g .printable; small = rw l (g .small) });
       left = f - size-of (length n) (length c);
       is = refl;
       sum = rw l (omega arith);
@@ -141,7 +141,7 @@ names-cut : (n c s : List ℕ) (f : ℕ) → Fit (length c) n → size-of (lengt
 names-cut n c s f g h k i =
     let H : List ℕ = header (length c) (blanks (f - 8) ++ s) in
     let R : List ℕ = onto (held n (blanks (length c))) (blanks (f - size-of (length n) (length c)) ++ s) in
-    let names : (j : ℕ) → j ≤ length n → Opened f s (run H (take j (bytes-at 8 n))) = name-cut (length c) f n s (g .short) (g .plain) (g .small) h in
+    let names : (j : ℕ) → j ≤ length n → Opened f s (run H (take j (bytes-at 8 n))) = name-cut (length c) f n s (g .short) (g .printable) (g .small) h in
     let all : take (length n) (bytes-at 8 n) ≡ bytes-at 8 n = take-all (length n) (bytes-at 8 n) (omega (arith, length-bytes 8 n)) in
     let a : Opened f s (run H (bytes-at 8 n)) = rw all at (names (length n) (omega arith)) in
     let e : apply (run H (bytes-at 8 n)) (program (8 + length n) 0) ≡ R = sym (run-append H (bytes-at 8 n) (program (8 + length n) 0 ∷ []))

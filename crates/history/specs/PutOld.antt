@@ -21,10 +21,10 @@ use Rattle.history.specs.Lists.{each-end, each-at, each-swap}
 use Rattle.history.specs.Blanks.{blanks}
 use Rattle.history.specs.Store.{alive, Unmarked, f8-alive}
 use Rattle.history.specs.Lay.{st-f8, st-00}
-use Rattle.history.specs.Seg.{Seg, seg-none}
 use Rattle.history.specs.Safe.{Safe}
-use Rattle.history.specs.Laid.{Laid, Tail, Bare}
+use Rattle.history.specs.Seg.{Seg, seg-none}
 use Rattle.history.specs.StraightEdit.{restatus}
+use Rattle.history.specs.Laid.{Laid, Tail, Bare}
 use Rattle.history.specs.LaidEdit.{restatus-laid, status-at, entry-inside}
 use Rattle.history.specs.Kinds.{Bytes, Starts, Ok, quiet, shadow, Inv, Rested}
 use Rattle.history.specs.OkLaws.{ok-same, ok-over, ok-unshadow}
@@ -100,10 +100,10 @@ unfolding bare-read
 bare-head r = refl
 
 -- it is rested
-pub bare-quiet : {im : Image} {h : ℕ} {es : List Entry} {l : Ledger} → good-length (length im) ≡ true → (r : Bare h es im) → Starts es → Ok es l
+pub bare-rested : {im : Image} {h : ℕ} {es : List Entry} {l : Ledger} → good-length (length im) ≡ true → (r : Bare h es im) → Starts es → Ok es l
     → Rested l im (bare-read r)
 unfolding bare-read
-bare-quiet {im} {h} {es} g r st ok =
+bare-rested {im} {h} {es} g r st ok =
     record { good = g; h = h; S = r .S; B = r .B; F = r .F; t = r .t; es = es; laid = r .laid; tail = r .tail; starts = st; ok = ok; is = refl }
 
 -- ---- FC to F8
@@ -198,4 +198,4 @@ module _ {im : Image} {h : ℕ} (xs ys : List Entry) (o e : Entry) (l : Ledger) 
 
   -- and rested
   pub delete-rested : Rested new (set im (o .at + 2) 0) (bare-read deleted)
-  delete-rested = bare-quiet still-good deleted gone-starts gone-ok
+  delete-rested = bare-rested still-good deleted gone-starts gone-ok

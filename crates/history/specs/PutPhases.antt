@@ -15,10 +15,10 @@ use Rattle.spec.specs.Demand.{Sound}
 use Rattle.spec.specs.History.{Ledger, three-if}
 use Rattle.history.specs.Blanks.{blanks}
 use Rattle.history.specs.Lay.{Fit}
-use Rattle.history.specs.Seg.{seg-none}
 use Rattle.history.specs.Steps.{length-moved}
 use Rattle.history.specs.Safe.{Safe, safe-append}
 use Rattle.history.specs.Erase.{good-is}
+use Rattle.history.specs.Seg.{seg-none}
 use Rattle.history.specs.Laid.{Laid, Tail, Bare, place}
 use Rattle.history.specs.LaidEdit.{laid-below, laid-length, laid-head}
 use Rattle.history.specs.Kinds.{Bytes, Starts, Ok, Inv}

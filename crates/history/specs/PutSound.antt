@@ -16,7 +16,7 @@ use Rattle.spec.specs.Write.{header-steps, name-steps, data-steps, commit-steps
 use Rattle.spec.specs.Demand.{Steps-sound}
 use Rattle.history.specs.Lists.{and-left, and-right}
 use Rattle.history.specs.Blanks.{blanks, blank-split, split-front}
-use Rattle.history.specs.Lay.{pad, Plain, Fit, header}
+use Rattle.history.specs.Lay.{pad, Printable, Fit, header}
 use Rattle.history.specs.Steps.{write-over, bytes-append}
 use Rattle.history.specs.Safe.{sound-append, sound-bytes, on-blank}
 use Rattle.history.specs.Kinds.{Bytes}
@@ -28,11 +28,11 @@ printable : (x : ℕ) → is-printable x ≡ true → (33 ≤ x) × (x ≤ 126)
 unfolding is-printable
 printable x h = (leb-true 33 x (and-left (leb 33 x) (leb x 126) h), leb-true x 126 (and-right (leb 33 x) (leb x 126) h))
 
-plain-of : (n : List ℕ) → all is-printable n ≡ true → Plain n
-plain-of [] h = tt
-plain-of (x ∷ n) h = go (is-printable x) refl (plain-of n)
+printable-of : (n : List ℕ) → all is-printable n ≡ true → Printable n
+printable-of [] h = tt
+printable-of (x ∷ n) h = go (is-printable x) refl (printable-of n)
   where
-    go : (b : Bool) → is-printable x ≡ b → (all is-printable n ≡ true → Plain n) → Plain (x ∷ n)
+    go : (b : Bool) → is-printable x ≡ b → (all is-printable n ≡ true → Printable n) → Printable (x ∷ n)
     go true e i = (printable x e, i (rw (e, all) at h))
     go false e i = let y : false ≡ true = rw (e, all) at h in let z : _≡_ {A = ℕ} 0 1 = cc in absurd (omega arith)
 
@@ -45,7 +45,7 @@ name-fit n d h l =
     let two : (leb 1 (length n) && leb (length n) 63) ≡ true = and-left (leb 1 (length n) && leb (length n) 63) (all is-printable n) three in
     record {
       short = omega (arith, leb-true (length n) 63 (and-right (leb 1 (length n)) (leb (length n) 63) two));
-      plain = plain-of n (and-right (leb 1 (length n) && leb (length n) 63) (all is-printable n) three);
+      printable = printable-of n (and-right (leb 1 (length n) && leb (length n) 63) (all is-printable n) three);
       small = l;
     }
 
@@ -57,9 +57,9 @@ name-some (x ∷ n) h = refl
 
 -- ---- the steps
 
-plain-bytes : (n : List ℕ) → Plain n → Each (λ b. b < 256) (n ++ (0 ∷ []))
-plain-bytes [] p = (omega arith, tt)
-plain-bytes (x ∷ n) p = (omega (arith, p .0 .1), plain-bytes n (p .1))
+printable-bytes : (n : List ℕ) → Printable n → Each (λ b. b < 256) (n ++ (0 ∷ []))
+printable-bytes [] p = (omega arith, tt)
+printable-bytes (x ∷ n) p = (omega (arith, p .0 .1), printable-bytes n (p .1))
 
 header-sound : (d : ℕ) (s : List ℕ) → Steps-sound (blanks 8 ++ s) (header-steps d)
 header-sound d s = (
@@ -96,7 +96,7 @@ body-sound n c s f g b h =
     let a : length (header d [] ++ (w ++ blanks p)) ≡ 8 + up8 (length n + 1) = simp (length-append, length-replicate) (omega arith) in
     sound-append (header d [] ++ (blanks (f - 8) ++ s)) (name-steps n) (data-steps (length n) c)
     (subst (λ (z : List Step). Steps-sound (header d [] ++ (blanks (f - 8) ++ s)) z) (sym names)
-        (sound-bytes (header d []) w s 8 (f - 8) (f - 8 - k) refl (omega arith) (plain-bytes n (g .plain))))
+        (sound-bytes (header d []) w s 8 (f - 8) (f - 8 - k) refl (omega arith) (printable-bytes n (g .printable))))
     (subst (λ (z : List ℕ). Steps-sound z (data-steps (length n) c)) (sym after)
         (sound-bytes (header d [] ++ (w ++ blanks p)) c s (8 + up8 (length n + 1)) m (m - d) a (omega arith) b))
 

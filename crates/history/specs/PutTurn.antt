@@ -21,11 +21,11 @@ use Rattle.history.specs.Lists.{and-left, and-right}
 use Rattle.history.specs.Blanks.{blanks, blank-eight}
 use Rattle.history.specs.Lay.{sizes, entries-of}
 use Rattle.history.specs.Last.{begun-ff, begun-5a, torn-wrap}
-use Rattle.history.specs.Seg.{seg-none}
 use Rattle.history.specs.Steps.{take-programs}
 use Rattle.history.specs.Safe.{Safe, safe-from, sound-past}
+use Rattle.history.specs.Seg.{seg-none}
 use Rattle.history.specs.Straight.{Straight}
-use Rattle.history.specs.Marker.{torn-1, torn-2}
+use Rattle.history.specs.Marker.{marker-cut-1, marker-cut-2}
 use Rattle.history.specs.Laid.{Laid, laid-straight, laid-turned, Tail, tail-clear, tail-floor, tail-N, tail-turn, place}
 use Rattle.history.specs.LaidEdit.{laid-below, laid-limit, hole-of, turn-laid}
 use Rattle.history.specs.Kinds.{Starts, Ok, Kind, quiet, half, Inv}
@@ -45,12 +45,12 @@ module _ {im : Image} {h S : ℕ} {es : List Entry} (B F : ℕ) (d : Laid im h S
           let one : Straight (set im (S + 0) 250) a m (blanks (4096 * a)) lost h (x ∷ ys) seg-none (torn-wrap 255 (F - 8)) =
           subst (λ (n : ℕ). Straight (set im (n + 0) 250) a m (blanks (4096 * a)) lost h (x ∷ ys) seg-none (torn-wrap 255 (F - 8))) (sym i)
           (subst (λ (n : ℕ). Straight (set im (h + sizes (x ∷ ys) + 0) 250) a m (blanks n) lost h (x ∷ ys) seg-none (torn-wrap 255 (F - 8))) b
-              (torn-1 s eight)) in
+              (marker-cut-1 s eight)) in
           let two : Straight (set (set im (S + 0) 250) (S + 1) 90) a m (blanks (4096 * a)) lost h (x ∷ ys) seg-none (torn-wrap 90 (F - 8)) =
           subst (λ (n : ℕ). Straight (set (set im (n + 0) 250) (n + 1) 90) a m (blanks (4096 * a)) lost h (x ∷ ys) seg-none (torn-wrap 90 (F - 8)))
               (sym i)
           (subst (λ (n : ℕ). Straight (set (set im (h + sizes (x ∷ ys) + 0) 250) (h + sizes (x ∷ ys) + 1) 90) a m (blanks n) lost h (x ∷ ys) seg-none
-              (torn-wrap 90 (F - 8))) b (torn-2 s eight)) in
+              (torn-wrap 90 (F - 8))) b (marker-cut-2 s eight)) in
           let some : 1 ≤ a = omega arith in
           let st′ : Starts (entries-of h (x ∷ ys)) = subst Starts j st in
           let ok′ : Ok (entries-of h (x ∷ ys)) l = subst (λ (z : List Entry). Ok z l) j ok in

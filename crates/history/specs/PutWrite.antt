@@ -15,10 +15,10 @@ use Rattle.spec.specs.History.{Ledger}
 use Rattle.history.specs.Blanks.{blanks, blank-eight}
 use Rattle.history.specs.Lay.{onto, Fit, low-record, st-fc}
 use Rattle.history.specs.Last.{held}
-use Rattle.history.specs.Markless.{markless-ff}
-use Rattle.history.specs.Seg.{Seg, seg-none, seg-torn, seg-cut, seg-held, seg-size}
 use Rattle.history.specs.Steps.{Programs, take-moved, take-programs, run-past, length-moved, length-run, programs-moved, programs-left}
 use Rattle.history.specs.Safe.{Safe, safe-from, sound-past}
+use Rattle.history.specs.Markless.{markless-ff}
+use Rattle.history.specs.Seg.{Seg, seg-none, seg-torn, seg-cut, seg-held, seg-size}
 use Rattle.history.specs.Turned.{opens-words}
 use Rattle.history.specs.Laid.{Laid, Hole, Tail, tail-clear, tail-floor, tail-N, tail-turn, Bare, clear-ff}
 use Rattle.history.specs.LaidEdit.{laid-below, hole-of, turn-exact, free-markless}

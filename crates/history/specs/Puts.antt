@@ -21,17 +21,17 @@ use Rattle.spec.specs.Demand.{Sound}
 use Rattle.history.specs.Blanks.{blanks}
 use Rattle.history.specs.Store.{alive, fc-alive}
 use Rattle.history.specs.Ledger.{Absent}
-use Rattle.history.specs.Seg.{seg-none}
 use Rattle.history.specs.Steps.{run-append, moved-append}
 use Rattle.history.specs.Safe.{Safe, safe-append, safe-here, safe-end}
-use Rattle.history.specs.Laid.{Laid, place}
+use Rattle.history.specs.Seg.{seg-none}
 use Rattle.history.specs.StraightEdit.{restatus}
+use Rattle.history.specs.Laid.{Laid, place}
 use Rattle.history.specs.Kinds.{Inv, Bytes, Rested, Starts, Ok}
 use Rattle.history.specs.OkLaws.{ok-new, Old, old-none, old-some}
 use Rattle.history.specs.Put.{open-steps, file}
 use Rattle.history.specs.PutSound.{name-some, commit-last}
 use Rattle.history.specs.PutPhases.{Written, written}
-use Rattle.history.specs.PutOld.{starts-end, plain-file, named-by, bare-inv, bare-read, bare-head, bare-quiet, Migrated, stays, migrates, deleted, delete-safe, delete-rested}
+use Rattle.history.specs.PutOld.{starts-end, plain-file, named-by, bare-inv, bare-read, bare-head, bare-rested, Migrated, stays, migrates, deleted, delete-safe, delete-rested}
 
 -- steps that lead from the ledger k to the ledger l, by their step number `at`; the head stays at h
 pub record Commits (k l : Ledger) (im : Image) (ss : List Step) (at h : ℕ) : Type 0 where
@@ -120,7 +120,7 @@ fresh {l} {im} {r} q n c absent nice b f =
     recount (omega arith)
     (together l (with-file n c l) im (q .h) (q .es) n c [] (turn-steps p z) [] (address p z) (three-if (with-marker p z))
         (safe-here (Inv l) im (turn-steps p z ++ moved (address p z) (open-steps n c)) (w .safe)) w
-    (bare-read (w .rest)) (bare-inv g (w .rest) st ok) (bare-quiet g (w .rest) st ok) (bare-head (w .rest)))
+    (bare-read (w .rest)) (bare-inv g (w .rest) st ok) (bare-rested g (w .rest) st ok) (bare-head (w .rest)))
 
 -- a file replaced: o is the file once it is F8, x the new record
 module _ {l : Ledger} {im : Image} {r : Reading} (q : Rested l im r) (n c : List ℕ) (nice : name-ok n ≡ true) (b : Bytes c)

@@ -29,7 +29,7 @@ use Rattle.history.specs.LaidRead.{clean-reads}
 use Rattle.history.specs.Settled.{one-none, rested-reads, start-read}
 use Rattle.history.specs.Vacant.{first-is, rested-inv}
 use Rattle.history.specs.Closes.{close-rests, both-rests, vacated-rests}
-use Rattle.history.specs.Idle.{Mends, mends-none, mends-1, mends-2}
+use Rattle.history.specs.Mending.{Mends, mends-none, mends-1, mends-2}
 
 -- ---- quiet, nothing at S
 

@@ -8,8 +8,8 @@ use lib.ListN.{length, length-append}
 use Rattle.spec.specs.Step.{Step, run, moved}
 use Rattle.spec.specs.Record.{Rec}
 use Rattle.history.specs.Lay.{onto, lay, rsize, sizes, lay-is, length-lay, All-fine}
-use Rattle.history.specs.Seg.{Seg, seg-onto, seg-size, length-seg}
 use Rattle.history.specs.Steps.{Programs, run-past}
+use Rattle.history.specs.Seg.{Seg, seg-onto, seg-size, length-seg}
 use Rattle.history.specs.Straight.{Straight}
 
 -- ---- lists of records
@@ -39,11 +39,11 @@ pub fine-right : (xs ys : List Rec) → All-fine (xs ++ ys) → All-fine ys
 fine-right [] ys p = p
 fine-right (x ∷ xs) ys p = fine-right xs ys (p .1)
 
--- the same place with other records and another end
-pub other : {im : List ℕ} {a l : ℕ} {gap lost : List ℕ} {h : ℕ} {high high′ : List Rec} {seg seg′ : Seg} {free free′ : List ℕ} (im′ : List ℕ)
+-- the same place with straight-with records and another end
+pub straight-with : {im : List ℕ} {a l : ℕ} {gap lost : List ℕ} {h : ℕ} {high high′ : List Rec} {seg seg′ : Seg} {free free′ : List ℕ} (im′ : List ℕ)
     → Straight im a l gap lost h high seg free →
     im′ ≡ gap ++ (lost ++ lay high′ (seg-onto seg′ free′)) → All-fine high′ → Straight im′ a l gap lost h high′ seg′ free′
-other im′ s e f =
+straight-with im′ s e f =
     record {
       is = e;
       at = s .at;
@@ -101,7 +101,7 @@ restatus b r = record { low = r .low; status = b; name = r .name; content = r .c
 abbrev pub relow : ℕ → Rec → Rec
 relow b r = record { low = b; status = r .status; name = r .name; content = r .content }
 
--- with other data
+-- with straight-with data
 abbrev pub recontent : List ℕ → Rec → Rec
 recontent c r = record { low = r .low; status = r .status; name = r .name; content = c }
 

@@ -10,8 +10,8 @@ use Rattle.history.specs.Lay.{onto, lay, sizes, entries-of}
 use Rattle.history.specs.Markless.{Markless}
 use Rattle.history.specs.Seg.{Seg, seg-onto, seg-append}
 use Rattle.history.specs.Straight.{Straight}
+use Rattle.history.specs.StraightEdit.{lay-append, sizes-append, fine-append, straight-with, front-part, front-is, front-length, split-at}
 use Rattle.history.specs.Laid.{Laid, laid-straight, Hole, Inside}
-use Rattle.history.specs.StraightEdit.{lay-append, sizes-append, fine-append, other, front-part, front-is, front-length, split-at}
 use Rattle.history.specs.Entries.{entries-append, Among, among-fine, entries-with, sizes-with, fine-with}
 
 -- with one record at least
@@ -43,11 +43,11 @@ module _ {im : List ℕ} {a l : ℕ} {gap lost : List ℕ} {h : ℕ} {x : Rec} {
         is = s .is ∙ sym (at-end (seg-onto seg free)) ∙ ap (λ (l : List ℕ). pre ++ l) (sym (seg-append seg free []));
         at = front-length rs [] (sym (append-nil rs)) s;
         plug = λ g f new y m n o z.
-            laid-of [] x ys f (other (pre ++ seg-onto g (new ++ [])) s (ap (λ (l : List ℕ). pre ++ l) (seg-append g new []) ∙ at-end (seg-onto g new))
+            laid-of [] x ys f (straight-with (pre ++ seg-onto g (new ++ [])) s (ap (λ (l : List ℕ). pre ++ l) (seg-append g new []) ∙ at-end (seg-onto g new))
                 (s .fine)) refl refl m n;
         grow = λ r f new y fine w m n o z.
             laid-of rs r [] f
-            (other (pre ++ onto r (new ++ [])) s
+            (straight-with (pre ++ onto r (new ++ [])) s
             (ap (λ (l : List ℕ). pre ++ onto r l) (append-nil new) ∙ front-is gap lost rs (onto r new)
                 ∙ ap (λ (l : List ℕ). gap ++ (lost ++ l)) (sym (lay-append rs (r ∷ []) new)))
             (fine-append rs (r ∷ []) (s .fine) (fine, tt)))
@@ -68,7 +68,7 @@ module _ {im : List ℕ} {a l : ℕ} {gap lost : List ℕ} {h : ℕ} {x : Rec} {
         fine = among-fine q (s .fine);
         swap = λ r z fine w.
             laid-of (q .before) r (q .after) f
-            (other (front-part gap lost (q .before) ++ onto r (lay (q .after) tail)) s
+            (straight-with (front-part gap lost (q .before) ++ onto r (lay (q .after) tail)) s
             (front-is gap lost (q .before) (lay (r ∷ q .after) tail)
                 ∙ ap (λ (l : List ℕ). gap ++ (lost ++ l)) (sym (lay-append (q .before) (r ∷ q .after) tail)))
             (fine-with q r z (s .fine) fine))

@@ -19,9 +19,9 @@ use Rattle.spec.specs.History.{Ledger, without}
 use Rattle.spec.specs.Demand.{Sound}
 use Rattle.history.specs.Blanks.{blanks}
 use Rattle.history.specs.Store.{alive, live-alive}
-use Rattle.history.specs.Seg.{seg-none}
 use Rattle.history.specs.Steps.{run-append}
 use Rattle.history.specs.Safe.{Safe, safe-append}
+use Rattle.history.specs.Seg.{seg-none}
 use Rattle.history.specs.Laid.{Laid}
 use Rattle.history.specs.Kinds.{Ok, Starts, Inv, Rested}
 use Rattle.history.specs.OkLaws.{Old, old-none, old-some, old-file, ok-delete}
@@ -30,8 +30,8 @@ use Rattle.history.specs.Vacant.{rested-inv}
 use Rattle.history.specs.PutOld.{gone, gone-dead}
 use Rattle.history.specs.Closes.{Rests}
 use Rattle.history.specs.Unshadow.{delete-sound, delete-rests}
-use Rattle.history.specs.Handover.{hands-over}
 use Rattle.history.specs.Copying.{Dead-first, copy-safe, copy-some, copied}
+use Rattle.history.specs.Handover.{hands-over}
 
 -- ---- remove
 

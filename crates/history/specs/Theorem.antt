@@ -28,13 +28,13 @@ use Rattle.history.specs.Kinds.{Inv, Bytes, Rested}
 use Rattle.history.specs.OkLaws.{old-file, Old}
 use Rattle.history.specs.Settled.{rested-reads}
 use Rattle.history.specs.Puts.{Commits, put-commits}
-use Rattle.history.specs.Idle.{Mends}
+use Rattle.history.specs.Mending.{Mends}
 use Rattle.history.specs.Mounts.{mends}
 use Rattle.history.specs.Sweeps.{moves-safe, remove-keeps}
+use Rattle.history.specs.Induction.{still-keeps, demand-by, carried-done, carried-cut}
 use Rattle.history.specs.Formats.{formatted}
-use Rattle.history.specs.Shows.{rested-shows}
 use Rattle.history.specs.Calls.{Puts, put-no, put-yes, puts-of, Finds, find-no, find-yes, finds-of, Swept, sweep-no, sweep-yes, swept-of, get-none, list-none}
-use Rattle.history.specs.Top.{still-keeps, demand-by, carried-done, carried-cut}
+use Rattle.history.specs.Shows.{rested-shows}
 
 -- ---- put
 

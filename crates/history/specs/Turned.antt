@@ -16,9 +16,9 @@ use Rattle.history.specs.Blanks.{blanks, blank-split}
 use Rattle.history.specs.Lay.{lay, sizes, entries-of, All-fine, chain-of}
 use Rattle.history.specs.Last.{Ends, Stops, stops-clear, stops-over, wrap, ends-wrap}
 use Rattle.history.specs.Markless.{markless-append, Markless}
-use Rattle.history.specs.Seg.{Seg, seg-none, seg-torn, seg-cut, seg-held, seg-onto, seg-size, seg-entries, seg-open, seg-append, length-seg, seg-ends, seg-reaches}
 use Rattle.history.specs.Walk.{Walked, Head-low, is-START, is-CLEAN}
 use Rattle.history.specs.Head.{Front, front-gap, front-begun, front-low, Reaches, head-start, head-clean}
+use Rattle.history.specs.Seg.{Seg, seg-none, seg-torn, seg-cut, seg-held, seg-onto, seg-size, seg-entries, seg-open, seg-append, length-seg, seg-ends, seg-reaches}
 use Rattle.history.specs.Shape.{image, shape-turned, turns-wrap, turns-over, Low-end, low-clear, low-over}
 
 -- what stands behind the records from the head on

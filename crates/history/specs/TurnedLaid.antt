@@ -10,11 +10,11 @@ use Rattle.spec.specs.declared.Next.{Next}
 use Rattle.spec.specs.Record.{Rec, Entry}
 use Rattle.history.specs.Lay.{onto, lay, rsize, sizes, entries-of, lay-is, length-lay, All-fine, lay-past}
 use Rattle.history.specs.Markless.{Markless}
-use Rattle.history.specs.Seg.{Seg, seg-onto, seg-size, seg-append, length-seg}
 use Rattle.history.specs.Walk.{Walks, walks-record, walks-clean, Walked}
+use Rattle.history.specs.Seg.{Seg, seg-onto, seg-size, seg-append, length-seg}
+use Rattle.history.specs.StraightEdit.{lay-append, sizes-append, fine-append}
 use Rattle.history.specs.Turned.{Turned, End, end-bytes, Opens}
 use Rattle.history.specs.Laid.{Laid, laid-turned, Hole, Inside, Lowered, low-same, low-high, low-zero}
-use Rattle.history.specs.StraightEdit.{lay-append, sizes-append, fine-append}
 use Rattle.history.specs.Entries.{entries-append, Among, among-fine, among-end, entries-with, sizes-with, fine-with}
 
 -- ---- the walk over the records from 0 on

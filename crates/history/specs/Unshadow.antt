@@ -30,7 +30,7 @@ use Rattle.history.specs.Settled.{one-none, three-none, starts-clean, tw
 use Rattle.history.specs.Vacant.{tail-here, rested-of, rested-inv}
 use Rattle.history.specs.PutOld.{gone, gone-dead, starts-swap, status-sound}
 use Rattle.history.specs.Closes.{Rests}
-use Rattle.history.specs.Idle.{Mends, mends-4}
+use Rattle.history.specs.Mending.{Mends, mends-4}
 
 module _ {im : Image} {h S T : ℕ} (B F : ℕ) {t u : Bool} (xs ys : List Entry) (e : Entry) (good : good-length (length im) ≡ true)
     (d : Laid im h S t (xs ++ (e ∷ ys)) seg-none (blanks B) (blanks F)) (tail : Tail h S t seg-none (blanks B) (blanks F) T u) where

@@ -19,11 +19,11 @@ use Rattle.spec.specs.History.{Ledger}
 use Rattle.history.specs.Blanks.{blanks, blank-blanks, blank-split, blank-is, take-blanks}
 use Rattle.history.specs.Store.{alive, Unmarked}
 use Rattle.history.specs.Lay.{sizes, low-start}
-use Rattle.history.specs.Seg.{Seg, seg-none}
 use Rattle.history.specs.Safe.{Safe}
 use Rattle.history.specs.Erase.{good-is}
-use Rattle.history.specs.Laid.{Laid, laid-straight, laid-turned, Hole, Tail, tail-clear, tail-floor, tail-N, tail-turn, low-high, Bare, place}
+use Rattle.history.specs.Seg.{Seg, seg-none}
 use Rattle.history.specs.StraightEdit.{relow}
+use Rattle.history.specs.Laid.{Laid, laid-straight, laid-turned, Hole, Tail, tail-clear, tail-floor, tail-N, tail-turn, low-high, Bare, place}
 use Rattle.history.specs.LaidEdit.{laid-first, laid-limit, laid-head, hole-of, relow-laid}
 use Rattle.history.specs.Kinds.{Ok, Starts, quiet, vacated, Inv, Rested}
 use Rattle.history.specs.OkLaws.{ok-same}
@@ -220,9 +220,9 @@ module _ {l : Ledger} {h : ℕ} {im : Image} {x : Entry} {es : List Entry} (g : 
   pub vacant-inv : {S : ℕ} {t : Bool} → Vacant h S t (x ∷ es) im → Inv l im
   vacant-inv v = record { good = g; kind = vacated (v .laid) (vacant-tail v) (vacant-blank v) c u o }
 
-  bare-inv : Bare h (x ∷ es) im → Inv l im
+  clean-bare-inv : Bare h (x ∷ es) im → Inv l im
   unfolding tail-blank
-  bare-inv b =
+  clean-bare-inv b =
       let L : limit (place im h (b .S) (b .t)) ≡ b .S + length (blanks (b .F)) = limit-is (b .laid) in
       let k : length (blanks (b .F)) ≡ b .F = length-replicate {A = ℕ} (b .F) 255 in
       record {
@@ -233,12 +233,12 @@ module _ {l : Ledger} {h : ℕ} {im : Image} {x : Entry} {es : List Entry} (g : 
       }
 
   -- the head's low byte
-  pub bare-safe : Bare h (x ∷ es) im → Inv l (set im h 0) → Safe (Inv l) im (program h 0 ∷ [])
-  bare-safe b i = (bare-inv b, (omega (arith, laid-head (b .laid)), refl), i)
+  pub start-safe : Bare h (x ∷ es) im → Inv l (set im h 0) → Safe (Inv l) im (program h 0 ∷ [])
+  start-safe b i = (clean-bare-inv b, (omega (arith, laid-head (b .laid)), refl), i)
 
   -- and after it the image is rested
-  pub bare-rested : Bare h (x ∷ es) im → Rested l (set im h 0) (reading-from (set im h 0) h)
-  bare-rested b =
+  pub start-rested : Bare h (x ∷ es) im → Rested l (set im h 0) (reading-from (set im h 0) h)
+  start-rested b =
       let p : x .at ≡ h = first-is (b .laid) in
       rested-of (b .B) (b .F) (rw (length-set im h 0) g)
       (subst (λ (a : ℕ). Laid (set im a 0) h (b .S) (b .t) (record {

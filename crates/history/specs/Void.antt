@@ -13,8 +13,8 @@ use Rattle.spec.specs.Mount.{torn-steps, void-steps, last-steps}
 use Rattle.history.specs.Blanks.{blanks, blank-split}
 use Rattle.history.specs.Lay.{pad, onto, lay, All-fine, low-record, st-00, header}
 use Rattle.history.specs.Last.{begun-5a, begun-end, held, begun}
-use Rattle.history.specs.Seg.{Seg, seg-none, seg-torn, seg-cut, seg-held, seg-onto, seg-size}
 use Rattle.history.specs.Steps.{Programs}
+use Rattle.history.specs.Seg.{Seg, seg-none, seg-torn, seg-cut, seg-held, seg-onto, seg-size}
 
 -- the steps of repair 3, from the start of the unfinished thing
 abbrev pub void-rel : Seg → List Step
@@ -65,12 +65,12 @@ void-programs (seg-held n c f) = tt
 pub void-fine : (g : Seg) → All-fine (voided g)
 void-fine seg-none = tt
 void-fine (seg-torn c x y z w t b m) =
-    (record { low-ok = low-record; status-ok = st-00; fit = record { short = omega arith; plain = tt; small = omega arith } }, tt)
+    (record { low-ok = low-record; status-ok = st-00; fit = record { short = omega arith; printable = tt; small = omega arith } }, tt)
 void-fine (seg-cut d n f) =
     (record {
       low-ok = low-record;
       status-ok = st-00;
-      fit = record { short = f .short; plain = f .plain; small = rw (length-replicate {A = ℕ} d 255) (f .small) };
+      fit = record { short = f .short; printable = f .printable; small = rw (length-replicate {A = ℕ} d 255) (f .small) };
     }, tt)
 void-fine (seg-held n c f) = (record { low-ok = low-record; status-ok = st-00; fit = f }, tt)
 
@@ -88,7 +88,7 @@ void-cut (seg-torn c x y z w t b m) s (suc (suc (suc (suc (suc (suc zero)))))) h
 void-cut (seg-torn c x y z w t b m) s (suc (suc (suc (suc (suc (suc (suc j))))))) h = absurd (omega arith)
 void-cut (seg-cut d n f) s zero h = (seg-cut d n f, refl, refl)
 void-cut (seg-cut d n f) s (suc zero) h = (
-  seg-held n (blanks d) (record { short = f .short; plain = f .plain; small = rw (length-replicate {A = ℕ} d 255) (f .small) }),
+  seg-held n (blanks d) (record { short = f .short; printable = f .printable; small = rw (length-replicate {A = ℕ} d 255) (f .small) }),
   end-name d n s,
   ap (size-of (length n)) (length-replicate {A = ℕ} d 255),
 )

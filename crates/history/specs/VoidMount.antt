@@ -26,9 +26,9 @@ use Rattle.history.specs.Lists.{each-append, each-end}
 use Rattle.history.specs.Blanks.{blanks}
 use Rattle.history.specs.Store.{alive, Unmarked}
 use Rattle.history.specs.Lay.{onto, lay, rsize, length-lay}
-use Rattle.history.specs.Seg.{Seg, seg-none, seg-onto, seg-size, seg-entries, length-seg}
 use Rattle.history.specs.Steps.{run-past, take-moved, take-programs, length-moved}
 use Rattle.history.specs.Safe.{safe-from, sound-past}
+use Rattle.history.specs.Seg.{Seg, seg-none, seg-onto, seg-size, seg-entries, length-seg}
 use Rattle.history.specs.Legal.{Ruled}
 use Rattle.history.specs.Turned.{Opens, opens-ff, opens-none}
 use Rattle.history.specs.Whole.{is-clean-0}
@@ -43,7 +43,7 @@ use Rattle.history.specs.Vacant.{rested-of, rested-inv}
 use Rattle.history.specs.PutWrite.{bare-of}
 use Rattle.history.specs.PutOld.{starts-end}
 use Rattle.history.specs.Closes.{Rests}
-use Rattle.history.specs.Idle.{Mends, mends-3}
+use Rattle.history.specs.Mending.{Mends, mends-3}
 use Rattle.history.specs.Void.{void-rel, void-run, void-programs, void-cut, last-end}
 use Rattle.history.specs.Voiding.{Voids, voids}
 

@@ -88,8 +88,8 @@ module _ {im : List ℕ} {a l : ℕ} {lost : List ℕ} {h : ℕ} {low : List Rec
   T₁ = sizes low + seg-size seg
 
   -- the free run
-  pub free₁ : part T₁ (floor h) im ≡ free
-  free₁ =
+  pub turned-free-part : part T₁ (floor h) im ≡ free
+  turned-free-part =
       sym (drop-drop (seg-size seg) (sizes low) (take (floor h) im))
       ∙ ap (λ (l : List ℕ). drop (seg-size seg) (drop (sizes low) (take (floor h) l))) (shaped s)
       ∙ ap (drop (seg-size seg)) (part-gap low (x ∷ ys) (seg-onto seg free) lost (end-bytes end) h (low-part s) (high-part s)) ∙ drop-seg seg free
