@@ -234,7 +234,7 @@ pub clean-data :
 clean-data {l} {im} {h} {S} B F {t} {x} {y} {es} g ld tl lx dead ly un ok = go (inside-of ld [] (y ∷ es) x refl)
   where
     oks : (c : List ℕ) → Ok (anew x c ∷ y ∷ es) l
-    oks c = ok-dead [] (y ∷ es) x (anew x c) l ok dead (anew-alive x c ∙ dead)
+    oks c = ok-dead [] (y ∷ es) x l ok (anew x c) dead (anew-alive x c ∙ dead)
 
     go : Inside im h S t [] x (y ∷ es) seg-none (blanks B) (blanks F)
         → Cleans l im (clean-steps (length (content-of x)) (data-at x) (content-of x)) h S B F t x y es

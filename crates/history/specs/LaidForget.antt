@@ -27,6 +27,15 @@ forgotten-markless x c =
     let n : suc (rsize x / 8 - 1) ≡ rsize x / 8 = omega arith in
     subst (λ (m : ℕ). Markless m (forgotten x)) n (mark-second (x .low) (drop 2 (forgotten x)), c)
 
+forgotten-length : (x : Rec) → length (forgotten x) ≡ 8 * (rsize x / 8)
+forgotten-length x = omega (arith, length-body (x .name) (x .content) [], rsize-words x)
+
+-- X behind G and before R
+forget-bytes : (G R : List ℕ) (x : Rec) (h : ℕ) → length G ≡ h → set (G ++ onto x R) (h + 1) 0 ≡ G ++ (forgotten x ++ R)
+forget-bytes G R x h e =
+    ap (λ (n : ℕ). set (G ++ onto x R) (n + 1) 0) (sym e) ∙ set-past G (onto x R) 1 0
+    ∙ ap (λ (l : List ℕ). G ++ set l 1 0) (lay-is (x ∷ []) R)
+
 -- (f): the head's second byte to 00, Y in the head's sector
 module _ {im : List ℕ} {a l : ℕ} {gap lost : List ℕ} {h : ℕ} {x y : Rec} {ys : List Rec} {seg : Seg} {free : List ℕ}
     (s : Straight im a l gap lost h (x ∷ y ∷ ys) seg free) (c : Cleaned x)
@@ -37,17 +46,13 @@ module _ {im : List ℕ} {a l : ℕ} {gap lost : List ℕ} {h : ℕ} {x y : Rec}
       let G : List ℕ = gap ++ lost in
       let lg : length G ≡ h = length-append gap lost ∙ omega (arith, s .gap-length, s .lost-length, s .at) in
       let e₁ : im ≡ G ++ onto x R = s .is ∙ sym (append-assoc gap lost (onto x R)) in
-      let e₂ : set (G ++ onto x R) (h + 1) 0 ≡ G ++ set (onto x R) 1 0 = ap (λ (n : ℕ). set (G ++ onto x R) (n + 1) 0) (sym lg)
-          ∙ set-past G (onto x R) 1 0 in
-      let e₃ : set (onto x R) 1 0 ≡ forgotten x ++ R = ap (λ (l : List ℕ). set l 1 0) (lay-is (x ∷ []) R) in
-      let lf : length (forgotten x) ≡ 8 * (rsize x / 8) = omega (arith, length-body (x .name) (x .content) [], rsize-words x) in
       record {
-        is = ap (λ (l : List ℕ). set l (h + 1) 0) e₁ ∙ e₂ ∙ ap (λ (l : List ℕ). G ++ l) e₃ ∙ append-assoc gap lost (forgotten x ++ R)
+        is = ap (λ (l : List ℕ). set l (h + 1) 0) e₁ ∙ forget-bytes G R x h lg ∙ append-assoc gap lost (forgotten x ++ R)
             ∙ ap (λ (l : List ℕ). gap ++ l) (sym (append-assoc lost (forgotten x) R));
         at = omega (arith, s .at, rsize-words x);
         gap-length = s .gap-length;
         gap-markless = s .gap-markless;
-        lost-length = length-append lost (forgotten x) ∙ omega (arith, s .lost-length, lf);
+        lost-length = length-append lost (forgotten x) ∙ omega (arith, s .lost-length, forgotten-length x);
         lost-small = near;
         lost-markless = markless-append l (rsize x / 8) lost (forgotten x) (s .lost-length) (s .lost-markless) (forgotten-markless x c);
         front = fronted gap lost a l (s .gap-length) (s .lost-length) (s .front);
@@ -71,12 +76,8 @@ module _ {im : List ℕ} {a l : ℕ} {lost : List ℕ} {h : ℕ} {low : List Rec
       let G : List ℕ = high-front s [] in
       let lg : length G ≡ h = high-front-length s [] ∙ add-zero h in
       let e₁ : im ≡ G ++ onto x R = s .is ∙ sym (high-front-is s [] (onto x R)) in
-      let e₂ : set (G ++ onto x R) (h + 1) 0 ≡ G ++ set (onto x R) 1 0 = ap (λ (n : ℕ). set (G ++ onto x R) (n + 1) 0) (sym lg)
-          ∙ set-past G (onto x R) 1 0 in
-      let e₃ : set (onto x R) 1 0 ≡ forgotten x ++ R = ap (λ (l : List ℕ). set l 1 0) (lay-is (x ∷ []) R) in
-      let lf : length (forgotten x) ≡ 8 * (rsize x / 8) = omega (arith, length-body (x .name) (x .content) [], rsize-words x) in
       record {
-        is = ap (λ (l : List ℕ). set l (h + 1) 0) e₁ ∙ e₂ ∙ ap (λ (l : List ℕ). G ++ l) e₃ ∙ high-front-is s [] (forgotten x ++ R)
+        is = ap (λ (l : List ℕ). set l (h + 1) 0) e₁ ∙ forget-bytes G R x h lg ∙ high-front-is s [] (forgotten x ++ R)
             ∙ ap (λ (l : List ℕ). lay low (seg-onto seg (free ++ l))) (sym (append-assoc lost (forgotten x) R));
         at = omega (arith, s .at, rsize-words x);
         some-below = s .some-below;
@@ -85,7 +86,7 @@ module _ {im : List ℕ} {a l : ℕ} {lost : List ℕ} {h : ℕ} {low : List Rec
         free-markless = s .free-markless;
         opened = s .opened;
         opens = s .opens;
-        lost-length = length-append lost (forgotten x) ∙ omega (arith, s .lost-length, lf);
+        lost-length = length-append lost (forgotten x) ∙ omega (arith, s .lost-length, forgotten-length x);
         lost-small = near;
         lost-markless = markless-append l (rsize x / 8) lost (forgotten x) (s .lost-length) (s .lost-markless) (forgotten-markless x c);
         fine-low = s .fine-low;

@@ -190,29 +190,16 @@ low-written low-record st = refl
 low-written low-start st = refl
 low-written low-clean st = refl
 
-stat-record : {st : ℕ} → Stat st → record-kind st ≡ Kind.Record
-unfolding is-reserved is-committed is-migrating is-dead
-stat-record st-fc = refl
-stat-record st-f8 = refl
-stat-record st-00 = refl
-
--- the status of a finished record is not FF
-pub stat-erased : {st : ℕ} → Stat st → is-erased st ≡ false
-unfolding is-erased
-stat-erased st-fc = refl
-stat-erased st-f8 = refl
-stat-erased st-00 = refl
-
--- nor FE
-pub stat-reserved : {st : ℕ} → Stat st → is-reserved st ≡ false
-unfolding is-reserved
-stat-reserved st-fc = refl
-stat-reserved st-f8 = refl
-stat-reserved st-00 = refl
+-- the status of a finished record: not FF, not FE, and one that the chain takes as a record's
+pub stat-is : {st : ℕ} → Stat st → (is-erased st ≡ false) × (is-reserved st ≡ false) × (record-kind st ≡ Kind.Record)
+unfolding is-erased is-reserved is-committed is-migrating is-dead
+stat-is st-fc = (refl, refl, refl)
+stat-is st-f8 = (refl, refl, refl)
+stat-is st-00 = (refl, refl, refl)
 
 kind-next : {b st : ℕ} → Low b → Stat st → (s : List ℕ) → next-at (kind b 90 st 255) s ≡ record-at false s
 unfolding kind next-at is-spare
-kind-next {b} {st} l t s = rw (kind, stat-erased t, low-written l st, stat-record t)
+kind-next {b} {st} l t s = rw (kind, stat-is t .0, low-written l st, stat-is t .2)
 
 next-laid : (b st x y z w : ℕ) (s : List ℕ) → Low b → Stat st
     → next (b ∷ 90 ∷ st ∷ 255 ∷ x ∷ y ∷ z ∷ w ∷ s) ≡ record-at false (b ∷ 90 ∷ st ∷ 255 ∷ x ∷ y ∷ z ∷ w ∷ s)
@@ -225,7 +212,7 @@ next-onto r s f = next-laid (r .low) (r .status) _ _ _ _ _ (f .low-ok) (f .statu
 -- it is not unfinished
 pub finished : {st : ℕ} → Stat st → is-unfinished st ≡ false
 unfolding is-unfinished
-finished t = rw (stat-erased t, stat-reserved t)
+finished t = rw (stat-is t .0, stat-is t .1)
 
 -- and its bytes give the record
 pub rec-of-onto : (r : Rec) (s : List ℕ) → rec-of (onto r s) (length (r .name)) (length (r .content)) ≡ r

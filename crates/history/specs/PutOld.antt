@@ -27,7 +27,7 @@ use Rattle.history.specs.StraightEdit.{restatus}
 use Rattle.history.specs.Laid.{Laid, Tail, Bare}
 use Rattle.history.specs.LaidEdit.{restatus-laid, status-at, entry-inside}
 use Rattle.history.specs.Kinds.{Bytes, Starts, Ok, quiet, shadow, Inv, Rested}
-use Rattle.history.specs.OkLaws.{ok-same, ok-over, ok-unshadow}
+use Rattle.history.specs.OkLaws.{ok-same, ok-over, ok-insert}
 use Rattle.history.specs.Put.{file}
 
 -- ---- the first record is START, the others are plain
@@ -181,7 +181,7 @@ module _ {im : Image} {h : ℕ} (xs ys : List Entry) (o e : Entry) (l : Ledger) 
   gone-starts = starts-swap xs (ys ++ (e ∷ [])) o (gone o) refl starts
 
   gone-ok : Ok (xs ++ (gone o ∷ (ys ++ (e ∷ [])))) new
-  gone-ok = ok-unshadow xs (ys ++ (e ∷ [])) (gone o) new (ok-over xs ys o e l ok f8 fc same b .0) (gone-dead o)
+  gone-ok = ok-insert xs (ys ++ (e ∷ [])) (gone o) new (ok-over xs ys o e l ok f8 fc same b .0) (gone-dead o)
 
   -- before it the image is of kind shadow, after it quiet
   pub delete-safe : Safe (Inv new) im (program (o .at + 2) 0 ∷ [])

@@ -48,7 +48,7 @@ remove-keeps {l} {im} {r} n e q f = go (old-file n (q .es) l (q .ok)) (sym (ap (
         subst (λ (fs : List Entry). Laid im (q .h) (q .S) (q .t) fs seg-none (blanks (q .B)) (blanks (q .F))) i (q .laid) in
         let o : Ok (xs ++ (gone e ∷ ys)) (without n l) =
         subst (λ (k : List ℕ). Ok (xs ++ (gone e ∷ ys)) (without k l)) m
-            (ok-delete xs ys e (gone e) l (subst (λ (fs : List Entry). Ok fs l) i (q .ok)) a (gone-dead e)) in
+            (ok-delete xs ys e l (subst (λ (fs : List Entry). Ok fs l) i (q .ok)) (gone e) a (gone-dead e)) in
         (delete-sound (q .B) (q .F) xs ys e (q .good) d (q .tail), rested-inv
             (delete-rests (q .B) (q .F) xs ys e (q .good) d (q .tail) (subst Starts i (q .starts)) o))
 

@@ -24,7 +24,7 @@ use Rattle.history.specs.Seg.{seg-none}
 use Rattle.history.specs.Laid.{Laid, Tail}
 use Rattle.history.specs.LaidEdit.{laid-fine, restatus-laid}
 use Rattle.history.specs.Kinds.{Ok, Starts, Inv, Rested}
-use Rattle.history.specs.OkLaws.{ok-unshadow}
+use Rattle.history.specs.OkLaws.{ok-insert}
 use Rattle.history.specs.Rules.{shadow-ruled, fine-finished}
 use Rattle.history.specs.Settled.{one-none, three-none, starts-clean, two-plain, starts-read}
 use Rattle.history.specs.Vacant.{tail-here, rested-of, rested-inv}
@@ -61,7 +61,7 @@ mends-shadow {l} {im} {h} {T = T} B F {u = u} xs ys o i d e s k ok =
     let es : List Entry = xs ++ (o ∷ ys) in
     let r : Reading = read (length im) h T u es Ending.Tail in
     let q : Rested l (set im (o .at + 2) 0) (reading-from (set im (o .at + 2) 0) h) =
-    delete-rests B F xs ys o (i .good) d e s (ok-unshadow xs ys (gone o) l ok (gone-dead o)) in
+    delete-rests B F xs ys o (i .good) d e s (ok-insert xs ys (gone o) l ok (gone-dead o)) in
     let p : Rests l im (status-step o 0 ∷ []) h = record { safe = (i, delete-sound B F xs ys o (i .good) d e, rested-inv q); rested = q } in
     mends-4 {r = r} (starts-read B F es d e s (shadow-ruled xs ys o l s k ok)) p (some-behind [] [] (status-step o 0))
     (one-none (begin im r) (starts-clean es s)) (two-plain (begin im r) es s) (three-none (begin im r) (fine-finished es (laid-fine d)) refl)

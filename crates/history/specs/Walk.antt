@@ -16,7 +16,7 @@ use Rattle.spec.specs.Record.{status-of, start-here, clean-here, size-of, Rec}
 use Rattle.spec.specs.Next.{record-at}
 use Rattle.spec.specs.Head.{torn-here, walked-here, walk-next, walk, search}
 use Rattle.spec.specs.Move.{mark-here}
-use Rattle.history.specs.Lay.{onto, lay, rsize, sizes, Fit, Fine, All-fine, Stat, record-at-onto, drop-onto, long-le, stat-erased, stat-reserved}
+use Rattle.history.specs.Lay.{onto, lay, rsize, sizes, Fit, Fine, All-fine, Stat, record-at-onto, drop-onto, long-le, stat-is}
 use Rattle.history.specs.Last.{held, begun, record-at-begun, drop-begun}
 use Rattle.history.specs.Markless.{Markless, no-record, no-clean, no-start, mark-append}
 
@@ -46,7 +46,7 @@ unfolding walk
 walk-torn k at s e = rw (walk, e)
 
 not-torn : {st : ℕ} (b c : ℕ) (s : List ℕ) → Stat st → torn-here (b ∷ c ∷ st ∷ s) ≡ false
-not-torn b c s t = rw (stat-erased t)
+not-torn b c s t = rw (stat-is t .0)
 
 walks-low : {at b : ℕ} → Walks at b → ((is-record b && is-high 90) || (eqb at 0 && (is-clean b && is-high 90))) ≡ true
 unfolding is-record is-high is-clean
@@ -55,7 +55,7 @@ walks-low walks-clean = refl
 
 steps-over : {at b st : ℕ} (s : List ℕ) → Walks at b → Stat st → walk-next at (b ∷ 90 ∷ st ∷ s) ≡ record-at false (b ∷ 90 ∷ st ∷ s)
 unfolding walk-next
-steps-over s w t = rw (walk-next, stat-erased t, walks-low w, stat-reserved t)
+steps-over s w t = rw (walk-next, stat-is t .0, walks-low w, stat-is t .1)
 
 walk-onto : (r : Rec) (k at : ℕ) (s : List ℕ) → Fine r → Walks at (r .low) → walk (suc k) at (onto r s) ≡ walk k (at + rsize r) s
 walk-onto r k at s f w =
