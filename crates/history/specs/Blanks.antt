@@ -13,13 +13,13 @@ use Rattle.spec.specs.Basics.{blank}
 
 -- k bytes of FF
 abbrev pub blanks : ℕ → List ℕ
-blanks k = replicate k 255
+blanks k = replicate k 0xFF
 
 -- ---- in parts
 
 -- so many, and the others
 pub blank-split : (j m k : ℕ) → k ≡ j + m → blanks k ≡ blanks j ++ blanks m
-blank-split j m k e = ap blanks e ∙ sym (replicate-append-replicate j m 255)
+blank-split j m k e = ap blanks e ∙ sym (replicate-append-replicate j m 0xFF)
 
 -- so many, the others, and s behind them
 pub split-front : (j m k : ℕ) (s : List ℕ) → k ≡ j + m → blanks k ++ s ≡ blanks j ++ (blanks m ++ s)
@@ -33,11 +33,11 @@ blank-eight k h = blank-split 8 (k - 8) k (omega arith)
 pub take-blanks : (j m : ℕ) (s : List ℕ) → j ≤ m → take j (blanks m ++ s) ≡ blanks j
 take-blanks zero m s h = refl
 take-blanks (suc j) zero s h = absurd (not-suc-le-zero h)
-take-blanks (suc j) (suc m) s h = ap (λ (l : List ℕ). 255 ∷ l) (take-blanks j m s (le-of-suc-le-suc h))
+take-blanks (suc j) (suc m) s h = ap (λ (l : List ℕ). 0xFF ∷ l) (take-blanks j m s (le-of-suc-le-suc h))
 
 -- past all of them
 pub drop-blanks : (k : ℕ) (s : List ℕ) → drop k (blanks k ++ s) ≡ s
-drop-blanks k s = drop-at (blanks k) s k (length-replicate k 255)
+drop-blanks k s = drop-at (blanks k) s k (length-replicate k 0xFF)
 
 -- ---- the test
 
@@ -51,8 +51,8 @@ blank-blanks (suc k) = blank-blanks k
 pub blank-is : (s : List ℕ) → blank s ≡ true → s ≡ blanks (length s)
 unfolding blank
 blank-is [] h = refl
-blank-is (x ∷ s) h = go (eqb x 255) refl (λ k. blank-is s k)
+blank-is (x ∷ s) h = go (eqb x 0xFF) refl (λ k. blank-is s k)
   where
-    go : (b : Bool) → eqb x 255 ≡ b → (blank s ≡ true → s ≡ blanks (length s)) → x ∷ s ≡ blanks (length (x ∷ s))
-    go true e ih = ap₂ (λ (y : ℕ) (l : List ℕ). y ∷ l) (eqb-true x 255 e) (ih (rw (e, blank) at h))
+    go : (b : Bool) → eqb x 0xFF ≡ b → (blank s ≡ true → s ≡ blanks (length s)) → x ∷ s ≡ blanks (length (x ∷ s))
+    go true e ih = ap₂ (λ (y : ℕ) (l : List ℕ). y ∷ l) (eqb-true x 0xFF e) (ih (rw (e, blank) at h))
     go false e ih = let z : false ≡ true = rw (e, blank) at h in cc

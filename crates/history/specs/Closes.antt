@@ -77,7 +77,7 @@ vacate-anew x y c (z ∷ zs) = refl
 vacate-rests :
     {l : Ledger} {im : Image} {h S : ℕ} (B F : ℕ) {t : Bool} {x y : Entry} {es : List Entry} → good-length (length im) ≡ true →
     Laid im h S t (x ∷ y ∷ es) seg-none (blanks B) (blanks F) → Tail h S t seg-none (blanks B) (blanks F) S t → x .it .low ≡ 0 → alive x ≡ false
-        → Cleaned (x .it) → y .it .low ≡ 160 →
+        → Cleaned (x .it) → y .it .low ≡ 0xA0 →
     Each Unmarked es → Ok (x ∷ y ∷ es) l → Rests l im (vacate-steps x y (vacated (length im) x y)) (y .at)
 vacate-rests {l} {im} {h} {S} B F {t} {x} {y} {es} g d e a b c y₁ m o = go (leaves B F g d e c)
   where
@@ -115,7 +115,7 @@ vacate-rests {l} {im} {h} {S} B F {t} {x} {y} {es} g d e a b c y₁ m o = go (le
 pub close-rests :
     {l : Ledger} {im : Image} {h S T : ℕ} (B F : ℕ) {t u : Bool} {x y : Entry} {es : List Entry} → good-length (length im) ≡ true →
     Laid im h S t (x ∷ y ∷ es) seg-none (blanks B) (blanks F) → Tail h S t seg-none (blanks B) (blanks F) T u → x .it .low ≡ 0 → alive x ≡ false
-        → y .it .low ≡ 160 → Each Unmarked es →
+        → y .it .low ≡ 0xA0 → Each Unmarked es →
     Ok (x ∷ y ∷ es) l → Rests l im (close-steps (length im) x y) (y .at)
 unfolding close-steps
 close-rests {l} {im} {h} {S} B F {t} {x = x} {y} {es} g d e a b c m o =
@@ -131,7 +131,7 @@ close-rests {l} {im} {h} {S} B F {t} {x = x} {y} {es} g d e a b c m o =
 pub vacated-rests :
     {l : Ledger} {im : Image} {h S T : ℕ} {t u : Bool} {x : Entry} {es : List Entry} {below free : List ℕ} → good-length (length im) ≡ true
         → Laid im h S t (x ∷ es) seg-none below free →
-    Tail h S t seg-none below free T u → tail-blank im (place im h T u) ≡ true → x .it .low ≡ 160 → Each Unmarked es → Ok (x ∷ es) l →
+    Tail h S t seg-none below free T u → tail-blank im (place im h T u) ≡ true → x .it .low ≡ 0xA0 → Each Unmarked es → Ok (x ∷ es) l →
     Rests l im (erase-steps im (place im h T u) ++ (program h 0 ∷ [])) h
 vacated-rests {l} {im} {h} {S} {T} {t} {u} {x} {es} {below} {free} g d e b a m o =
     let k : Here h S t below free T u = tail-here e in

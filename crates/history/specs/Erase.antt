@@ -132,7 +132,7 @@ half-erased i k q = blanks (4096 * i) ++ take (4096 * (k - i)) (drop (4096 * i) 
 pub half-erased-length : (i k : ℕ) (q : List ℕ) → i ≤ k → 4096 * k ≤ length q → length (half-erased i k q) ≡ 4096 * k
 half-erased-length i k q h l =
     length-append (blanks (4096 * i)) (take (4096 * (k - i)) (drop (4096 * i) q))
-    ∙ ap₂ _+_ (length-replicate (4096 * i) 255) (length-take-le (4096 * (k - i)) (drop (4096 * i) q) (omega (arith, length-drop (4096 * i) q)))
+    ∙ ap₂ _+_ (length-replicate (4096 * i) 0xFF) (length-take-le (4096 * (k - i)) (drop (4096 * i) q) (omega (arith, length-drop (4096 * i) q)))
         ∙ omega arith
 
 -- all k of them: FF
@@ -180,7 +180,7 @@ module _ (k r : ℕ) (q : List ℕ) (long : length q ≡ 4096 * suc k + 8 * r) (
       let v : 512 * suc i + 512 * (k - i) ≡ 512 * suc k = omega arith in
       let b : Markless (512 * suc i) (blanks (4096 * suc i)) = subst (λ (n : ℕ). Markless (512 * suc i) (blanks n)) u (markless-blanks (512 * suc i)) in
       subst (λ (n : ℕ). Markless n (half-erased (suc i) (suc k) q)) v
-      (markless-append (512 * suc i) (512 * (k - i)) (blanks (4096 * suc i)) (take m d) (length-replicate (4096 * suc i) 255 ∙ omega arith) b a)
+      (markless-append (512 * suc i) (512 * (k - i)) (blanks (4096 * suc i)) (take m d) (length-replicate (4096 * suc i) 0xFF ∙ omega arith) b a)
 
 -- ---- the old head X, whose sectors are erased
 

@@ -107,9 +107,9 @@ pub record Mid (N h S lim : ℕ) (t : Bool) (es : List Entry) (im : Image) : Typ
   pub vac : Vacant h S t es im
   pub ends : S + length (vac .free) ≡ lim
 
-front-blanked : (u q w lost : List ℕ) (j : ℕ) → length u ≡ j → j % 4096 ≡ 0 → (getD ((u ++ (q ++ w)) ++ lost) 1 0 ≡ 90 → ⊥)
-    → getD ((u ++ (sector ++ w)) ++ lost) 1 0 ≡ 90 → ⊥
-front-blanked [] q w lost j e z f = subst (λ (s : List ℕ). getD ((s ++ w) ++ lost) 1 0 ≡ 90 → ⊥) (sym sector-is) (second-ff 4096 w lost (omega arith))
+front-blanked : (u q w lost : List ℕ) (j : ℕ) → length u ≡ j → j % 4096 ≡ 0 → (getD ((u ++ (q ++ w)) ++ lost) 1 0 ≡ 0x5A → ⊥)
+    → getD ((u ++ (sector ++ w)) ++ lost) 1 0 ≡ 0x5A → ⊥
+front-blanked [] q w lost j e z f = subst (λ (s : List ℕ). getD ((s ++ w) ++ lost) 1 0 ≡ 0x5A → ⊥) (sym sector-is) (second-ff 4096 w lost (omega arith))
 front-blanked (x ∷ []) q w lost j e z f = absurd (omega arith)
 front-blanked (x ∷ y ∷ u) q w lost j e z f = f
 
@@ -126,7 +126,7 @@ low-erase {im} {h} {S} {z} {es} {below} {free} (laid-straight {a} {l} {lost} {x}
       lost-length = s .lost-length;
       lost-small = s .lost-small;
       lost-markless = s .lost-markless;
-      front = front-blanked (c .u) (c .q) (c .w) lost z (c .lu) m (subst (λ (g : List ℕ). getD (g ++ lost) 1 0 ≡ 90 → ⊥) (c .is) (s .front));
+      front = front-blanked (c .u) (c .q) (c .w) lost z (c .lu) m (subst (λ (g : List ℕ). getD (g ++ lost) 1 0 ≡ 0x5A → ⊥) (c .is) (s .front));
       fine = s .fine;
     })
     t₁ S₁ e₁ lf qf

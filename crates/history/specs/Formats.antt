@@ -52,7 +52,7 @@ format-run raw k f e g =
 
 -- ---- the image
 
-no-front : _≡_ {A = ℕ} 0 90 → ⊥
+no-front : _≡_ {A = ℕ} 0 0x5A → ⊥
 no-front e = omega arith
 
 fresh-straight : (f : ℕ) → Straight (fresh f) 0 0 [] [] 0 (first ∷ []) seg-none (blanks (8 * f))
@@ -89,9 +89,9 @@ fresh-ok =
 fresh-inv : (f : ℕ) → 1 ≤ f → good-length (16 + 8 * f) ≡ true → Inv [] (fresh f)
 fresh-inv f one g =
     record {
-      good = ap good-length (length-lay (first ∷ []) (blanks (8 * f)) ∙ ap (λ (n : ℕ). 16 + n) (length-replicate {A = ℕ} (8 * f) 255)) ∙ g;
+      good = ap good-length (length-lay (first ∷ []) (blanks (8 * f)) ∙ ap (λ (n : ℕ). 16 + n) (length-replicate {A = ℕ} (8 * f) 0xFF)) ∙ g;
       kind =
-          quiet 0 (8 * f) (laid-straight f (fresh-straight f) refl refl refl (length-replicate {A = ℕ} (8 * f) 255) (markless-blanks f))
+          quiet 0 (8 * f) (laid-straight f (fresh-straight f) refl refl refl (length-replicate {A = ℕ} (8 * f) 0xFF) (markless-blanks f))
           (tail-clear (blanks (8 * f - 8)) (blank-split 8 (8 * f - 8) (8 * f) (omega arith)) refl refl) (refl, tt) fresh-ok;
     }
 

@@ -61,13 +61,13 @@ module _ {l : Ledger} {im : Image} (a m c k : ℕ) {h : ℕ} {lost : List ℕ} {
           (finish-sound k b))
 
   -- 5A written
-  half-inv : Inv l (set im (at + 1) 90)
+  half-inv : Inv l (set im (at + 1) 0x5A)
   half-inv =
-      let n : Straight (set im (at + 1) 90) a m (blanks (4096 * a)) lost h (x ∷ ys) seg-none (torn-wrap 90 k) =
-      straight-with (set im (at + 1) 90) s (run-behind (x ∷ ys) [] (sym (append-nil (x ∷ ys))) s (program 1 90 ∷ []) tt) (s .fine) in
+      let n : Straight (set im (at + 1) 0x5A) a m (blanks (4096 * a)) lost h (x ∷ ys) seg-none (torn-wrap 0x5A k) =
+      straight-with (set im (at + 1) 0x5A) s (run-behind (x ∷ ys) [] (sym (append-nil (x ∷ ys))) s (program 1 0x5A ∷ []) tt) (s .fine) in
       record {
-        good = ap good-length (length-set im (at + 1) 90) ∙ good;
-        kind = half a m 90 k n begun-5a z st ok;
+        good = ap good-length (length-set im (at + 1) 0x5A) ∙ good;
+        kind = half a m 0x5A k n begun-5a z st ok;
       }
 
   -- F0 written
@@ -76,7 +76,7 @@ module _ {l : Ledger} {im : Image} (a m c k : ℕ) {h : ℕ} {lost : List ℕ} {
 
   rested : Rested l (run im (moved at finish)) (reading-from (run im (moved at finish)) h)
   rested =
-      rested-of 0 (4096 * a) (ap good-length (length-set (set im (at + 1) 90) (at + 2) 240 ∙ length-set im (at + 1) 90) ∙ good)
+      rested-of 0 (4096 * a) (ap good-length (length-set (set im (at + 1) 0x5A) (at + 2) 0xF0 ∙ length-set im (at + 1) 0x5A) ∙ good)
       (laid-turned turned refl refl (sym (append-nil es)) refl) (clear-ff (4096 * a) (omega arith)) st ok
 
 third-finishes : (w : Work) (a : ℕ) → Each Finished (w .reading .entries) → w .reading .ending ≡ Ending.TornWrap a
@@ -101,5 +101,5 @@ mends-half {l} {im} a m c k {h} {lost} {x} {ys} i s b z st ok =
     let q : Rested l (run im (moved at finish)) (reading-from (run im (moved at finish)) h) = rested a m c k s b z st ok (i .good) in
     let p : Rests l im (moved at finish) h = record { safe = (i, d .0, (half-inv a m c k s b z st ok (i .good), d .1 .0, rested-inv q)); rested = q }
         in
-    mends-3 {r = r} (torn-wrap-whole k s b z refl (st .0) (starts-ruled es l ok st)) p (some-behind [] (program (at + 2) 240 ∷ []) (program (at + 1) 90))
+    mends-3 {r = r} (torn-wrap-whole k s b z refl (st .0) (starts-ruled es l ok st)) p (some-behind [] (program (at + 2) 0xF0 ∷ []) (program (at + 1) 0x5A))
     (one-none (begin im r) (starts-clean es st)) (two-plain (begin im r) es st) (third-finishes (begin im r) at (fine-finished es f) refl)

@@ -14,7 +14,7 @@ use Rattle.spec.specs.Record.{start-here, clean-here, wrap-here, size-of, Rec}
 use Rattle.spec.specs.Head.{torn-here, walk, search, sought, chosen, head}
 use Rattle.spec.specs.Move.{mark-here}
 use Rattle.history.specs.Blanks.{blanks}
-use Rattle.history.specs.Lay.{onto, lay, sizes, Fit, All-fine, drop-onto, length-lay, drop-lay, lots}
+use Rattle.history.specs.Lay.{onto, lay, sizes, Fit, All-fine, drop-onto, length-lay, drop-lay, sizes-least}
 use Rattle.history.specs.Last.{Begun, begun-ff, begun-5a, Name-begun, begun-none, begun-end, torn, held, begun, drop-begun}
 use Rattle.history.specs.Markless.{mark-nil, no-start, no-clean, Markless, mark-append}
 use Rattle.history.specs.Walk.{Walks, walks-record, walks-clean, Walked, walk-lay, walk-begun, walk-held, Lands, Lands₁, lands-more, lands-markless, lands-torn-like, lands-head, Head-low, is-START, is-CLEAN, search-found, search-none}
@@ -50,7 +50,7 @@ module _ (low : List Rec) (by : ℕ) (s g : List ℕ) (f : All-fine low) (w : Wa
   walked : walk (suc (length (lay low s))) 0 (lay low s) ≡ sizes low + by
   walked =
       let m : ℕ = length (lay low s) - suc (length low) in
-      let i : suc (length (lay low s)) ≡ length low + suc (suc m) = omega (arith, length-lay low s, lots low) in
+      let i : suc (length (lay low s)) ≡ length low + suc (suc m) = omega (arith, length-lay low s, sizes-least low) in
       ap (λ (k : ℕ). walk k 0 (lay low s)) i ∙ walk-lay low (suc (suc m)) 0 s f w ∙ ap (λ (a : ℕ). walk (suc (suc m)) a s) (zero-add (sizes low))
           ∙ l .lands m
 
@@ -85,7 +85,7 @@ pub reaches-more : {at m : ℕ} {s t : List ℕ} → Reaches₁ at s t m → Rea
 reaches-more r = record { by = r .by; g = r .g; j = r .j; land = lands-more (r .land); whole = r .whole; markless = r .markless; far = r .far }
 
 -- the head stands right there
-reaches-head : {b : ℕ} (at : ℕ) (t : List ℕ) → Head-low b → (at ≡ 0 → ⊥) → Reaches₁ at (b ∷ 90 ∷ t) (b ∷ 90 ∷ t) 0
+reaches-head : {b : ℕ} (at : ℕ) (t : List ℕ) → Head-low b → (at ≡ 0 → ⊥) → Reaches₁ at (b ∷ 0x5A ∷ t) (b ∷ 0x5A ∷ t) 0
 reaches-head at t b h = record { by = 0; g = []; j = 0; land = lands-head at t b h; whole = refl; markless = tt; far = refl }
 
 -- a region without marks, at least a word
@@ -116,10 +116,10 @@ reaches-markless at j g t e q = go (torn-here (g ++ t)) refl
 
 -- the same, or nothing before a head that isn't at 0
 pub reaches-gap : {b : ℕ} (at j : ℕ) (g t : List ℕ) → length g ≡ 8 * j → Markless j g → Head-low b → (at ≡ 0 → ⊥)
-    → Reaches₁ at (g ++ (b ∷ 90 ∷ t)) (b ∷ 90 ∷ t) (8 * j)
+    → Reaches₁ at (g ++ (b ∷ 0x5A ∷ t)) (b ∷ 0x5A ∷ t) (8 * j)
 reaches-gap at zero [] t e q h n = reaches-head at t h n
 reaches-gap at zero (x ∷ g) t e q h n = absurd (omega arith)
-reaches-gap {b} at (suc j) g t e q h n = reaches-markless at j g (b ∷ 90 ∷ t) e q
+reaches-gap {b} at (suc j) g t e q h n = reaches-markless at j g (b ∷ 0x5A ∷ t) e q
 
 -- an unfinished thing before that
 torn-lands : {c : ℕ} (t x y z w : ℕ) (s : List ℕ) → Begun c → torn-here (torn c (x ∷ y ∷ z ∷ w ∷ []) t s) ≡ true
@@ -179,29 +179,29 @@ reaches-held at n c s t f r =
 -- how the image begins: with a record, or with bytes whose second is not 5A
 pub data Front : List Rec → List ℕ → Type 0 where
   front-low : {r : Rec} {rs : List Rec} {s : List ℕ} → Front (r ∷ rs) s
-  front-gap : {x y : ℕ} {s : List ℕ} → (y ≡ 90 → ⊥) → Front [] (x ∷ y ∷ s)
+  front-gap : {x y : ℕ} {s : List ℕ} → (y ≡ 0x5A → ⊥) → Front [] (x ∷ y ∷ s)
   -- something unfinished at 0
-  front-begun : {s : List ℕ} → Front [] (165 ∷ s)
+  front-begun : {s : List ℕ} → Front [] (0xA5 ∷ s)
 
-walks-no-start : {at b : ℕ} (s : List ℕ) → Walks at b → start-here (b ∷ 90 ∷ s) ≡ false
+walks-no-start : {at b : ℕ} (s : List ℕ) → Walks at b → start-here (b ∷ 0x5A ∷ s) ≡ false
 unfolding is-start
 walks-no-start s walks-record = refl
 walks-no-start s walks-clean = refl
 
-walks-no-wrap : {at b : ℕ} (s : List ℕ) → Walks at b → wrap-here (b ∷ 90 ∷ s) ≡ false
+walks-no-wrap : {at b : ℕ} (s : List ℕ) → Walks at b → wrap-here (b ∷ 0x5A ∷ s) ≡ false
 unfolding is-wrap
 walks-no-wrap s walks-record = refl
 walks-no-wrap s walks-clean = refl
 
-not-high : (y : ℕ) → (y ≡ 90 → ⊥) → is-high y ≡ false
+not-high : (y : ℕ) → (y ≡ 0x5A → ⊥) → is-high y ≡ false
 unfolding is-high
-not-high y h = ne-eqb y 90 h
+not-high y h = ne-eqb y 0x5A h
 
-low-start : (y : ℕ) → (is-start 165 && is-high y) ≡ false
+low-start : (y : ℕ) → (is-start 0xA5 && is-high y) ≡ false
 unfolding is-start
 low-start y = refl
 
-low-wrap : (y : ℕ) → (is-wrap 165 && is-high y) ≡ false
+low-wrap : (y : ℕ) → (is-wrap 0xA5 && is-high y) ≡ false
 unfolding is-wrap
 low-wrap y = refl
 
@@ -216,13 +216,13 @@ front-wrap (front-gap {x} {y} h) w = rw (not-high y h) (and-false (is-wrap x))
 front-wrap (front-begun {s}) w = low-wrap (getD s 0 0)
 
 -- what the search gives, on an image whose records at the front end at s
-found : {b : ℕ} (low : List Rec) (s t : List ℕ) (m : ℕ) → All-fine low → Walked 0 low → Head-low b → Reaches (sizes low) s (b ∷ 90 ∷ t) m →
+found : {b : ℕ} (low : List Rec) (s t : List ℕ) (m : ℕ) → All-fine low → Walked 0 low → Head-low b → Reaches (sizes low) s (b ∷ 0x5A ∷ t) m →
     sought-at (lay low s) ≡ sizes low + m
 found {b} low s t m f w h r =
-    let e : length s - r .by ≡ length (r .g) + length (b ∷ 90 ∷ t) = sym (length-drop (r .by) s) ∙ ap length (r .land .there)
-        ∙ length-append (r .g) (b ∷ 90 ∷ t) in
+    let e : length s - r .by ≡ length (r .g) + length (b ∷ 0x5A ∷ t) = sym (length-drop (r .by) s) ∙ ap length (r .land .there)
+        ∙ length-append (r .g) (b ∷ 0x5A ∷ t) in
     let p : 8 * r .j + 2 + length t + r .by ≤ length s = omega (arith, r .whole) in
-    searched low (r .by) s (r .g ++ (b ∷ 90 ∷ t)) f w (r .land) (omega (arith, length-lay low s)) (sizes low + m)
+    searched low (r .by) s (r .g ++ (b ∷ 0x5A ∷ t)) f w (r .land) (omega (arith, length-lay low s)) (sizes low + m)
     (search-found (r .j) (length (lay low s)) (sizes low + r .by) (r .g) t (r .whole) (r .markless) h (omega (arith, length-lay low s))
         ∙ omega (arith, r .far))
 
@@ -232,20 +232,20 @@ there-is low s t m r =
     drop-lay low s m ∙ ap (λ (k : ℕ). drop k s) (sym (r .far)) ∙ sym (drop-drop (8 * r .j) (r .by) s) ∙ ap (drop (8 * r .j)) (r .land .there)
     ∙ drop-at (r .g) t (8 * r .j) (r .whole)
 
-start-is : (t : List ℕ) → start-here (0 ∷ 90 ∷ t) ≡ true
+start-is : (t : List ℕ) → start-here (0 ∷ 0x5A ∷ t) ≡ true
 unfolding is-start is-high
 start-is t = refl
 
-clean-no-start : (t : List ℕ) → start-here (160 ∷ 90 ∷ t) ≡ false
+clean-no-start : (t : List ℕ) → start-here (0xA0 ∷ 0x5A ∷ t) ≡ false
 unfolding is-start is-high
 clean-no-start t = refl
 
-pub clean-is : (t : List ℕ) → clean-here (160 ∷ 90 ∷ t) ≡ true
+pub clean-is : (t : List ℕ) → clean-here (0xA0 ∷ 0x5A ∷ t) ≡ true
 unfolding is-clean is-high
 clean-is t = refl
 
 -- START is found, whatever else there is
-pub head-start : (low : List Rec) (s t : List ℕ) (m : ℕ) → All-fine low → Walked 0 low → Front low s → Reaches (sizes low) s (0 ∷ 90 ∷ t) m
+pub head-start : (low : List Rec) (s t : List ℕ) (m : ℕ) → All-fine low → Walked 0 low → Front low s → Reaches (sizes low) s (0 ∷ 0x5A ∷ t) m
     → head (lay low s) ≡ give (sizes low + m)
 head-start low s t m f w p r =
     head-by (lay low s) (sizes low + m) (give (sizes low + m)) (front-start p w) (front-wrap p w) (found low s t m f w is-START r)
@@ -253,7 +253,7 @@ head-start low s t m f w p r =
 
 -- CLEAN is found, if the image doesn't begin with CLEAN
 pub head-clean : (low : List Rec) (s t : List ℕ) (m : ℕ) → All-fine low → Walked 0 low → Front low s → clean-here (lay low s) ≡ false
-    → Reaches (sizes low) s (160 ∷ 90 ∷ t) m →
+    → Reaches (sizes low) s (0xA0 ∷ 0x5A ∷ t) m →
     head (lay low s) ≡ give (sizes low + m)
 head-clean low s t m f w p c r =
     head-by (lay low s) (sizes low + m) (give (sizes low + m)) (front-start p w) (front-wrap p w) (found low s t m f w is-CLEAN r)
@@ -261,7 +261,7 @@ head-clean low s t m f w p c r =
         (ap clean-here (there-is low s _ m r) ∙ clean-is t) c)
 
 -- START at 0
-pub head-zero : (t : List ℕ) → head (0 ∷ 90 ∷ t) ≡ give 0
+pub head-zero : (t : List ℕ) → head (0 ∷ 0x5A ∷ t) ≡ give 0
 unfolding head
 head-zero t = rw (head, start-is t)
 

@@ -69,7 +69,7 @@ pub data Kind (im : Image) (l : Ledger) : Type 0 where
       Tail h S t seg-none (blanks B) (blanks F) T u → Starts (xs ++ (o ∷ ys)) → Shadowed xs ys o → Ok (xs ++ ys) l → Kind im l
   clean :
       {h S T : ℕ} (B F : ℕ) {t u : Bool} {x y : Entry} {es : List Entry} → Laid im h S t (x ∷ y ∷ es) seg-none (blanks B) (blanks F) →
-      Tail h S t seg-none (blanks B) (blanks F) T u → x .it .low ≡ 0 → alive x ≡ false → y .it .low ≡ 160 → Each Unmarked es → Ok (x ∷ y ∷ es) l
+      Tail h S t seg-none (blanks B) (blanks F) T u → x .it .low ≡ 0 → alive x ≡ false → y .it .low ≡ 0xA0 → Each Unmarked es → Ok (x ∷ y ∷ es) l
           → Kind im l
   both :
       {h S T : ℕ} (B F : ℕ) {t u : Bool} {x y : Entry} {es : List Entry} → Laid im h S t (x ∷ y ∷ es) seg-none (blanks B) (blanks F) →
@@ -78,7 +78,7 @@ pub data Kind (im : Image) (l : Ledger) : Type 0 where
       Ok (x ∷ y ∷ es) l → Kind im l
   vacated :
       {h S T : ℕ} {t u : Bool} {x : Entry} {es : List Entry} {below free : List ℕ} → Laid im h S t (x ∷ es) seg-none below free →
-      Tail h S t seg-none below free T u → tail-blank im (place im h T u) ≡ true → x .it .low ≡ 160 → Each Unmarked es → Ok (x ∷ es) l → Kind im l
+      Tail h S t seg-none below free T u → tail-blank im (place im h T u) ≡ true → x .it .low ≡ 0xA0 → Each Unmarked es → Ok (x ∷ es) l → Kind im l
 
 -- the invariant
 pub record Inv (l : Ledger) (im : Image) : Type 0 where

@@ -47,7 +47,7 @@ pub record Hole (im : Image) (h S : ℕ) (t : Bool) (es : List Entry) (seg : Seg
           → seg-size g + length new ≡ seg-size seg + length free →
       Laid (pre ++ seg-onto g (new ++ post)) h S t es g below new
   pub grow :
-      (r : Rec) (f : ℕ) (new : List ℕ) (x : Next) → Fine r → r .low ≡ 165 → length new ≡ 8 * f → Markless f new → Opens new x
+      (r : Rec) (f : ℕ) (new : List ℕ) (x : Next) → Fine r → r .low ≡ 0xA5 → length new ≡ 8 * f → Markless f new → Opens new x
           → rsize r + length new ≡ seg-size seg + length free →
       Laid (pre ++ onto r (new ++ post)) h (S + rsize r) t (es ++ (record { at = S; it = r } ∷ [])) seg-none below new
 
@@ -57,7 +57,7 @@ pub record Hole (im : Image) (h S : ℕ) (t : Bool) (es : List Entry) (seg : Seg
 pub data Lowered (h : ℕ) (e : Entry) (b : ℕ) : Type 0 where
   low-same : b ≡ e .it .low → Lowered h e b
   low-high : h ≤ e .at → Lowered h e b
-  low-zero : e .at ≡ 0 → b ≡ 160 → Lowered h e b
+  low-zero : e .at ≡ 0 → b ≡ 0xA0 → Lowered h e b
 
 -- A record e among the others may be replaced by one of the same size.
 pub record Inside (im : Image) (h S : ℕ) (t : Bool) (xs : List Entry) (e : Entry) (ys : List Entry) (seg : Seg) (below free : List ℕ) : Type 0 where

@@ -101,8 +101,8 @@ mid-length P Q u v e =
 mark-pad : (s : List ℕ) (p : ℕ) → mark-here s ≡ false → mark-here (s ++ blanks p) ≡ false
 unfolding is-high
 mark-pad [] zero e = e
-mark-pad [] (suc zero) e = and-false (is-start 255 || is-clean 255 || is-record 255)
-mark-pad [] (suc (suc p)) e = and-false (is-start 255 || is-clean 255 || is-record 255)
+mark-pad [] (suc zero) e = and-false (is-start 0xFF || is-clean 0xFF || is-record 0xFF)
+mark-pad [] (suc (suc p)) e = and-false (is-start 0xFF || is-clean 0xFF || is-record 0xFF)
 mark-pad (x ∷ []) zero e = e
 mark-pad (x ∷ []) (suc p) e = and-false (is-start x || is-clean x || is-record x)
 mark-pad (x ∷ y ∷ s) p e = e
@@ -140,7 +140,7 @@ cleaned-by x p q =
 -- ---- a record up to its data
 
 data-front : Rec → ℕ → List ℕ
-data-front x d = x .low ∷ 90 ∷ x .status ∷ 255 ∷ lens d (x .name ++ (0 ∷ blanks (pad (length (x .name) + 1))))
+data-front x d = x .low ∷ 0x5A ∷ x .status ∷ 0xFF ∷ lens d (x .name ++ (0 ∷ blanks (pad (length (x .name) + 1))))
 
 front-length : (x : Rec) (d : ℕ) → length (data-front x d) ≡ 8 + up8 (length (x .name) + 1)
 unfolding data-front
@@ -229,7 +229,7 @@ pub record Cleans (l : Ledger) (im : Image) (ss : List Step) (h S B F : ℕ) (t 
 pub clean-data :
     {l : Ledger} {im : Image} {h S : ℕ} (B F : ℕ) {t : Bool} {x y : Entry} {es : List Entry} → good-length (length im) ≡ true →
     Laid im h S t (x ∷ y ∷ es) seg-none (blanks B) (blanks F) → Tail h S t seg-none (blanks B) (blanks F) S t → x .it .low ≡ 0 → alive x ≡ false
-        → y .it .low ≡ 160 → Each Unmarked es →
+        → y .it .low ≡ 0xA0 → Each Unmarked es →
     Ok (x ∷ y ∷ es) l → Cleans l im (clean-steps (length (content-of x)) (data-at x) (content-of x)) h S B F t x y es
 clean-data {l} {im} {h} {S} B F {t} {x} {y} {es} g ld tl lx dead ly un ok = go (inside-of ld [] (y ∷ es) x refl)
   where

@@ -114,14 +114,14 @@ module _ {im : Image} {a l : ℕ} {lost : List ℕ} {h : ℕ} {x y : Rec} {ys : 
     all-ff =
         subst (λ (g : List ℕ). Straight (run im (erases A (suc k))) (a + suc k) r g (drop (4096 * suc k) q) (h + rsize x) (y ∷ ys) seg-none
             (blanks F))
-        (replicate-append-replicate B (4096 * suc k) 255) (straight-all-erased s c k r all short)
+        (replicate-append-replicate B (4096 * suc k) 0xFF) (straight-all-erased s c k r all short)
 
     -- something is free behind the records
     straight-clear : (S : ℕ) → S ≡ h + sizes (x ∷ y ∷ ys) → 8 ≤ F → Leaves im X Y E
     straight-clear S e h₈ =
         far A k S false (vacated-are (length im) h x y a l k r (s .at) (s .lost-small) all short) (omega arith) sectors-in
         (λ i p. vacant-at (laid-straight f (straight-erased s c k r all short i p) refl (omega arith) refl lf qf) F [] (sym (append-nil (blanks F)))
-        (omega (arith, good-is (length im) g .0, straight-length s, length-replicate {A = ℕ} F 255)))
+        (omega (arith, good-is (length im) g .0, straight-length s, length-replicate {A = ℕ} F 0xFF)))
         (record { S = S; B = B + 4096 * suc k; F = F; t = false; laid = laid-straight f all-ff refl (omega arith) refl lf qf; tail = clear-ff F h₈ })
 
     -- the records end at N: the chain turns
@@ -155,7 +155,7 @@ module _ {im : Image} {a l : ℕ} {lost : List ℕ} {h : ℕ} {x y : Rec} {ys : 
 
     straight-far : (S : ℕ) → S ≡ h + sizes (x ∷ y ∷ ys) → Tail h S false seg-none (blanks B) (blanks F) S false → Leaves im X Y E
     straight-far S e (tail-clear s₈ p i j) =
-        straight-clear S e (omega (arith, ap length p, length-append (blanks 8) s₈, length-replicate {A = ℕ} F 255))
+        straight-clear S e (omega (arith, ap length p, length-append (blanks 8) s₈, length-replicate {A = ℕ} F 0xFF))
     straight-far S e (tail-floor p i j m) = let z : _≡_ {A = ℕ} 0 1 = cc in absurd (omega arith)
     straight-far S e (tail-N p i j m n) = straight-full p
     straight-far S e (tail-turn s₈ p i j m n o) = absurd (j refl)
@@ -183,7 +183,7 @@ module _ {im : Image} {a l : ℕ} {lost : List ℕ} {h : ℕ} {low : List Rec} {
   E₁ = entries-of (h + rsize x + rsize y) ys ++ entries-of 0 low
 
   F-is : F ≡ 8 * f
-  F-is = sym (length-replicate {A = ℕ} F 255) ∙ s .free-length
+  F-is = sym (length-replicate {A = ℕ} F 0xFF) ∙ s .free-length
 
   turned-far : (k r : ℕ) → 512 * suc k + r ≡ l + rsize x / 8 → r < 512 → Leaves im X₁ Y₁ E₁
   turned-far k r all short =
@@ -194,7 +194,7 @@ module _ {im : Image} {a l : ℕ} {lost : List ℕ} {h : ℕ} {low : List Rec} {
           (blanks (F + 4096 * suc k)) (y ∷ ys) end =
       subst (λ (m : List ℕ). Turned (run im (erases A (suc k))) (a + suc k) r (drop (4096 * suc k) q) (h + rsize x) low seg-none (f + 512 * suc k) m
           (y ∷ ys) end)
-      (ap (λ (m : List ℕ). blanks F ++ m) (all-erased (suc k) q) ∙ replicate-append-replicate F (4096 * suc k) 255)
+      (ap (λ (m : List ℕ). blanks F ++ m) (all-erased (suc k) q) ∙ replicate-append-replicate F (4096 * suc k) 0xFF)
       (subst (λ (ss : List Step). Turned (run im ss) (a + suc k) r (drop (4096 * suc k) q) (h + rsize x) low seg-none (f + 512 * suc k)
           (blanks F ++ half-erased (suc k) (suc k) q) (y ∷ ys) end)
       (take-erases (suc k) (suc k) A (omega arith)) (turned-erased s c k r all short k (omega arith))) in
@@ -228,7 +228,7 @@ end-markless exact zero p = tt
 end-markless exact (suc e) p = absurd (omega arith)
 end-markless (marker k) zero p = absurd (omega arith)
 end-markless (marker k) (suc e) p =
-    let n : 8 * e ≡ k = omega (arith, length-replicate {A = ℕ} k 255) in (refl, subst (λ (m : ℕ). Markless e (blanks m)) n (markless-blanks e))
+    let n : 8 * e ≡ k = omega (arith, length-replicate {A = ℕ} k 0xFF) in (refl, subst (λ (m : ℕ). Markless e (blanks m)) n (markless-blanks e))
 
 body-is : (n c t : List ℕ) → body n c t ≡ body n c [] ++ t
 body-is n c t = simp append-assoc
@@ -247,7 +247,7 @@ module _ {im : Image} {a l : ℕ} {lost : List ℕ} {h : ℕ} {y : Rec} {low : L
   E₂ = entries-of (0 + rsize y) low
 
   F₂ : F ≡ 8 * f
-  F₂ = sym (length-replicate {A = ℕ} F 255) ∙ s .free-length
+  F₂ = sym (length-replicate {A = ℕ} F 0xFF) ∙ s .free-length
 
   behind-markless : (k : ℕ) → length im ≡ 4096 * (a + suc k) → Markless (511 - l + 512 * k) (body (x .name) (x .content) (end-bytes end))
   behind-markless k n =
@@ -273,7 +273,7 @@ module _ {im : Image} {a l : ℕ} {lost : List ℕ} {h : ℕ} {y : Rec} {low : L
       let rest : ℕ → List ℕ = λ i. take (4096 * (suc k - suc i)) (drop (4096 * suc i) q) in
       let long : (i : ℕ) → i ≤ k → length (blanks F ++ half-erased (suc i) (suc k) q) ≡ 8 * (f + 512 * suc k) =
       λ i p. length-append (blanks F) (half-erased (suc i) (suc k) q)
-      ∙ omega (arith, half-erased-length (suc i) (suc k) q (omega arith) (omega (arith, behind-length k n)), length-replicate {A = ℕ} F 255, F₂) in
+      ∙ omega (arith, half-erased-length (suc i) (suc k) q (omega arith) (omega (arith, behind-length k n)), length-replicate {A = ℕ} F 0xFF, F₂) in
       let laid : (i : ℕ) → i ≤ k
           → Laid (run im (take (suc i) (erases A (suc k)))) 0 S false (Y₂ ∷ E₂) seg-none [] (blanks F ++ half-erased (suc i) (suc k) q) =
       λ i p. laid-straight (f + 512 * suc k) (zero-erased s k n b i p) refl refl refl (long i p) (zero-markless s k n b i p) in
@@ -286,7 +286,7 @@ module _ {im : Image} {a l : ℕ} {lost : List ℕ} {h : ℕ} {y : Rec} {low : L
         t = false;
         laid =
             subst (λ (m : List ℕ). Laid (run im (erases A (suc k))) 0 S false (Y₂ ∷ E₂) seg-none [] m)
-            (ap (λ (m : List ℕ). blanks F ++ m) (all-erased (suc k) q) ∙ replicate-append-replicate F (4096 * suc k) 255)
+            (ap (λ (m : List ℕ). blanks F ++ m) (all-erased (suc k) q) ∙ replicate-append-replicate F (4096 * suc k) 0xFF)
             (subst (λ (ss : List Step). Laid (run im ss) 0 S false (Y₂ ∷ E₂) seg-none [] (blanks F ++ half-erased (suc k) (suc k) q))
                 (take-erases (suc k) (suc k) A (omega arith))
             (laid k (omega arith)));

@@ -20,7 +20,7 @@ use Rattle.history.specs.TurnedLaid.{high-front, high-front-is, high-fro
 
 -- X with its second byte 00
 abbrev forgotten : Rec → List ℕ
-forgotten x = x .low ∷ 0 ∷ x .status ∷ 255 ∷ lens (length (x .content)) (body (x .name) (x .content) [])
+forgotten x = x .low ∷ 0 ∷ x .status ∷ 0xFF ∷ lens (length (x .content)) (body (x .name) (x .content) [])
 
 forgotten-markless : (x : Rec) → Cleaned x → Markless (rsize x / 8) (forgotten x)
 forgotten-markless x c =
@@ -59,8 +59,8 @@ module _ {im : List ℕ} {a l : ℕ} {gap lost : List ℕ} {h : ℕ} {x y : Rec}
         fine = s .fine .1;
       }
     where
-      fronted : (gap lost : List ℕ) (a l : ℕ) → length gap ≡ 4096 * a → length lost ≡ 8 * l → (getD (gap ++ lost) 1 0 ≡ 90 → ⊥)
-          → getD (gap ++ (lost ++ forgotten x)) 1 0 ≡ 90 → ⊥
+      fronted : (gap lost : List ℕ) (a l : ℕ) → length gap ≡ 4096 * a → length lost ≡ 8 * l → (getD (gap ++ lost) 1 0 ≡ 0x5A → ⊥)
+          → getD (gap ++ (lost ++ forgotten x)) 1 0 ≡ 0x5A → ⊥
       fronted [] [] a l p q f = f
       fronted [] (u ∷ []) a l p q f = absurd (omega arith)
       fronted [] (u ∷ v ∷ w) a l p q f = f

@@ -29,7 +29,7 @@ use Rattle.history.specs.EraseFree.{Mid, erase-safe}
 
 -- ---- all the erases: FF
 
-front-ff : (B : ℕ) (below lost : List ℕ) → length below ≡ B → B % 8 ≡ 0 → (getD (below ++ lost) 1 0 ≡ 90 → ⊥) → getD (blanks B ++ lost) 1 0 ≡ 90 → ⊥
+front-ff : (B : ℕ) (below lost : List ℕ) → length below ≡ B → B % 8 ≡ 0 → (getD (below ++ lost) 1 0 ≡ 0x5A → ⊥) → getD (blanks B ++ lost) 1 0 ≡ 0x5A → ⊥
 front-ff zero [] lost e z f = f
 front-ff zero (x ∷ below) lost e z f = absurd (omega arith)
 front-ff (suc zero) below lost e z f = absurd (omega arith)
@@ -49,7 +49,7 @@ low-done {im} {h} {S} {es} {below} {free} (laid-straight {a} {l} {lost} {x} {ys}
               ∙ mend-done a B 0 B [] [] below Z refl refl (s .gap-length) (omega arith) (omega arith) im (s .is)
           ∙ ap (λ (m : ℕ). blanks m ++ Z) (sym b);
       at = s .at;
-      gap-length = length-replicate {A = ℕ} B 255 ∙ b;
+      gap-length = length-replicate {A = ℕ} B 0xFF ∙ b;
       gap-markless = markless-ff (512 * a) (blanks B) (ap blanks w);
       lost-length = s .lost-length;
       lost-small = s .lost-small;
@@ -76,7 +76,7 @@ high-done : {im : Image} {h S : ℕ} {t : Bool} {es : List Entry} {below free : 
 high-done {im} {h} {S} {t} {es} {below} {free} d im₀ pre₀ i₀ l₀ c k lim sc cf cb kl fl e₈ =
     let K : Hole im h S t es seg-none below free = hole-of d in
     let f : (f : ℕ) × (length free ≡ 8 * f) × Markless f free = free-markless d in
-    let lc : length (blanks c) ≡ c = length-replicate {A = ℕ} c 255 in
+    let lc : length (blanks c) ≡ c = length-replicate {A = ℕ} c 0xFF in
     let F : ℕ = length free in
     let n : c + 4096 * k ≡ F = omega arith in
     let e : run im (mend-steps im₀ lim (ceiling S) lim) ≡ K .pre ++ (blanks F ++ K .post) =
@@ -86,7 +86,7 @@ high-done {im} {h} {S} {t} {es} {below} {free} d im₀ pre₀ i₀ l₀ c k lim 
     (length-drop c free ∙ omega arith) kl (omega arith) im₀ (i₀ ∙ opened-up pre₀ (K .post) free c cb)
     ∙ append-assoc (K .pre) (blanks c) (blanks (4096 * k) ++ K .post)
         ∙ ap (λ (l : List ℕ). K .pre ++ l) (sym (split-front c (4096 * k) (c + (4096 * k)) (K .post) refl) ∙ ap (λ (m : ℕ). blanks m ++ K .post) n) in
-    let lF : length (blanks F) ≡ F = length-replicate {A = ℕ} F 255 in
+    let lF : length (blanks F) ≡ F = length-replicate {A = ℕ} F 0xFF in
     subst (λ (i : Image). Laid i h S t es seg-none below (blanks F)) (sym e)
     (K .plug seg-none (f .0) (blanks F) Next.Clear (lF ∙ f .1) (markless-ff (f .0) (blanks F) (ap blanks (f .1))) (opens-blanks F e₈)
         (ap (λ (m : ℕ). 0 + m) lF))

@@ -45,7 +45,7 @@ open-or (seg-cut d n f) m = refl
 open-or (seg-held n c f) m = refl
 
 -- a plain record's low byte
-pub low-plain : {b : ℕ} → Low b → (is-start b || is-clean b) ≡ false → b ≡ 165
+pub low-plain : {b : ℕ} → Low b → (is-start b || is-clean b) ≡ false → b ≡ 0xA5
 unfolding is-start is-clean
 low-plain low-record h = refl
 low-plain low-start h = absurd (let z : _≡_ {A = ℕ} 0 1 = cc in omega arith)
@@ -132,10 +132,10 @@ clean-first [] free rest x o n f m = go o n
 
 clean-found :
     {im : Image} {h S : ℕ} {t : Bool} {x : Entry} {es : List Entry} {under free : List ℕ} → Laid im h S t (x ∷ es) seg-none under free
-        → x .it .low ≡ 160 → Each Unmarked es → head im ≡ give h
+        → x .it .low ≡ 0xA0 → Each Unmarked es → head im ≡ give h
 clean-found {im = im} {h = h} (laid-straight {x = y} {ys = ys} f s et eS ee lf qf) l m = go (eqb h 0) refl
   where
-    low : y .low ≡ 160
+    low : y .low ≡ 0xA0
     low = first-low ee l
 
     go : (b : Bool) → eqb h 0 ≡ b → head im ≡ give h
@@ -212,7 +212,7 @@ start-reads {im} {h} {S} {T} B F {t} {u} {x} {es} {seg} d e l r =
 -- head CLEAN, T's own sector FF
 pub clean-reads :
     {im : Image} {h S T : ℕ} {t u : Bool} {x : Entry} {es : List Entry} {under free : List ℕ} → Laid im h S t (x ∷ es) seg-none under free →
-    Tail h S t seg-none under free T u → tail-blank im (place im h T u) ≡ true → x .it .low ≡ 160 → Each Unmarked es → Ruled (x ∷ es) →
+    Tail h S t seg-none under free T u → tail-blank im (place im h T u) ≡ true → x .it .low ≡ 0xA0 → Each Unmarked es → Ruled (x ∷ es) →
     reading im ≡ give (read (length im) h T u (x ∷ es) Ending.Tail)
 unfolding free-ok
 clean-reads {im} {h} {S} {T} {t} {u} {x} {es} d e b l m r =

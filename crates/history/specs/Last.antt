@@ -40,7 +40,7 @@ stops-over at false k = refl
 
 -- a wrap marker
 abbrev pub wrap : List ℕ → List ℕ
-wrap s = 250 ∷ 90 ∷ 240 ∷ 255 ∷ 255 ∷ 255 ∷ 255 ∷ 255 ∷ s
+wrap s = 0xFA ∷ 0x5A ∷ 0xF0 ∷ 0xFF ∷ 0xFF ∷ 0xFF ∷ 0xFF ∷ 0xFF ∷ s
 
 -- the chain ends at a wrap marker
 pub ends-wrap : (at : ℕ) (s : List ℕ) → Ends at (wrap s) (stop false at Next.Wrap)
@@ -49,12 +49,12 @@ ends-wrap at s k = refl
 
 -- the second byte, before it is written and after
 pub data Begun : ℕ → Type 0 where
-  begun-ff : Begun 255
-  begun-5a : Begun 90
+  begun-ff : Begun 0xFF
+  begun-5a : Begun 0x5A
 
 -- a wrap marker that was begun, c its second byte
 abbrev pub torn-wrap : ℕ → ℕ → List ℕ
-torn-wrap c k = 250 ∷ c ∷ 255 ∷ 255 ∷ 255 ∷ 255 ∷ 255 ∷ 255 ∷ blanks k
+torn-wrap c k = 0xFA ∷ c ∷ 0xFF ∷ 0xFF ∷ 0xFF ∷ 0xFF ∷ 0xFF ∷ 0xFF ∷ blanks k
 
 torn-wrap-blank : (c k : ℕ) → torn-wrap-at (torn-wrap c k) ≡ Next.TornWrap
 unfolding torn-wrap-at blank
@@ -62,8 +62,8 @@ torn-wrap-blank c k = rw (blank-blanks k, torn-wrap-at)
 
 next-torn-wrap : {c : ℕ} (k : ℕ) → Begun c → next (torn-wrap c k) ≡ Next.TornWrap
 unfolding next next-at long kind is-record is-wrap is-start is-clean is-high is-high-begun is-erased is-wrapped is-spare
-next-torn-wrap k begun-ff = torn-wrap-blank 255 k
-next-torn-wrap k begun-5a = torn-wrap-blank 90 k
+next-torn-wrap k begun-ff = torn-wrap-blank 0xFF k
+next-torn-wrap k begun-5a = torn-wrap-blank 0x5A k
 
 chain-torn-wrap : (k at : ℕ) (s : List ℕ) → next s ≡ Next.TornWrap → chain (suc k) false at s ≡ stop false at Next.TornWrap
 unfolding chain
@@ -83,15 +83,15 @@ ends-held at n d s t r e u f g h k = chain-record (suc k) at n d s e ∙ rw (u, 
 
 -- torn: A5, then FF or 5A, any length bytes, 00 or FF
 pub data Name-begun : ℕ → Type 0 where
-  begun-none : Name-begun 255
+  begun-none : Name-begun 0xFF
   begun-end : Name-begun 0
 
 abbrev pub torn : ℕ → List ℕ → ℕ → List ℕ → List ℕ
-torn c l t s = 165 ∷ c ∷ 255 ∷ 255 ∷ (l ++ (t ∷ (blanks 7 ++ s)))
+torn c l t s = 0xA5 ∷ c ∷ 0xFF ∷ 0xFF ∷ (l ++ (t ∷ (blanks 7 ++ s)))
 
 -- as it is read
 abbrev pub torn-rec : Rec
-torn-rec = record { low = 165; status = 255; name = []; content = [] }
+torn-rec = record { low = 0xA5; status = 0xFF; name = []; content = [] }
 
 next-torn : {c t : ℕ} (x y z w : ℕ) (s : List ℕ) → Begun c → Name-begun t → next (torn c (x ∷ y ∷ z ∷ w ∷ []) t s) ≡ Next.Record 0 0
 unfolding next next-at long kind torn-at is-record is-wrap is-high is-high-begun is-erased is-name-begun is-spare
@@ -100,7 +100,7 @@ next-torn x y z w s begun-ff begun-end = refl
 next-torn x y z w s begun-5a begun-none = refl
 next-torn x y z w s begun-5a begun-end = refl
 
-unfinished-ff : is-unfinished 255 ≡ true
+unfinished-ff : is-unfinished 0xFF ≡ true
 unfolding is-unfinished is-erased
 unfinished-ff = refl
 
@@ -112,17 +112,17 @@ ends-torn {c} {t} at x y z w s b n e =
 
 -- reserved
 next-reserved : (x y z w : ℕ) (s : List ℕ)
-    → next (165 ∷ 90 ∷ 254 ∷ 255 ∷ x ∷ y ∷ z ∷ w ∷ s) ≡ record-at true (165 ∷ 90 ∷ 254 ∷ 255 ∷ x ∷ y ∷ z ∷ w ∷ s)
+    → next (0xA5 ∷ 0x5A ∷ 0xFE ∷ 0xFF ∷ x ∷ y ∷ z ∷ w ∷ s) ≡ record-at true (0xA5 ∷ 0x5A ∷ 0xFE ∷ 0xFF ∷ x ∷ y ∷ z ∷ w ∷ s)
 unfolding next long kind next-at is-record is-wrap is-start is-clean is-high is-erased is-reserved is-spare
 next-reserved x y z w s = refl
 
-unfinished-fe : is-unfinished 254 ≡ true
+unfinished-fe : is-unfinished 0xFE ≡ true
 unfolding is-unfinished is-erased is-reserved
 unfinished-fe = refl
 
 -- reserved, with the whole name and as much data as there is
 abbrev pub held : List ℕ → List ℕ → Rec
-held n c = record { low = 165; status = 254; name = n; content = c }
+held n c = record { low = 0xA5; status = 0xFE; name = n; content = c }
 
 -- the chain over a record that was not committed
 pub ends-whole : {d : Chain} (at : ℕ) (n c s : List ℕ) → Fit (length c) n → ((k : ℕ) → chain (suc k) true (at + size-of (length n) (length c)) s ≡ d)
@@ -135,21 +135,21 @@ ends-whole at n c s f e =
 
 -- reserved, with a cut name, and as many FF as make its size
 abbrev pub begun : ℕ → List ℕ → List ℕ → List ℕ
-begun d n s = 165 ∷ 90 ∷ 254 ∷ 255 ∷ lens d (n ++ (255 ∷ (blanks (pad (length n + 1)) ++ (blanks (up8 d) ++ s))))
+begun d n s = 0xA5 ∷ 0x5A ∷ 0xFE ∷ 0xFF ∷ lens d (n ++ (0xFF ∷ (blanks (pad (length n + 1)) ++ (blanks (up8 d) ++ s))))
 
-ends-ff : ends-name true 255 ≡ true
+ends-ff : ends-name true 0xFF ≡ true
 unfolding ends-name
 ends-ff = refl
 
 -- a record whose name was not ended, read as the last one
 pub record-at-begun : (d : ℕ) (n s : List ℕ) → Fit d n → record-at true (begun d n s) ≡ Next.Record (length n) d
 record-at-begun d n s f =
-    record-at-laid true 165 90 254 255 255 d n (blanks (pad (length n + 1)) ++ (blanks (up8 d) ++ s)) f ends-ff
+    record-at-laid true 0xA5 0x5A 0xFE 0xFF 0xFF d n (blanks (pad (length n + 1)) ++ (blanks (up8 d) ++ s)) f ends-ff
     (simp (length-append, length-replicate) (omega arith))
 
 -- as it is read
 abbrev pub cut-rec : ℕ → List ℕ → Rec
-cut-rec d n = record { low = 165; status = 254; name = n; content = blanks d }
+cut-rec d n = record { low = 0xA5; status = 0xFE; name = n; content = blanks d }
 
 -- what follows it
 pub drop-begun : (d : ℕ) (n s : List ℕ) → drop (size-of (length n) d) (begun d n s) ≡ s
@@ -165,7 +165,7 @@ drop-begun d n s =
 rec-of-begun : (d : ℕ) (n s : List ℕ) → rec-of (begun d n s) (length n) d ≡ cut-rec d n
 rec-of-begun d n s =
     rw (
-      drop-past n (255 ∷ (blanks (pad (length n + 1)) ++ (blanks (up8 d) ++ s))) (up8 (length n + 1)) (suc (pad (length n + 1))) (omega arith),
+      drop-past n (0xFF ∷ (blanks (pad (length n + 1)) ++ (blanks (up8 d) ++ s))) (up8 (length n + 1)) (suc (pad (length n + 1))) (omega arith),
       drop-blanks (pad (length n + 1)) (blanks (up8 d) ++ s),
       take-append-seam n,
       take-blanks d (up8 d) s (omega arith),

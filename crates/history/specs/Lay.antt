@@ -30,7 +30,7 @@ lens d s = d % 256 ∷ d / 256 % 256 ∷ d / 65536 % 256 ∷ d / 16777216 % 256 
 
 -- the header of a record that is not committed, for d bytes of data, in front of t
 abbrev pub header : ℕ → List ℕ → List ℕ
-header d t = 165 ∷ 90 ∷ 254 ∷ 255 ∷ lens d t
+header d t = 0xA5 ∷ 0x5A ∷ 0xFE ∷ 0xFF ∷ lens d t
 
 -- w and its padding
 abbrev pub padded : List ℕ → List ℕ → List ℕ
@@ -42,7 +42,7 @@ body name content s = name ++ (0 ∷ (blanks (pad (length name + 1)) ++ padded c
 
 -- a record's bytes in front of s
 abbrev pub onto : Rec → List ℕ → List ℕ
-onto r s = r .low ∷ 90 ∷ r .status ∷ 255 ∷ lens (length (r .content)) (body (r .name) (r .content) s)
+onto r s = r .low ∷ 0x5A ∷ r .status ∷ 0xFF ∷ lens (length (r .content)) (body (r .name) (r .content) s)
 
 -- records, one after another, in front of s
 abbrev pub lay : List Rec → List ℕ → List ℕ
@@ -94,7 +94,7 @@ pub data Stat : ℕ → Type 0 where
 -- a name's characters
 abbrev pub Printable : List ℕ → Type 0
 Printable [] = Unit {0}
-Printable (x ∷ w) = ((33 ≤ x) × (x ≤ 126)) × Printable w
+Printable (x ∷ w) = ((0x21 ≤ x) × (x ≤ 0x7E)) × Printable w
 
 -- a name and a length of data that a header can say
 pub record Fit (d : ℕ) (n : List ℕ) : Type 0 where
@@ -117,9 +117,9 @@ All-fine (r ∷ rs) = Fine r × All-fine rs
 len-lens : (a b c e d : ℕ) (s : List ℕ) → d < 4294967296 → data-len-of (a ∷ b ∷ c ∷ e ∷ lens d s) ≡ d
 len-lens a b c e d s h = let top : d / 16777216 % 256 ≡ d / 16777216 = omega arith in rw top (omega arith)
 
-ends-printable : (held : Bool) (x : ℕ) → 33 ≤ x → x ≤ 126 → ends-name held x ≡ false
+ends-printable : (held : Bool) (x : ℕ) → 0x21 ≤ x → x ≤ 0x7E → ends-name held x ≡ false
 unfolding ends-name
-ends-printable held x h l = rw (ends-name, ne-eqb x 0 (λ e. omega arith), ne-eqb x 255 (λ e. omega arith)) (and-false held)
+ends-printable held x h l = rw (ends-name, ne-eqb x 0 (λ e. omega arith), ne-eqb x 0xFF (λ e. omega arith)) (and-false held)
 
 name-length-at : (k : ℕ) (held : Bool) (w : List ℕ) (t : ℕ) (s : List ℕ) → length w < k → Printable w → ends-name held t ≡ true
     → name-length k held (w ++ (t ∷ s)) ≡ length w
@@ -178,13 +178,13 @@ ends-zero held = refl
 pub record-at-onto : (held : Bool) (r : Rec) (s : List ℕ) → Fit (length (r .content)) (r .name)
     → record-at held (onto r s) ≡ Next.Record (length (r .name)) (length (r .content))
 record-at-onto held r s f =
-    record-at-laid held (r .low) 90 (r .status) 255 0 (length (r .content)) (r .name) (blanks (pad (length (r .name) + 1)) ++ padded (r .content) s) f
+    record-at-laid held (r .low) 0x5A (r .status) 0xFF 0 (length (r .content)) (r .name) (blanks (pad (length (r .name) + 1)) ++ padded (r .content) s) f
         (ends-zero held)
     (omega (arith, length-body (r .name) (r .content) s, length-append (r .name)
         (0 ∷ (blanks (pad (length (r .name) + 1)) ++ padded (r .content) s))))
 
 -- the magic of a record, with any low byte that it may have
-low-written : {b : ℕ} → Low b → (st : ℕ) → written-kind b 90 st ≡ record-kind st
+low-written : {b : ℕ} → Low b → (st : ℕ) → written-kind b 0x5A st ≡ record-kind st
 unfolding is-record is-wrap is-start is-clean is-high
 low-written low-record st = refl
 low-written low-start st = refl
@@ -197,14 +197,14 @@ stat-is st-fc = (refl, refl, refl)
 stat-is st-f8 = (refl, refl, refl)
 stat-is st-00 = (refl, refl, refl)
 
-kind-next : {b st : ℕ} → Low b → Stat st → (s : List ℕ) → next-at (kind b 90 st 255) s ≡ record-at false s
+kind-next : {b st : ℕ} → Low b → Stat st → (s : List ℕ) → next-at (kind b 0x5A st 0xFF) s ≡ record-at false s
 unfolding kind next-at is-spare
 kind-next {b} {st} l t s = rw (kind, stat-is t .0, low-written l st, stat-is t .2)
 
 next-laid : (b st x y z w : ℕ) (s : List ℕ) → Low b → Stat st
-    → next (b ∷ 90 ∷ st ∷ 255 ∷ x ∷ y ∷ z ∷ w ∷ s) ≡ record-at false (b ∷ 90 ∷ st ∷ 255 ∷ x ∷ y ∷ z ∷ w ∷ s)
+    → next (b ∷ 0x5A ∷ st ∷ 0xFF ∷ x ∷ y ∷ z ∷ w ∷ s) ≡ record-at false (b ∷ 0x5A ∷ st ∷ 0xFF ∷ x ∷ y ∷ z ∷ w ∷ s)
 unfolding next long
-next-laid b st x y z w s l t = kind-next l t (b ∷ 90 ∷ st ∷ 255 ∷ x ∷ y ∷ z ∷ w ∷ s)
+next-laid b st x y z w s l t = kind-next l t (b ∷ 0x5A ∷ st ∷ 0xFF ∷ x ∷ y ∷ z ∷ w ∷ s)
 
 next-onto : (r : Rec) (s : List ℕ) → Fine r → next (onto r s) ≡ Next.Record (length (r .name)) (length (r .content))
 next-onto r s f = next-laid (r .low) (r .status) _ _ _ _ _ (f .low-ok) (f .status-ok) ∙ record-at-onto false r s (f .fit)
@@ -277,6 +277,6 @@ drop-lay rs s m =
     rw (lay-is rs s, ← l) (drop-append-add (lay rs []) s m)
 
 -- a record has 16 bytes at least
-pub lots : (rs : List Rec) → 16 * length rs ≤ sizes rs
-lots [] = omega arith
-lots (r ∷ rs) = omega (arith, lots rs)
+pub sizes-least : (rs : List Rec) → 16 * length rs ≤ sizes rs
+sizes-least [] = omega arith
+sizes-least (r ∷ rs) = omega (arith, sizes-least rs)

@@ -34,7 +34,7 @@ turned-gap {a = a} {lost = lost} {high = high} s im′ end i e b =
       at = s .at;
       some-below = b;
       below = omega arith;
-      free-length = length-replicate {A = ℕ} (4096 * a) 255 ∙ omega arith;
+      free-length = length-replicate {A = ℕ} (4096 * a) 0xFF ∙ omega arith;
       free-markless = subst (λ (l : List ℕ). Markless (512 * a) l) e (s .gap-markless);
       opened = Next.Clear;
       opens = opens-blanks (4096 * a) (omega arith);
@@ -62,10 +62,10 @@ module _ {im : List ℕ} {a l : ℕ} {gap lost : List ℕ} {h : ℕ} {high : Lis
       programs (suc (suc (suc (suc j)))) = tt
 
   -- cut: a torn wrap stands at T
-  pub marker-cut-1 : Straight (run im (moved (h + sizes high) (take 1 marker-steps))) a l gap lost h high seg-none (torn-wrap 255 (g - 8))
+  pub marker-cut-1 : Straight (run im (moved (h + sizes high) (take 1 marker-steps))) a l gap lost h high seg-none (torn-wrap 0xFF (g - 8))
   marker-cut-1 = straight-with (run im (moved (h + sizes high) (take 1 marker-steps))) s (at-tail 1) (s .fine)
 
-  pub marker-cut-2 : Straight (run im (moved (h + sizes high) (take 2 marker-steps))) a l gap lost h high seg-none (torn-wrap 90 (g - 8))
+  pub marker-cut-2 : Straight (run im (moved (h + sizes high) (take 2 marker-steps))) a l gap lost h high seg-none (torn-wrap 0x5A (g - 8))
   marker-cut-2 = straight-with (run im (moved (h + sizes high) (take 2 marker-steps))) s (at-tail 2) (s .fine)
 
   -- done: the chain has turned, T is 0

@@ -47,7 +47,7 @@ mark-append p s h = rw (List·getD-append p s 0 0 (omega arith), List·getD-appe
 
 -- ---- FF, and one part behind another
 
-mark-ff : (s : List ℕ) → mark-here (255 ∷ 255 ∷ s) ≡ false
+mark-ff : (s : List ℕ) → mark-here (0xFF ∷ 0xFF ∷ s) ≡ false
 unfolding is-start is-clean is-record is-high
 mark-ff s = refl
 
@@ -112,18 +112,18 @@ pair-nil : (x : ℕ) → mark-pair x 0 ≡ false
 unfolding is-high
 pair-nil x = and-false (is-start x || is-clean x || is-record x)
 
-pair-ff : (x : ℕ) → mark-pair x 255 ≡ false
+pair-ff : (x : ℕ) → mark-pair x 0xFF ≡ false
 unfolding is-high
 pair-ff x = and-false (is-start x || is-clean x || is-record x)
 
 calm-blanks : (k : ℕ) → Calm (blanks k)
 calm-blanks zero = tt
-calm-blanks (suc zero) = (pair-nil 255, tt)
-calm-blanks (suc (suc k)) = (pair-ff 255, calm-blanks (suc k))
+calm-blanks (suc zero) = (pair-nil 0xFF, tt)
+calm-blanks (suc (suc k)) = (pair-ff 0xFF, calm-blanks (suc k))
 
-printable-pair : (x y : ℕ) → 33 ≤ x → x ≤ 126 → mark-pair x y ≡ false
+printable-pair : (x y : ℕ) → 0x21 ≤ x → x ≤ 0x7E → mark-pair x y ≡ false
 unfolding is-start is-clean is-record
-printable-pair x y h l = rw (ne-eqb x 0 (λ e. omega arith), ne-eqb x 160 (λ e. omega arith), ne-eqb x 165 (λ e. omega arith))
+printable-pair x y h l = rw (ne-eqb x 0 (λ e. omega arith), ne-eqb x 0xA0 (λ e. omega arith), ne-eqb x 0xA5 (λ e. omega arith))
 
 calm-name : (n : List ℕ) (k : ℕ) → Printable n → Calm (n ++ (0 ∷ blanks k))
 calm-name [] zero p = (pair-nil 0, tt)

@@ -26,10 +26,10 @@ pub record Opened (f : ℕ) (s l : List ℕ) : Type 0 where
   pub sum : seg-size seg + left ≡ f
 
 -- FF after FF
-joined-blanks : (a b c m : ℕ) (s : List ℕ) → m ≡ suc (a + (b + c)) → blanks m ++ s ≡ 255 ∷ (blanks a ++ (blanks b ++ (blanks c ++ s)))
+joined-blanks : (a b c m : ℕ) (s : List ℕ) → m ≡ suc (a + (b + c)) → blanks m ++ s ≡ 0xFF ∷ (blanks a ++ (blanks b ++ (blanks c ++ s)))
 joined-blanks a b c m s e =
     ap (λ (n : ℕ). blanks n ++ s) e
-    ∙ ap (λ (l : List ℕ). 255 ∷ l)
+    ∙ ap (λ (l : List ℕ). 0xFF ∷ l)
         (ap (λ (l : List ℕ). l ++ s) (blank-split a (b + c) (a + (b + c)) refl) ∙ append-assoc (blanks a) (blanks (b + c)) s
     ∙ ap (λ (l : List ℕ). blanks a ++ l) (ap (λ (l : List ℕ). l ++ s) (blank-split b c (b + c) refl) ∙ append-assoc (blanks b) (blanks c) s))
 
@@ -50,12 +50,12 @@ cut-state d j f m n s e h p l i k =
       sum = rw e (omega arith);
     }
 
-torn-state : (c x y z w f : ℕ) (s : List ℕ) → Begun c → 16 ≤ f → Opened f s (165 ∷ c ∷ 255 ∷ 255 ∷ x ∷ y ∷ z ∷ w ∷ (blanks (f - 8) ++ s))
+torn-state : (c x y z w f : ℕ) (s : List ℕ) → Begun c → 16 ≤ f → Opened f s (0xA5 ∷ c ∷ 0xFF ∷ 0xFF ∷ x ∷ y ∷ z ∷ w ∷ (blanks (f - 8) ++ s))
 torn-state c x y z w f s b h =
     record {
-      seg = seg-torn c x y z w 255 b begun-none;
+      seg = seg-torn c x y z w 0xFF b begun-none;
       left = f - 16;
-      is = ap (λ (l : List ℕ). 165 ∷ c ∷ 255 ∷ 255 ∷ x ∷ y ∷ z ∷ w ∷ l) (ap (λ (l : List ℕ). l ++ s) (blank-split 8 (f - 16) (f - 8) (omega arith)));
+      is = ap (λ (l : List ℕ). 0xA5 ∷ c ∷ 0xFF ∷ 0xFF ∷ x ∷ y ∷ z ∷ w ∷ l) (ap (λ (l : List ℕ). l ++ s) (blank-split 8 (f - 16) (f - 8) (omega arith)));
       sum = omega arith;
     }
 
@@ -69,12 +69,12 @@ header-cut d f s l h zero i =
       is = sym (append-assoc (blanks 8) (blanks (f - 8)) s) ∙ ap (λ (z : List ℕ). z ++ s) (sym (blank-split 8 (f - 8) f (omega arith)));
       sum = zero-add f;
     }
-header-cut d f s l h (suc zero) i = torn-state 255 255 255 255 255 f s begun-ff (omega arith)
-header-cut d f s l h (suc (suc zero)) i = torn-state 90 255 255 255 255 f s begun-5a (omega arith)
-header-cut d f s l h (suc (suc (suc zero))) i = torn-state 90 _ 255 255 255 f s begun-5a (omega arith)
-header-cut d f s l h (suc (suc (suc (suc zero)))) i = torn-state 90 _ _ 255 255 f s begun-5a (omega arith)
-header-cut d f s l h (suc (suc (suc (suc (suc zero))))) i = torn-state 90 _ _ _ 255 f s begun-5a (omega arith)
-header-cut d f s l h (suc (suc (suc (suc (suc (suc zero)))))) i = torn-state 90 _ _ _ _ f s begun-5a (omega arith)
+header-cut d f s l h (suc zero) i = torn-state 0xFF 0xFF 0xFF 0xFF 0xFF f s begun-ff (omega arith)
+header-cut d f s l h (suc (suc zero)) i = torn-state 0x5A 0xFF 0xFF 0xFF 0xFF f s begun-5a (omega arith)
+header-cut d f s l h (suc (suc (suc zero))) i = torn-state 0x5A _ 0xFF 0xFF 0xFF f s begun-5a (omega arith)
+header-cut d f s l h (suc (suc (suc (suc zero)))) i = torn-state 0x5A _ _ 0xFF 0xFF f s begun-5a (omega arith)
+header-cut d f s l h (suc (suc (suc (suc (suc zero))))) i = torn-state 0x5A _ _ _ 0xFF f s begun-5a (omega arith)
+header-cut d f s l h (suc (suc (suc (suc (suc (suc zero)))))) i = torn-state 0x5A _ _ _ _ f s begun-5a (omega arith)
 header-cut d f s l h (suc (suc (suc (suc (suc (suc (suc zero))))))) i = cut-state d 0 f (f - 8) [] s refl (omega arith) tt l h (omega arith)
 header-cut d f s l h (suc (suc (suc (suc (suc (suc (suc (suc k)))))))) i = absurd (omega arith)
 
@@ -93,7 +93,7 @@ named n c s f h =
     let d : ℕ = length c in
     let p : ℕ = pad (length n + 1) in
     let r : ℕ = f - size-of (length n) d in
-    let l : length (blanks d) ≡ d = length-replicate d 255 in
+    let l : length (blanks d) ≡ d = length-replicate d 0xFF in
     let w : length (blanks (length n + 1)) ≡ length (n ++ (0 ∷ [])) = simp (length-append, length-replicate) in
     let b : blanks (f - 8) ++ s ≡ blanks (length n + 1) ++ (blanks p ++ (blanks d ++ (blanks (pad d) ++ (blanks r ++ s)))) =
     ap (λ (z : List ℕ). z ++ s) (blank-split (length n + 1) (p + (d + (pad d + r))) (f - 8) (omega arith)
@@ -112,7 +112,7 @@ data-done n c s j m h e =
     let d : ℕ = length c in
     let p : List ℕ = header d (n ++ (0 ∷ blanks (pad (length n + 1)))) in
     let a : length p ≡ 8 + up8 (length n + 1) = simp (length-append, length-replicate) (omega arith) in
-    let l₁ : length (blanks d) ≡ d = length-replicate d 255 in
+    let l₁ : length (blanks d) ≡ d = length-replicate d 0xFF in
     let l₂ : length (take j c ++ blanks m) ≡ d = simp (length-append, length-replicate, length-take-le j c h) (omega arith) in
     rw (l₁, l₂) (simp append-assoc (simp append-assoc at (write-blank p c (blanks (pad d) ++ s) (8 + up8 (length n + 1)) j m d a h e)))
 
@@ -179,7 +179,7 @@ open-cut n c s f g h k i =
 
 -- the record of a file
 abbrev pub file : List ℕ → List ℕ → Rec
-file n c = record { low = 165; status = 252; name = n; content = c }
+file n c = record { low = 0xA5; status = 0xFC; name = n; content = c }
 
 -- all but the commit is done
 pub open-done : (n c s : List ℕ) (f : ℕ) → size-of (length n) (length c) ≤ f

@@ -64,9 +64,9 @@ f8-by : (e : Entry) → is-committed (e .it .status) ≡ false → alive e ≡ t
 unfolding is-committed alive named
 f8-by e c a = or-other (named 0xFC e) (named 0xF8 e) (ap (λ (b : Bool). b && not (empty (name-of e))) c) a
 
-fc-by : (e : Entry) → is-committed (e .it .status) ≡ true → e .it .status ≡ 252
+fc-by : (e : Entry) → is-committed (e .it .status) ≡ true → e .it .status ≡ 0xFC
 unfolding is-committed
-fc-by e c = eqb-true (e .it .status) 252 c
+fc-by e c = eqb-true (e .it .status) 0xFC c
 
 -- a record deleted
 abbrev pub gone : Entry → Entry
@@ -132,17 +132,17 @@ module _ {im : Image} {h S : ℕ} {t : Bool} (B F : ℕ) (xs ys : List Entry) (e
 
   -- it was FC: one step
   pub migrates : is-committed (e .it .status) ≡ true → empty (name-of e) ≡ false →
-      Migrated l im h S t B F xs ys e (record { at = e .at; it = restatus 248 (e .it) }) (program (e .at + 2) 248 ∷ [])
+      Migrated l im h S t B F xs ys e (record { at = e .at; it = restatus 0xF8 (e .it) }) (program (e .at + 2) 0xF8 ∷ [])
   migrates c n =
-      let o : Entry = record { at = e .at; it = restatus 248 (e .it) } in
-      let laid : Laid (set im (e .at + 2) 248) h S t (xs ++ (o ∷ ys)) seg-none (blanks B) (blanks F) = restatus-laid xs ys e d 248 st-f8 in
-      let f8 : named 0xF8 o ≡ true = named-by 248 o refl n in
+      let o : Entry = record { at = e .at; it = restatus 0xF8 (e .it) } in
+      let laid : Laid (set im (e .at + 2) 0xF8) h S t (xs ++ (o ∷ ys)) seg-none (blanks B) (blanks F) = restatus-laid xs ys e d 0xF8 st-f8 in
+      let f8 : named 0xF8 o ≡ true = named-by 0xF8 o refl n in
       let starts : Starts (xs ++ (o ∷ ys)) = starts-swap xs ys e o refl st in
       let oks : Ok (xs ++ (o ∷ ys)) l = ok-same xs ys e o l ok (f8-alive o f8 ∙ sym a) refl refl in
-      let same : length (set im (e .at + 2) 248) ≡ length im = length-set im (e .at + 2) 248 in
-      let bits : bitAnd 248 (e .it .status) ≡ 248 = subst (λ (z : ℕ). bitAnd 248 z ≡ 248) (sym (fc-by e c)) refl in
+      let same : length (set im (e .at + 2) 0xF8) ≡ length im = length-set im (e .at + 2) 0xF8 in
+      let bits : bitAnd 0xF8 (e .it .status) ≡ 0xF8 = subst (λ (z : ℕ). bitAnd 0xF8 z ≡ 0xF8) (sym (fc-by e c)) refl in
       record {
-        safe = (here, status-sound xs ys e d 248 bits, record { good = ap good-length same ∙ good; kind = quiet B F laid tl starts oks });
+        safe = (here, status-sound xs ys e d 0xF8 bits, record { good = ap good-length same ∙ good; kind = quiet B F laid tl starts oks });
         laid = laid;
         starts = starts;
         ok = oks;

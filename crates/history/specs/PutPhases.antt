@@ -31,19 +31,19 @@ use Rattle.history.specs.PutTurn.{Given, given-tail, given-zero, given, 
 pub record Written (l : Ledger) (im : Image) (h : ℕ) (es : List Entry) (n c : List ℕ) (turn : List Step) (a m : ℕ) : Type 0 where
   pub safe : Safe (Inv l) im (turn ++ moved a (open-steps n c))
   pub count : length (turn ++ moved a (open-steps n c)) ≡ 8 + length n + length c + m
-  pub sound : Sound (run im (turn ++ moved a (open-steps n c))) (program (a + 2) 252)
-  pub rest : Bare h (es ++ (record { at = a; it = file n c } ∷ [])) (apply (run im (turn ++ moved a (open-steps n c))) (program (a + 2) 252))
+  pub sound : Sound (run im (turn ++ moved a (open-steps n c))) (program (a + 2) 0xFC)
+  pub rest : Bare h (es ++ (record { at = a; it = file n c } ∷ [])) (apply (run im (turn ++ moved a (open-steps n c))) (program (a + 2) 0xFC))
 
 module _ {im : Image} {h S : ℕ} {t : Bool} {es : List Entry} (B F : ℕ) (d : Laid im h S t es seg-none (blanks B) (blanks F)) (l : Ledger)
     (good : good-length (length im) ≡ true) (st : Starts es)
     (ok : Ok es l)
     (n c : List ℕ) (nice : name-ok n ≡ true) (b : Bytes c) where
   fit-tail : size-of (length n) (length c) ≤ F → Fit (length c) n
-  fit-tail room = name-fit n (length c) nice (omega (arith, good-is (length im) good .2, laid-length d, length-replicate {A = ℕ} F 255))
+  fit-tail room = name-fit n (length c) nice (omega (arith, good-is (length im) good .2, laid-length d, length-replicate {A = ℕ} F 0xFF))
 
   fit-zero : t ≡ false → size-of (length n) (length c) ≤ B → Fit (length c) n
   fit-zero e room =
-      name-fit n (length c) nice (omega (arith, good-is (length im) good .2, laid-head d, laid-below d e, length-replicate {A = ℕ} B 255))
+      name-fit n (length c) nice (omega (arith, good-is (length im) good .2, laid-head d, laid-below d e, length-replicate {A = ℕ} B 0xFF))
 
   at-tail : size-of (length n) (length c) ≤ F → Written l im h es n c [] S 0
   at-tail room =

@@ -24,9 +24,9 @@ use Rattle.history.specs.Put.{open-steps}
 
 -- ---- a file name
 
-printable : (x : ℕ) → is-printable x ≡ true → (33 ≤ x) × (x ≤ 126)
+printable : (x : ℕ) → is-printable x ≡ true → (0x21 ≤ x) × (x ≤ 0x7E)
 unfolding is-printable
-printable x h = (leb-true 33 x (and-left (leb 33 x) (leb x 126) h), leb-true x 126 (and-right (leb 33 x) (leb x 126) h))
+printable x h = (leb-true 0x21 x (and-left (leb 0x21 x) (leb x 0x7E) h), leb-true x 0x7E (and-right (leb 0x21 x) (leb x 0x7E) h))
 
 printable-of : (n : List ℕ) → all is-printable n ≡ true → Printable n
 printable-of [] h = tt
@@ -92,7 +92,7 @@ body-sound n c s f g b h =
     let names : name-steps n ≡ bytes-at 8 w = sym (bytes-append 8 n (0 ∷ [])) in
     let after : run (header d [] ++ (blanks (f - 8) ++ s)) (name-steps n) ≡ (header d [] ++ (w ++ blanks p)) ++ (blanks m ++ s) =
     ap (λ (z : List Step). run (header d [] ++ (blanks (f - 8) ++ s)) z) names ∙ ap (λ (z : List ℕ). run (header d [] ++ z) (bytes-at 8 w)) split
-    ∙ write-over (header d []) (blanks k) w (blanks p ++ (blanks m ++ s)) 8 refl (length-replicate k 255 ∙ sym lw) ∙ simp append-assoc in
+    ∙ write-over (header d []) (blanks k) w (blanks p ++ (blanks m ++ s)) 8 refl (length-replicate k 0xFF ∙ sym lw) ∙ simp append-assoc in
     let a : length (header d [] ++ (w ++ blanks p)) ≡ 8 + up8 (length n + 1) = simp (length-append, length-replicate) (omega arith) in
     sound-append (header d [] ++ (blanks (f - 8) ++ s)) (name-steps n) (data-steps (length n) c)
     (subst (λ (z : List Step). Steps-sound (header d [] ++ (blanks (f - 8) ++ s)) z) (sym names)

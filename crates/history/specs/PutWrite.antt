@@ -40,7 +40,7 @@ seg-words (seg-held n c f) = (1 + (length n + 1 + 7) / 8 + (length c + 7) / 8, o
 
 blank-words : {im : Image} {h S : ℕ} {t : Bool} {es : List Entry} {seg : Seg} {below : List ℕ} (F : ℕ) → Laid im h S t es seg below (blanks F)
     → (f : ℕ) × (F ≡ 8 * f)
-blank-words F d = let w = free-markless d in (w .0, sym (length-replicate {A = ℕ} F 255) ∙ w .1)
+blank-words F d = let w = free-markless d in (w .0, sym (length-replicate {A = ℕ} F 0xFF) ∙ w .1)
 
 -- ---- the tail
 
@@ -56,7 +56,7 @@ left-of {h = h} {t = t} B F d = words (blank-words F d .0) (blank-words F d .1)
   where
     unturned : (k : ℕ) → floor h ≡ k → F ≡ 0 → t ≡ false → Left h t B F
     unturned zero f z e = left-N z e f
-    unturned (suc k) f z e = left-turn z e (omega (arith, length-replicate {A = ℕ} B 255, laid-below d e))
+    unturned (suc k) f z e = left-turn z e (omega (arith, length-replicate {A = ℕ} B 0xFF, laid-below d e))
 
     turned : (b : Bool) → t ≡ b → F ≡ 0 → Left h t B F
     turned true e z = left-floor z e
@@ -118,8 +118,8 @@ module _ {im : Image} {h S : ℕ} {t : Bool} {es : List Entry} (B F : ℕ) (d : 
       let x = opens-words m (o .left) w in
       let laid : Laid im′ h S t es (o .seg) (blanks B) (blanks (o .left)) =
       subst (λ (z : Image). Laid z h S t es (o .seg) (blanks B) (blanks (o .left))) (ap (λ (z : List ℕ). H .pre ++ z) (sym (o .is)) ∙ sym e)
-      (H .plug (o .seg) m (blanks (o .left)) (x .0) (length-replicate {A = ℕ} (o .left) 255 ∙ w) (markless-ff m (blanks (o .left)) (ap blanks w)) (x .1)
-      (omega (arith, o .sum, length-replicate {A = ℕ} (o .left) 255, length-replicate {A = ℕ} F 255))) in
+      (H .plug (o .seg) m (blanks (o .left)) (x .0) (length-replicate {A = ℕ} (o .left) 0xFF ∙ w) (markless-ff m (blanks (o .left)) (ap blanks w)) (x .1)
+      (omega (arith, o .sum, length-replicate {A = ℕ} (o .left) 0xFF, length-replicate {A = ℕ} F 0xFF))) in
       quiet-of B (o .left) laid (tail-of S (o .seg) (left-of B (o .left) laid) (λ i. omega (arith, ap seg-size i, o .sum))) st ok
 
   open-kind : (l : Ledger) → Starts es → Ok es l → (k : ℕ) → k ≤ 8 + length n + length c → Kind (run im (take k (moved S (open-steps n c)))) l
@@ -148,15 +148,15 @@ module _ {im : Image} {h S : ℕ} {t : Bool} {es : List Entry} (B F : ℕ) (d : 
       at-hole (hole-of d) (open-steps n c) (open-programs n c) ∙ ap (λ (z : List ℕ). hole-of d .pre ++ z) (open-done n c (hole-of d .post) F room)
 
   -- the commit only clears bits
-  pub commit-sound : Sound (run im (moved S (open-steps n c))) (program (S + 2) 252)
+  pub commit-sound : Sound (run im (moved S (open-steps n c))) (program (S + 2) 0xFC)
   commit-sound =
-      subst (λ (z : Image). Sound z (program (S + 2) 252)) (sym open-is)
-      (sound-past (hole-of d .pre) (onto (held n c) (blanks (F - size-of (length n) (length c)) ++ hole-of d .post)) (program 2 252 ∷ []) S
+      subst (λ (z : Image). Sound z (program (S + 2) 0xFC)) (sym open-is)
+      (sound-past (hole-of d .pre) (onto (held n c) (blanks (F - size-of (length n) (length c)) ++ hole-of d .post)) (program 2 0xFC ∷ []) S
           (hole-of d .at) tt ((omega arith, refl), tt) .0)
 
   -- and adds the record
   pub committed :
-      Laid (apply (run im (moved S (open-steps n c))) (program (S + 2) 252)) h (S + size-of (length n) (length c)) t
+      Laid (apply (run im (moved S (open-steps n c))) (program (S + 2) 0xFC)) h (S + size-of (length n) (length c)) t
           (es ++ (record { at = S; it = file n c } ∷ [])) seg-none (blanks B)
       (blanks (F - size-of (length n) (length c)))
   committed =
@@ -165,14 +165,14 @@ module _ {im : Image} {h S : ℕ} {t : Bool} {es : List Entry} (B F : ℕ) (d : 
       let m : ℕ = blank-words F d .0 - (1 + (length n + 1 + 7) / 8 + (length c + 7) / 8) in
       let w : left ≡ 8 * m = omega (arith, blank-words F d .1) in
       let x = opens-words m left w in
-      let e : apply (run im (moved S (open-steps n c))) (program (S + 2) 252) ≡ hole-of d .pre ++ onto (file n c) (blanks left ++ hole-of d .post) =
-      ap (λ (y : Image). set y (S + 2) 252) open-is
-          ∙ run-past (hole-of d .pre) (onto (held n c) (blanks left ++ hole-of d .post)) (program 2 252 ∷ []) S (hole-of d .at) tt in
+      let e : apply (run im (moved S (open-steps n c))) (program (S + 2) 0xFC) ≡ hole-of d .pre ++ onto (file n c) (blanks left ++ hole-of d .post) =
+      ap (λ (y : Image). set y (S + 2) 0xFC) open-is
+          ∙ run-past (hole-of d .pre) (onto (held n c) (blanks left ++ hole-of d .post)) (program 2 0xFC ∷ []) S (hole-of d .at) tt in
       subst (λ (y : Image). Laid y h (S + z) t (es ++ (record { at = S; it = file n c } ∷ [])) seg-none (blanks B) (blanks left)) (sym e)
       (hole-of d .grow (file n c) m (blanks left) (x .0) (record {
         low-ok = low-record;
         status-ok = st-fc;
         fit = g;
-      }) refl (length-replicate {A = ℕ} left 255 ∙ w)
+      }) refl (length-replicate {A = ℕ} left 0xFF ∙ w)
       (markless-ff m (blanks left) (ap blanks w)) (x .1)
-      (omega (arith, length-replicate {A = ℕ} left 255, length-replicate {A = ℕ} F 255)))
+      (omega (arith, length-replicate {A = ℕ} left 0xFF, length-replicate {A = ℕ} F 0xFF)))

@@ -61,34 +61,34 @@ module _ (k l : Ledger) (im : Image) (h : ℕ) (es : List Entry) (n c : List ℕ
   at-commit : run im (mig ++ opened) ≡ run (run im mig) opened
   at-commit = run-append im mig opened
 
-  split : mig ++ (turn ++ (moved a (record-steps n c) ++ del)) ≡ (mig ++ opened) ++ (program (a + 2) 252 ∷ del)
+  split : mig ++ (turn ++ (moved a (record-steps n c) ++ del)) ≡ (mig ++ opened) ++ (program (a + 2) 0xFC ∷ del)
   split =
       ap (λ (z : List Step). mig ++ (turn ++ (z ++ del))) (ap (moved a) (commit-last n c) ∙ moved-append a (open-steps n c) commit-steps)
       ∙ regroup mig turn (moved a (open-steps n c)) (moved a commit-steps) del
 
-  together : (left : Reading) → Safe (Inv l) (apply (run (run im mig) opened) (program (a + 2) 252)) del
-      → Rested l (run (apply (run (run im mig) opened) (program (a + 2) 252)) del) left →
+  together : (left : Reading) → Safe (Inv l) (apply (run (run im mig) opened) (program (a + 2) 0xFC)) del
+      → Rested l (run (apply (run (run im mig) opened) (program (a + 2) 0xFC)) del) left →
       left .place .head ≡ h →
       Commits k l im (mig ++ (turn ++ (moved a (record-steps n c) ++ del))) (length mig + (8 + length n + length c + m) + 1) h
   together left t r hd =
       record {
         before = mig ++ opened;
-        commit = program (a + 2) 252;
+        commit = program (a + 2) 0xFC;
         behind = del;
         is = split;
         place = ap (λ (i : ℕ). i + 1) (length-append mig opened ∙ ap (λ (i : ℕ). length mig + i) (w .count));
         safe-before = safe-append (Inv k) im mig opened s (w .safe);
-        sound = subst (λ (z : Image). Sound z (program (a + 2) 252)) (sym at-commit) (w .sound);
-        safe-behind = subst (λ (z : Image). Safe (Inv l) (apply z (program (a + 2) 252)) del) (sym at-commit) t;
+        sound = subst (λ (z : Image). Sound z (program (a + 2) 0xFC)) (sym at-commit) (w .sound);
+        safe-behind = subst (λ (z : Image). Safe (Inv l) (apply z (program (a + 2) 0xFC)) del) (sym at-commit) t;
         left = left;
         rested = subst (λ (z : Image). Rested l z left) (sym at-end) r;
         head = hd;
       }
     where
-      at-end : run im (mig ++ (turn ++ (moved a (record-steps n c) ++ del))) ≡ run (apply (run (run im mig) opened) (program (a + 2) 252)) del
+      at-end : run im (mig ++ (turn ++ (moved a (record-steps n c) ++ del))) ≡ run (apply (run (run im mig) opened) (program (a + 2) 0xFC)) del
       at-end =
-          ap (run im) split ∙ run-append im (mig ++ opened) (program (a + 2) 252 ∷ del)
-              ∙ ap (λ (z : Image). run (apply z (program (a + 2) 252)) del) at-commit
+          ap (run im) split ∙ run-append im (mig ++ opened) (program (a + 2) 0xFC ∷ del)
+              ∙ ap (λ (z : Image). run (apply z (program (a + 2) 0xFC)) del) at-commit
 
 -- the same number, written otherwise
 recount : {k l : Ledger} {im : Image} {ss : List Step} {at at′ h : ℕ} → at ≡ at′ → Commits k l im ss at h → Commits k l im ss at′ h
@@ -96,9 +96,9 @@ recount {k} {l} {im} {ss} {h = h} e c = subst (λ (a : ℕ). Commits k l im ss a
 
 -- the image that the commit leaves has a good length
 committed-good : {k : Ledger} {im : Image} {h : ℕ} {es : List Entry} {n c : List ℕ} {turn : List Step} {a m : ℕ} → Written k im h es n c turn a m →
-    good-length (length (apply (run im (turn ++ moved a (open-steps n c))) (program (a + 2) 252))) ≡ true
+    good-length (length (apply (run im (turn ++ moved a (open-steps n c))) (program (a + 2) 0xFC))) ≡ true
 committed-good {k} {im} {n = n} {c} {turn} {a} w =
-    ap good-length (length-set (run im (turn ++ moved a (open-steps n c))) (a + 2) 252)
+    ap good-length (length-set (run im (turn ++ moved a (open-steps n c))) (a + 2) 0xFC)
         ∙ safe-end (Inv k) im (turn ++ moved a (open-steps n c)) (w .safe) .good
 
 -- a new name
@@ -113,7 +113,7 @@ fresh {l} {im} {r} q n c absent nice b f =
     let w : Written l im (q .h) (q .es) n c (turn-steps p z) (address p z) (three-if (with-marker p z)) =
     written (q .B) (q .F) (q .laid) l (q .good) (q .starts) (q .ok) n c nice b p (ap (λ (y : Reading). y .place) (q .is)) (q .tail) f in
     let e : Entry = record { at = address p z; it = file n c } in
-    let fc : named 0xFC e ≡ true = named-by 252 e refl (name-some n nice) in
+    let fc : named 0xFC e ≡ true = named-by 0xFC e refl (name-some n nice) in
     let st : Starts (q .es ++ (e ∷ [])) = starts-end (q .es) e (plain-file (address p z) n c) (q .starts) in
     let ok : Ok (q .es ++ (e ∷ [])) (with-file n c l) = ok-new (q .es) e l (q .ok) (fc-alive e fc) absent nice b in
     let g = committed-good w in
@@ -144,7 +144,7 @@ module _ {l : Ledger} {im : Image} {r : Reading} (q : Rested l im r) (n c : List
       let w : Written l (run im mig) (q .h) (xs ++ (o ∷ ys)) n c (turn-steps p z) (address p z) (three-if (with-marker p z)) =
       written (q .B) (q .F) (M .laid) l (ap good-length (M .same-length) ∙ q .good) (M .starts) (M .ok) n c nice b p at (q .tail) f in
       let x : Entry = record { at = address p z; it = file n c } in
-      let fc : named 0xFC x ≡ true = named-by 252 x refl (name-some n nice) in
+      let fc : named 0xFC x ≡ true = named-by 0xFC x refl (name-some n nice) in
       let name : n ≡ name-of o = sym (M .same-name ∙ same) in
       let g = committed-good w in
       let plain = plain-file (address p z) n c in
@@ -182,14 +182,14 @@ module _ {l : Ledger} {im : Image} {r : Reading} (q : Rested l im r) (n c : List
       P : Bool → Type 0
       P y =
           Commits l (with-file n c l) im
-          ((elim y as (λ x. List Step) [ true ↦ program (e .at + 2) 248 ∷ [] | false ↦ [] ]) ++
+          ((elim y as (λ x. List Step) [ true ↦ program (e .at + 2) 0xF8 ∷ [] | false ↦ [] ]) ++
               (turn-steps (r .place) z ++ (moved (address (r .place) z) (record-steps n c) ++ (program (e .at + 2) 0 ∷ []))))
           (length n + length c + 9 + (elim y as (λ x. ℕ) [ true ↦ 1 | false ↦ 0 ]) + three-if (with-marker (r .place) z)) (q .h)
 
       go : (y : Bool) → is-committed (e .it .status) ≡ y → P (is-committed (e .it .status))
       go true k =
           subst P (sym k)
-          (recount (omega arith) (over (record { at = e .at; it = restatus 248 (e .it) }) (program (e .at + 2) 248 ∷ [])
+          (recount (omega arith) (over (record { at = e .at; it = restatus 0xF8 (e .it) }) (program (e .at + 2) 0xF8 ∷ [])
               (migrates (q .B) (q .F) xs ys e d (q .tail) l (q .good) st ok a k named-so)))
       go false k = subst P (sym k) (recount (omega arith) (over e [] (stays (q .B) (q .F) xs ys e d (q .tail) l (q .good) st ok a k)))
 

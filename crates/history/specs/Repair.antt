@@ -47,7 +47,7 @@ mend-erase im n a b l e =
         ∙ ap (map erase) (keep-yes (dirty im) a (sectors-by n (a + 4096) b) (ap not e))
 
 len-4096 : length (blanks 4096) ≡ 4096
-len-4096 = length-replicate {A = ℕ} 4096 255
+len-4096 = length-replicate {A = ℕ} 4096 0xFF
 
 -- all of them: FF
 pub mend-done : (k n a b : ℕ) (p₀ p r s : List ℕ) → length p₀ ≡ a → length p ≡ a → length r ≡ 4096 * k → a + 4096 * k ≡ b → k ≤ n → (im₀ : Image)

@@ -45,7 +45,7 @@ close-some N x y e =
     some-append (clean-steps (length (content-of x)) (data-at x) (content-of x)) (vacate-steps x y (vacated N x y))
     (some-behind (map erase (vacated N x y)) (forget-steps x (vacated N x y)) (program (y .at) 0)) e
 
-second-clean : (w : Work) (x y : Entry) (es : List Entry) → y .it .low ≡ 160
+second-clean : (w : Work) (x y : Entry) (es : List Entry) → y .it .low ≡ 0xA0
     → repair-2 w (x ∷ y ∷ es) ≡ after w (close-steps (w .reading .place .length) x y) (y .at)
 unfolding repair-2
 second-clean w x y es e = rw (repair-2, is-clean-A0 (y .it .low) e)
@@ -62,7 +62,7 @@ second-start w x y es e = rw (repair-2, is-clean-0 (y .it .low) e, is-start-0 (y
 pub mends-clean :
     {l : Ledger} {im : Image} {h S T : ℕ} (B F : ℕ) {t u : Bool} {x y : Entry} {es : List Entry} → good-length (length im) ≡ true →
     Laid im h S t (x ∷ y ∷ es) seg-none (blanks B) (blanks F) → Tail h S t seg-none (blanks B) (blanks F) T u → x .it .low ≡ 0 → alive x ≡ false
-        → y .it .low ≡ 160 → Each Unmarked es →
+        → y .it .low ≡ 0xA0 → Each Unmarked es →
     Ok (x ∷ y ∷ es) l → Mends l im
 mends-clean {l} {im} {h} {T = T} B F {u = u} {x} {y} {es} g d e a b c m o =
     let r : Reading = read (length im) h T u (x ∷ y ∷ es) Ending.Tail in
@@ -95,7 +95,7 @@ first-clean w e = rw (repair-1, e)
 pub mends-vacated :
     {l : Ledger} {im : Image} {h S T : ℕ} {t u : Bool} {x : Entry} {es : List Entry} {below free : List ℕ} → good-length (length im) ≡ true
         → Laid im h S t (x ∷ es) seg-none below free →
-    Tail h S t seg-none below free T u → tail-blank im (place im h T u) ≡ true → x .it .low ≡ 160 → Each Unmarked es → Ok (x ∷ es) l → Mends l im
+    Tail h S t seg-none below free T u → tail-blank im (place im h T u) ≡ true → x .it .low ≡ 0xA0 → Each Unmarked es → Ok (x ∷ es) l → Mends l im
 mends-vacated {l} {im} {h} {T = T} {u = u} {x} {es} g d e b a m o =
     let r : Reading = read (length im) h T u (x ∷ es) Ending.Tail in
     mends-1 {r = r} (clean-reads d e b a m (plain-ruled x es l o m)) (vacated-rests g d e b a m o)

@@ -79,16 +79,16 @@ drop-seg (seg-held n c f) s = drop-onto (held n c) s
 
 -- the head behind it
 gap-or : {b : ℕ} (at j : ℕ) (q t : List ℕ) → length q ≡ 8 * j → Markless j q → Head-low b → (at ≡ 0 → 1 ≤ j)
-    → Reaches₁ at (q ++ (b ∷ 90 ∷ t)) (b ∷ 90 ∷ t) (8 * j)
+    → Reaches₁ at (q ++ (b ∷ 0x5A ∷ t)) (b ∷ 0x5A ∷ t) (8 * j)
 gap-or at zero q t e h l n = reaches-gap at zero q t e h l (λ i. not-suc-le-zero (n i))
-gap-or {b} at (suc j) q t e h l n = reaches-markless at j q (b ∷ 90 ∷ t) e h
+gap-or {b} at (suc j) q t e h l n = reaches-markless at j q (b ∷ 0x5A ∷ t) e h
 
 -- the head behind it is reached
 pub seg-reaches : {b : ℕ} (at j : ℕ) (g : Seg) (q t : List ℕ) → length q ≡ 8 * j → Markless j q → Head-low b → (at + seg-size g ≡ 0 → 1 ≤ j) →
-    Reaches at (seg-onto g (q ++ (b ∷ 90 ∷ t))) (b ∷ 90 ∷ t) (seg-size g + 8 * j)
+    Reaches at (seg-onto g (q ++ (b ∷ 0x5A ∷ t))) (b ∷ 0x5A ∷ t) (seg-size g + 8 * j)
 seg-reaches {b} at j seg-none q t e h l n = rw (zero-add (8 * j)) (reaches-more (gap-or at j q t e h l (λ i. n (add-zero at ∙ i))))
-seg-reaches {b} at j (seg-torn c x y z w u o m) q t e h l n = reaches-more (reaches-torn at x y z w j q (b ∷ 90 ∷ t) o m e h)
+seg-reaches {b} at j (seg-torn c x y z w u o m) q t e h l n = reaches-more (reaches-torn at x y z w j q (b ∷ 0x5A ∷ t) o m e h)
 seg-reaches {b} at j (seg-cut d m f) q t e h l n =
-    reaches-begun at d m (q ++ (b ∷ 90 ∷ t)) (b ∷ 90 ∷ t) f (reaches-gap (at + size-of (length m) d) j q t e h l (λ i. omega arith))
+    reaches-begun at d m (q ++ (b ∷ 0x5A ∷ t)) (b ∷ 0x5A ∷ t) f (reaches-gap (at + size-of (length m) d) j q t e h l (λ i. omega arith))
 seg-reaches {b} at j (seg-held m c f) q t e h l n =
-    reaches-held at m c (q ++ (b ∷ 90 ∷ t)) (b ∷ 90 ∷ t) f (reaches-gap (at + size-of (length m) (length c)) j q t e h l (λ i. omega arith))
+    reaches-held at m c (q ++ (b ∷ 0x5A ∷ t)) (b ∷ 0x5A ∷ t) f (reaches-gap (at + size-of (length m) (length c)) j q t e h l (λ i. omega arith))

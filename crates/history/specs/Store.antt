@@ -57,8 +57,8 @@ f8-alive e h = rw h (or-true (named 0xFC e))
 pub fc-not-f8 : (e : Entry) → named 0xF8 e ≡ true → named 0xFC e ≡ false
 unfolding named
 fc-not-f8 e h =
-    let k : e .it .status ≡ 248 = eqb-true (e .it .status) 248 (and-left (eqb (e .it .status) 248) (not (empty (name-of e))) h) in
-    rw (ne-eqb (e .it .status) 252 (λ f. omega arith))
+    let k : e .it .status ≡ 0xF8 = eqb-true (e .it .status) 0xF8 (and-left (eqb (e .it .status) 0xF8) (not (empty (name-of e))) h) in
+    rw (ne-eqb (e .it .status) 0xFC (λ f. omega arith))
 
 doubled-none : (st : ℕ) → ((e : Entry) → named st e ≡ true → alive e ≡ true) → (es : List Entry) → Unique es → doubled st es ≡ false
 unfolding doubled has-named

@@ -34,17 +34,17 @@ pub record Straight (im : List ℕ) (a l : ℕ) (gap lost : List ℕ) (h : ℕ) 
   pub lost-small : l < 512
   pub lost-markless : Markless l lost
   -- byte 1 of the image is not 5A unless the head stands at 0
-  pub front : getD (gap ++ lost) 1 0 ≡ 90 → ⊥
+  pub front : getD (gap ++ lost) 1 0 ≡ 0x5A → ⊥
   pub fine : All-fine high
 
-front-of : (s : List ℕ) → 2 ≤ length s → (getD s 1 0 ≡ 90 → ⊥) → Front [] s
+front-of : (s : List ℕ) → 2 ≤ length s → (getD s 1 0 ≡ 0x5A → ⊥) → Front [] s
 front-of [] l h = absurd (not-suc-le-zero l)
 front-of (x ∷ []) l h = absurd (omega arith)
 front-of (x ∷ y ∷ s) l h = front-gap h
 
-second-clean : (m : List ℕ) → (getD m 1 0 ≡ 90 → ⊥) → clean-here m ≡ false
+second-clean : (m : List ℕ) → (getD m 1 0 ≡ 0x5A → ⊥) → clean-here m ≡ false
 unfolding is-high
-second-clean m h = rw (ne-eqb (getD m 1 0) 90 h) (and-false (is-clean (getD m 0 0)))
+second-clean m h = rw (ne-eqb (getD m 1 0) 0x5A h) (and-false (is-clean (getD m 0 0)))
 
 module _ {im : List ℕ} {a l : ℕ} {gap lost : List ℕ} {h : ℕ} {x : Rec} {ys : List Rec} {seg : Seg} {free : List ℕ}
     (s : Straight im a l gap lost h (x ∷ ys) seg free) where
@@ -80,7 +80,7 @@ module _ {im : List ℕ} {a l : ℕ} {gap lost : List ℕ} {h : ℕ} {x : Rec} {
   straight-start n e =
       ap head together
       ∙ head-start [] ((gap ++ lost) ++ lay (x ∷ ys) (seg-onto seg free)) (drop 2 (lay (x ∷ ys) (seg-onto seg free))) h tt tt (fronted n)
-      (subst (λ (b : ℕ). Reaches 0 ((gap ++ lost) ++ lay (x ∷ ys) (seg-onto seg free)) (b ∷ 90 ∷ drop 2 (lay (x ∷ ys) (seg-onto seg free))) h) e
+      (subst (λ (b : ℕ). Reaches 0 ((gap ++ lost) ++ lay (x ∷ ys) (seg-onto seg free)) (b ∷ 0x5A ∷ drop 2 (lay (x ∷ ys) (seg-onto seg free))) h) e
           (reached n))
       ∙ ap give (zero-add h)
 
@@ -90,27 +90,27 @@ module _ {im : List ℕ} {a l : ℕ} {gap lost : List ℕ} {h : ℕ} {x : Rec} {
       (sym (List·getD-append (gap ++ lost) (lay (x ∷ ys) (seg-onto seg free)) 0 1 (omega (arith, before-length, s .at))) ∙ e))
 
   -- CLEAN is found
-  pub straight-clean : (h ≡ 0 → ⊥) → x .low ≡ 160 → head im ≡ give h
+  pub straight-clean : (h ≡ 0 → ⊥) → x .low ≡ 0xA0 → head im ≡ give h
   straight-clean n e =
       ap head together
       ∙ head-clean [] ((gap ++ lost) ++ lay (x ∷ ys) (seg-onto seg free)) (drop 2 (lay (x ∷ ys) (seg-onto seg free))) h tt tt (fronted n)
           (not-clean n)
-      (subst (λ (b : ℕ). Reaches 0 ((gap ++ lost) ++ lay (x ∷ ys) (seg-onto seg free)) (b ∷ 90 ∷ drop 2 (lay (x ∷ ys) (seg-onto seg free))) h) e
+      (subst (λ (b : ℕ). Reaches 0 ((gap ++ lost) ++ lay (x ∷ ys) (seg-onto seg free)) (b ∷ 0x5A ∷ drop 2 (lay (x ∷ ys) (seg-onto seg free))) h) e
           (reached n))
       ∙ ap give (zero-add h)
 
   -- START at 0 is found
   pub straight-zero : h ≡ 0 → x .low ≡ 0 → head im ≡ give h
   straight-zero z e =
-      ap head (at-zero z) ∙ subst (λ (b : ℕ). head (b ∷ 90 ∷ drop 2 (lay (x ∷ ys) (seg-onto seg free))) ≡ give 0) (sym e)
+      ap head (at-zero z) ∙ subst (λ (b : ℕ). head (b ∷ 0x5A ∷ drop 2 (lay (x ∷ ys) (seg-onto seg free))) ≡ give 0) (sym e)
           (head-zero (drop 2 (lay (x ∷ ys) (seg-onto seg free)))) ∙ ap give (sym z)
 
   -- head CLEAN at 0: nothing is found
-  pub straight-none : (f : ℕ) → h ≡ 0 → x .low ≡ 160 → Walked 0 (x ∷ ys) → seg ≡ seg-none → length free ≡ 8 * f → Markless f free → head im ≡ give h
+  pub straight-none : (f : ℕ) → h ≡ 0 → x .low ≡ 0xA0 → Walked 0 (x ∷ ys) → seg ≡ seg-none → length free ≡ 8 * f → Markless f free → head im ≡ give h
   straight-none f z e w o l q =
       ap head (at-zero z) ∙ ap (λ (g : Seg). head (lay (x ∷ ys) (seg-onto g free))) o
       ∙ head-none (x ∷ ys) free (8 * f) (s .fine) w front-low
-      (subst (λ (b : ℕ). clean-here (b ∷ 90 ∷ drop 2 (lay (x ∷ ys) free)) ≡ true) (sym e) (clean-is (drop 2 (lay (x ∷ ys) free))))
+      (subst (λ (b : ℕ). clean-here (b ∷ 0x5A ∷ drop 2 (lay (x ∷ ys) free)) ≡ true) (sym e) (clean-is (drop 2 (lay (x ∷ ys) free))))
           (omega (arith, length-lay (x ∷ ys) free))
       (reaches-more (reaches-end (sizes (x ∷ ys)) f free l q))
       ∙ ap give (sym z)

@@ -18,13 +18,13 @@ use Rattle.history.specs.Seg.{seg-none}
 use Rattle.history.specs.Straight.{Straight}
 
 -- the second byte is FF, so no record stands at 0
-pub second-ff : (n : ℕ) (p q : List ℕ) → 2 ≤ n → getD ((blanks n ++ p) ++ q) 1 0 ≡ 90 → ⊥
+pub second-ff : (n : ℕ) (p q : List ℕ) → 2 ≤ n → getD ((blanks n ++ p) ++ q) 1 0 ≡ 0x5A → ⊥
 second-ff zero p q h e = not-suc-le-zero h
 second-ff (suc zero) p q h e = omega arith
 second-ff (suc (suc n)) p q h e = omega arith
 
-front-keep : (gap lost D L : List ℕ) (a : ℕ) → length gap ≡ 4096 * a → (getD (gap ++ lost) 1 0 ≡ 90 → ⊥) → (getD (D ++ L) 1 0 ≡ 90 → ⊥)
-    → getD ((gap ++ D) ++ L) 1 0 ≡ 90 → ⊥
+front-keep : (gap lost D L : List ℕ) (a : ℕ) → length gap ≡ 4096 * a → (getD (gap ++ lost) 1 0 ≡ 0x5A → ⊥) → (getD (D ++ L) 1 0 ≡ 0x5A → ⊥)
+    → getD ((gap ++ D) ++ L) 1 0 ≡ 0x5A → ⊥
 front-keep [] lost D L a l f g = g
 front-keep (x ∷ []) lost D L a l f g = absurd (omega arith)
 front-keep (x ∷ y ∷ gap) lost D L a l f g = f

@@ -36,10 +36,10 @@ use Rattle.history.specs.Handover.{hands-over}
 -- ---- remove
 
 -- remove's one step
-pub remove-keeps :
+pub remove-step :
     {l : Ledger} {im : Image} {r : Reading} (n : List ℕ) (e : Entry) → Rested l im r → file-named n (r .entries) ≡ some e →
     Sound im (status-step e 0) × Inv (without n l) (run im (status-step e 0 ∷ []))
-remove-keeps {l} {im} {r} n e q f = go (old-file n (q .es) l (q .ok)) (sym (ap (λ (y : Reading). file-named n (y .entries)) (q .is)) ∙ f)
+remove-step {l} {im} {r} n e q f = go (old-file n (q .es) l (q .ok)) (sym (ap (λ (y : Reading). file-named n (y .entries)) (q .is)) ∙ f)
   where
     at : (xs ys : List Entry) → q .es ≡ xs ++ (e ∷ ys) → alive e ≡ true → name-of e ≡ n → Sound im (status-step e 0)
         × Inv (without n l) (run im (status-step e 0 ∷ []))
@@ -68,8 +68,8 @@ record Done (l : Ledger) (im : Image) (w : Work) : Type 0 where
   pub rested : Rested l (w .image) (w .reading)
 
 two-on : (w : Work) (x y : Entry) (es : List Entry) → w .reading .entries ≡ x ∷ y ∷ es →
-    moved-on w ≡ reread w (program (y .at) 160 ∷ close-steps (w .reading .place .length) x y)
-        (run (w .image) (program (y .at) 160 ∷ close-steps (w .reading .place .length) x y)) (y .at)
+    moved-on w ≡ reread w (program (y .at) 0xA0 ∷ close-steps (w .reading .place .length) x y)
+        (run (w .image) (program (y .at) 0xA0 ∷ close-steps (w .reading .place .length) x y)) (y .at)
 unfolding hand-over after
 two-on w x y es e = ap (hand-over w) e
 
@@ -79,9 +79,9 @@ moved-done l im w d f =
     let q : Rested l (w .image) (w .reading) = d .rested in
     let N : w .reading .place .length ≡ length (w .image) = ap (λ (r : Reading). r .place .length) (q .is) in
     let e : w .reading .entries ≡ f .x ∷ f .y ∷ f .rest = ap (λ (r : Reading). r .entries) (q .is) ∙ f .is in
-    let ss : List Step = program (f .y .at) 160 ∷ close-steps (w .reading .place .length) (f .x) (f .y) in
+    let ss : List Step = program (f .y .at) 0xA0 ∷ close-steps (w .reading .place .length) (f .x) (f .y) in
     let p : Rests l (w .image) ss (f .y .at) =
-    subst (λ (n : ℕ). Rests l (w .image) (program (f .y .at) 160 ∷ close-steps n (f .x) (f .y)) (f .y .at)) (sym N)
+    subst (λ (n : ℕ). Rests l (w .image) (program (f .y .at) 0xA0 ∷ close-steps n (f .x) (f .y)) (f .y .at)) (sym N)
         (hands-over q (f .x) (f .y) (f .rest) (f .is) (f .dead)) in
     subst (Done l im) (sym (two-on w (f .x) (f .y) (f .rest) e))
     (record {

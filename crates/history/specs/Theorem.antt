@@ -30,7 +30,7 @@ use Rattle.history.specs.Settled.{rested-reads}
 use Rattle.history.specs.Puts.{Commits, put-commits}
 use Rattle.history.specs.Mending.{Mends}
 use Rattle.history.specs.Mounts.{mends}
-use Rattle.history.specs.Sweeps.{moves-safe, remove-keeps}
+use Rattle.history.specs.Sweeps.{moves-safe, remove-step}
 use Rattle.history.specs.Induction.{still-keeps, demand-by, carried-done, carried-cut}
 use Rattle.history.specs.Formats.{formatted}
 use Rattle.history.specs.Calls.{Puts, put-no, put-yes, puts-of, Finds, find-no, find-yes, finds-of, Swept, sweep-no, sweep-yes, swept-of, get-none, list-none}
@@ -177,19 +177,19 @@ remove-is : (n : List ℕ) (im : Image) → remove-plan n im ≡ file-plan n rem
 unfolding remove-plan
 remove-is n im = refl
 
-remove-call : (im : Image) (l : Ledger) (n : List ℕ) (k : ℕ) → Inv l im → Keeps im l (Request.remove n) k (remove-plan n im)
-remove-call im l n k i = subst (Keeps im l (Request.remove n) k) (sym (remove-is n im)) (go (finds-of l im n removing i))
+remove-keeps : (im : Image) (l : Ledger) (n : List ℕ) (k : ℕ) → Inv l im → Keeps im l (Request.remove n) k (remove-plan n im)
+remove-keeps im l n k i = subst (Keeps im l (Request.remove n) k) (sym (remove-is n im)) (go (finds-of l im n removing i))
   where
     go : Finds l im n removing → Keeps im l (Request.remove n) k (file-plan n removing im)
     go (find-no r) = subst (Keeps im l (Request.remove n) k) (sym (r .is)) (remove-refused im l n k (r .number) i (r .not-done))
-    go (find-yes r x q f e) = subst (Keeps im l (Request.remove n) k) (sym e) (remove-given im l n k x i (remove-keeps n x q f .1))
+    go (find-yes r x q f e) = subst (Keeps im l (Request.remove n) k) (sym e) (remove-given im l n k x i (remove-step n x q f .1))
 
 remove-sound : (im : Image) (l : Ledger) (n : List ℕ) → Inv l im → Steps-sound im (steps-of (remove-plan n im))
 remove-sound im l n i = subst (λ (p : Answer Plan). Steps-sound im (steps-of p)) (sym (remove-is n im)) (go (finds-of l im n removing i))
   where
     go : Finds l im n removing → Steps-sound im (steps-of (file-plan n removing im))
     go (find-no r) = subst (λ (p : Answer Plan). Steps-sound im (steps-of p)) (sym (r .is)) tt
-    go (find-yes r x q f e) = subst (λ (p : Answer Plan). Steps-sound im (steps-of p)) (sym e) (remove-keeps n x q f .0, tt)
+    go (find-yes r x q f e) = subst (λ (p : Answer Plan). Steps-sound im (steps-of p)) (sym e) (remove-step n x q f .0, tt)
 
 -- ---- calls that leave the ledger as it is
 
@@ -237,7 +237,7 @@ mounts im l i k h =
 keeps-by : (im : Image) (l : Ledger) (r : Request) (k : ℕ) → Inv l im → Bytes-put r → Keeps im l r k (plan im r)
 unfolding fed
 keeps-by im l (Request.put n c) k i b = put-keeps im l n c k i b
-keeps-by im l (Request.remove n) k i b = remove-call im l n k i
+keeps-by im l (Request.remove n) k i b = remove-keeps im l n k i
 keeps-by im l Request.sweep k i b = still-keeps Inv im l (record { request = Request.sweep; allowance = k }) (sweep-safe im l i) refl
 keeps-by im l Request.mount k i b = still-keeps Inv im l (record { request = Request.mount; allowance = k }) (mount-safe im l i) refl
 keeps-by im l (Request.get n) k i b =

@@ -55,7 +55,7 @@ pub record Turned (im : List ℕ) (a l : ℕ) (lost : List ℕ) (h : ℕ) (low :
   pub walked : Walked 0 low
   pub fine-high : All-fine high
 
-ff-not : _≡_ {A = ℕ} 255 90 → ⊥
+ff-not : _≡_ {A = ℕ} 0xFF 0x5A → ⊥
 ff-not e = omega arith
 
 -- at 0 a record, FF, or something unfinished
@@ -106,9 +106,9 @@ module _ {im : List ℕ} {a l : ℕ} {lost : List ℕ} {h : ℕ} {low : List Rec
   word-count = length-append free lost ∙ omega (arith, s .free-length, s .lost-length)
 
   reached : {b : ℕ} → x .low ≡ b → Head-low b
-      → Reaches (sizes low) (seg-onto seg ((free ++ lost) ++ rest)) (b ∷ 90 ∷ drop 2 rest) (seg-size seg + 8 * (f + l))
+      → Reaches (sizes low) (seg-onto seg ((free ++ lost) ++ rest)) (b ∷ 0x5A ∷ drop 2 rest) (seg-size seg + 8 * (f + l))
   reached {b} e k =
-      subst (λ (c : ℕ). Reaches (sizes low) (seg-onto seg ((free ++ lost) ++ (c ∷ 90 ∷ drop 2 rest))) (b ∷ 90 ∷ drop 2 rest)
+      subst (λ (c : ℕ). Reaches (sizes low) (seg-onto seg ((free ++ lost) ++ (c ∷ 0x5A ∷ drop 2 rest))) (b ∷ 0x5A ∷ drop 2 rest)
           (seg-size seg + 8 * (f + l))) (sym e)
       (seg-reaches (sizes low) (f + l) seg (free ++ lost) (drop 2 rest) word-count
           (markless-append f l free lost (s .free-length) (s .free-markless) (s .lost-markless)) k
@@ -127,7 +127,7 @@ module _ {im : List ℕ} {a l : ℕ} {lost : List ℕ} {h : ℕ} {low : List Rec
       ∙ ap give (omega (arith, s .below, s .at))
 
   -- CLEAN is found, if none stands at 0
-  pub turned-clean : x .low ≡ 160 → clean-here im ≡ false → head im ≡ give h
+  pub turned-clean : x .low ≡ 0xA0 → clean-here im ≡ false → head im ≡ give h
   turned-clean e c =
       ap head seg-whole ∙ head-clean low (seg-onto seg ((free ++ lost) ++ rest)) (drop 2 rest) (seg-size seg + 8 * (f + l)) (s .fine-low) (s .walked)
           fronted (sym (ap clean-here seg-whole) ∙ c)

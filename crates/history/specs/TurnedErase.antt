@@ -125,7 +125,7 @@ module _ {im : List ℕ} {a l : ℕ} {lost : List ℕ} {h : ℕ} {low : List Rec
         fine = s .fine-low;
       }
     where
-      zero-not : _≡_ {A = ℕ} 0 90 → ⊥
+      zero-not : _≡_ {A = ℕ} 0 0x5A → ⊥
       zero-not e = omega arith
 
   -- and its free run has no mark: so nothing is found, and CLEAN at 0 is the head

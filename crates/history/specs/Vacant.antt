@@ -134,7 +134,7 @@ pub vacant-at : {im : Image} {h S : ℕ} {t : Bool} {es : List Entry} {below fre
     Vacant h S t es im
 vacant-at {S = S} {below = below} {free} d n s e h =
     let m : ℕ = floor S + 4096 - S in
-    let k : length (blanks n) ≡ n = length-replicate {A = ℕ} n 255 in
+    let k : length (blanks n) ≡ n = length-replicate {A = ℕ} n 0xFF in
     record {
       below = below;
       free = free;
@@ -214,7 +214,7 @@ pub relow-alive : (x : Entry) (b : ℕ) → alive (record { at = x .at; it = rel
 unfolding alive named
 relow-alive x b = refl
 
-module _ {l : Ledger} {h : ℕ} {im : Image} {x : Entry} {es : List Entry} (g : good-length (length im) ≡ true) (c : x .it .low ≡ 160)
+module _ {l : Ledger} {h : ℕ} {im : Image} {x : Entry} {es : List Entry} (g : good-length (length im) ≡ true) (c : x .it .low ≡ 0xA0)
     (u : Each Unmarked es) (o : Ok (x ∷ es) l) where
   -- the kind vacated
   pub vacant-inv : {S : ℕ} {t : Bool} → Vacant h S t (x ∷ es) im → Inv l im
@@ -224,7 +224,7 @@ module _ {l : Ledger} {h : ℕ} {im : Image} {x : Entry} {es : List Entry} (g : 
   unfolding tail-blank
   clean-bare-inv b =
       let L : limit (place im h (b .S) (b .t)) ≡ b .S + length (blanks (b .F)) = limit-is (b .laid) in
-      let k : length (blanks (b .F)) ≡ b .F = length-replicate {A = ℕ} (b .F) 255 in
+      let k : length (blanks (b .F)) ≡ b .F = length-replicate {A = ℕ} (b .F) 0xFF in
       record {
         good = g;
         kind = vacated (b .laid) (b .tail)

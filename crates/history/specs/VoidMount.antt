@@ -61,7 +61,7 @@ retail {S = S} z n (tail-floor f b e k) = tail-floor f b (e ∙ ap (λ (m : ℕ)
 retail {S = S} z n (tail-N f b w e k) = tail-N f b w (e ∙ ap (λ (m : ℕ). S + m) (sym z)) k
 retail z n (tail-turn s f b m w e k) = tail-turn s f b n w e k
 
-plain-unmarked : (e : Entry) → e .it .low ≡ 165 → Unmarked e
+plain-unmarked : (e : Entry) → e .it .low ≡ 0xA5 → Unmarked e
 unfolding is-start is-clean
 plain-unmarked e k = rw k
 

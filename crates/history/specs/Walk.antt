@@ -24,8 +24,8 @@ use Rattle.history.specs.Markless.{Markless, no-record, no-clean, no-sta
 
 -- the low bytes that the walk steps over at an address
 pub data Walks : ℕ → ℕ → Type 0 where
-  walks-record : {at : ℕ} → Walks at 165
-  walks-clean : Walks 0 160
+  walks-record : {at : ℕ} → Walks at 0xA5
+  walks-clean : Walks 0 0xA0
 
 -- records that the walk steps over
 abbrev pub Walked : ℕ → List Rec → Type 0
@@ -48,18 +48,18 @@ walk-torn k at s e = rw (walk, e)
 not-torn : {st : ℕ} (b c : ℕ) (s : List ℕ) → Stat st → torn-here (b ∷ c ∷ st ∷ s) ≡ false
 not-torn b c s t = rw (stat-is t .0)
 
-walks-low : {at b : ℕ} → Walks at b → ((is-record b && is-high 90) || (eqb at 0 && (is-clean b && is-high 90))) ≡ true
+walks-low : {at b : ℕ} → Walks at b → ((is-record b && is-high 0x5A) || (eqb at 0 && (is-clean b && is-high 0x5A))) ≡ true
 unfolding is-record is-high is-clean
 walks-low walks-record = refl
 walks-low walks-clean = refl
 
-steps-over : {at b st : ℕ} (s : List ℕ) → Walks at b → Stat st → walk-next at (b ∷ 90 ∷ st ∷ s) ≡ record-at false (b ∷ 90 ∷ st ∷ s)
+steps-over : {at b st : ℕ} (s : List ℕ) → Walks at b → Stat st → walk-next at (b ∷ 0x5A ∷ st ∷ s) ≡ record-at false (b ∷ 0x5A ∷ st ∷ s)
 unfolding walk-next
 steps-over s w t = rw (walk-next, stat-is t .0, walks-low w, stat-is t .1)
 
 walk-onto : (r : Rec) (k at : ℕ) (s : List ℕ) → Fine r → Walks at (r .low) → walk (suc k) at (onto r s) ≡ walk k (at + rsize r) s
 walk-onto r k at s f w =
-    walk-over k at (length (r .name)) (length (r .content)) (onto r s) (not-torn (r .low) 90 (drop 3 (onto r s)) (f .status-ok))
+    walk-over k at (length (r .name)) (length (r .content)) (onto r s) (not-torn (r .low) 0x5A (drop 3 (onto r s)) (f .status-ok))
     (steps-over (drop 3 (onto r s)) w (f .status-ok) ∙ record-at-onto false r s (f .fit))
     ∙ ap (walk k (at + rsize r)) (drop-onto r s)
 
@@ -72,18 +72,18 @@ walk-lay (r ∷ rs) k at s f w =
 
 -- ---- "a reserved record is stepped over by its finished size"
 
-reserved-not-torn : (s : List ℕ) → torn-here (165 ∷ 90 ∷ 254 ∷ s) ≡ false
+reserved-not-torn : (s : List ℕ) → torn-here (0xA5 ∷ 0x5A ∷ 0xFE ∷ s) ≡ false
 unfolding is-erased
 reserved-not-torn s = refl
 
-over-reserved : (at : ℕ) (s : List ℕ) → walk-next at (165 ∷ 90 ∷ 254 ∷ s) ≡ record-at true (165 ∷ 90 ∷ 254 ∷ s)
+over-reserved : (at : ℕ) (s : List ℕ) → walk-next at (0xA5 ∷ 0x5A ∷ 0xFE ∷ s) ≡ record-at true (0xA5 ∷ 0x5A ∷ 0xFE ∷ s)
 unfolding walk-next is-record is-high is-erased is-reserved
 over-reserved at s = refl
 
-walk-reserved : (k at n d : ℕ) (u s : List ℕ) → record-at true (165 ∷ 90 ∷ 254 ∷ u) ≡ Next.Record n d
-    → drop (size-of n d) (165 ∷ 90 ∷ 254 ∷ u) ≡ s → walk (suc k) at (165 ∷ 90 ∷ 254 ∷ u) ≡ walk k (at + size-of n d) s
+walk-reserved : (k at n d : ℕ) (u s : List ℕ) → record-at true (0xA5 ∷ 0x5A ∷ 0xFE ∷ u) ≡ Next.Record n d
+    → drop (size-of n d) (0xA5 ∷ 0x5A ∷ 0xFE ∷ u) ≡ s → walk (suc k) at (0xA5 ∷ 0x5A ∷ 0xFE ∷ u) ≡ walk k (at + size-of n d) s
 walk-reserved k at n d u s e f =
-    walk-over k at n d (165 ∷ 90 ∷ 254 ∷ u) (reserved-not-torn u) (over-reserved at u ∙ e) ∙ ap (walk k (at + size-of n d)) f
+    walk-over k at n d (0xA5 ∷ 0x5A ∷ 0xFE ∷ u) (reserved-not-torn u) (over-reserved at u ∙ e) ∙ ap (walk k (at + size-of n d)) f
 
 -- over a record whose name was not ended
 pub walk-begun : (k at d : ℕ) (n s : List ℕ) → Fit d n → walk (suc k) at (begun d n s) ≡ walk k (at + size-of (length n) d) s
@@ -121,7 +121,7 @@ markless-bad at s e = bad-next at s (rw (no-record s e, no-clean s e, and-false 
 -- the first byte of a head
 pub data Head-low : ℕ → Type 0 where
   is-START : Head-low 0
-  is-CLEAN : Head-low 160
+  is-CLEAN : Head-low 0xA0
 
 -- nothing unfinished before what has no mark: torn-like data makes the walk end 8 further
 pub lands-markless : (at : ℕ) (s : List ℕ) → mark-here s ≡ false → (torn-here s ≡ false) → Lands₁ at 0 s s
@@ -131,34 +131,34 @@ lands-markless at s e t = record { lands = λ k. walk-halt k at s t (markless-ba
 pub lands-torn-like : (at : ℕ) (s : List ℕ) → (torn-here s ≡ true) → Lands₁ at 8 s (drop 8 s)
 lands-torn-like at s t = record { lands = λ k. walk-torn k at s t; there = refl }
 
-START-torn : (st : ℕ) → (is-erased st && is-record 0 && is-high-begun 90) ≡ false
+START-torn : (st : ℕ) → (is-erased st && is-record 0 && is-high-begun 0x5A) ≡ false
 unfolding is-record
 START-torn st = rw (and-false (is-erased st))
 
-START-walk : (at st : ℕ) → (not (is-erased st) && ((is-record 0 && is-high 90) || (eqb at 0 && (is-clean 0 && is-high 90)))) ≡ false
+START-walk : (at st : ℕ) → (not (is-erased st) && ((is-record 0 && is-high 0x5A) || (eqb at 0 && (is-clean 0 && is-high 0x5A)))) ≡ false
 unfolding is-record is-clean
 START-walk at st = rw (and-false (eqb at 0)) (and-false (not (is-erased st)))
 
-CLEAN-torn : (st : ℕ) → (is-erased st && is-record 160 && is-high-begun 90) ≡ false
+CLEAN-torn : (st : ℕ) → (is-erased st && is-record 0xA0 && is-high-begun 0x5A) ≡ false
 unfolding is-record
 CLEAN-torn st = rw (and-false (is-erased st))
 
 CLEAN-walk : (at st : ℕ) → (at ≡ 0 → ⊥)
-    → (not (is-erased st) && ((is-record 160 && is-high 90) || (eqb at 0 && (is-clean 160 && is-high 90)))) ≡ false
+    → (not (is-erased st) && ((is-record 0xA0 && is-high 0x5A) || (eqb at 0 && (is-clean 0xA0 && is-high 0x5A)))) ≡ false
 unfolding is-record
 CLEAN-walk at st h = rw (ne-eqb at 0 h) (and-false (not (is-erased st)))
 
 -- the head itself stands where the records end
-pub lands-head : {b : ℕ} (at : ℕ) (t : List ℕ) → Head-low b → (at ≡ 0 → ⊥) → Lands₁ at 0 (b ∷ 90 ∷ t) (b ∷ 90 ∷ t)
+pub lands-head : {b : ℕ} (at : ℕ) (t : List ℕ) → Head-low b → (at ≡ 0 → ⊥) → Lands₁ at 0 (b ∷ 0x5A ∷ t) (b ∷ 0x5A ∷ t)
 lands-head at t is-START h =
     record {
-      lands = λ k. walk-halt k at (0 ∷ 90 ∷ t) (START-torn (getD t 0 0)) (bad-next at (0 ∷ 90 ∷ t) (START-walk at (getD t 0 0))) ∙ sym (add-zero at);
+      lands = λ k. walk-halt k at (0 ∷ 0x5A ∷ t) (START-torn (getD t 0 0)) (bad-next at (0 ∷ 0x5A ∷ t) (START-walk at (getD t 0 0))) ∙ sym (add-zero at);
       there = refl;
     }
 lands-head at t is-CLEAN h =
     record {
       lands =
-          λ k. walk-halt k at (160 ∷ 90 ∷ t) (CLEAN-torn (getD t 0 0)) (bad-next at (160 ∷ 90 ∷ t) (CLEAN-walk at (getD t 0 0) h))
+          λ k. walk-halt k at (0xA0 ∷ 0x5A ∷ t) (CLEAN-torn (getD t 0 0)) (bad-next at (0xA0 ∷ 0x5A ∷ t) (CLEAN-walk at (getD t 0 0) h))
               ∙ sym (add-zero at);
       there = refl;
     }
@@ -176,7 +176,7 @@ search-hit : (k at : ℕ) (s : List ℕ) → (start-here s || clean-here s) ≡ 
 unfolding search
 search-hit k at s e = rw (search, e)
 
-head-low-hit : {b : ℕ} (t : List ℕ) → Head-low b → (start-here (b ∷ 90 ∷ t) || clean-here (b ∷ 90 ∷ t)) ≡ true
+head-low-hit : {b : ℕ} (t : List ℕ) → Head-low b → (start-here (b ∷ 0x5A ∷ t) || clean-here (b ∷ 0x5A ∷ t)) ≡ true
 unfolding is-start is-clean is-high
 head-low-hit t is-START = refl
 head-low-hit t is-CLEAN = refl
@@ -202,11 +202,11 @@ search-through (suc j) k at g s e q =
 
 -- the search stops at the first START or CLEAN
 pub search-found : {b : ℕ} (j k at : ℕ) (g t : List ℕ) → length g ≡ 8 * j → Markless j g → Head-low b → j < k
-    → search k at (g ++ (b ∷ 90 ∷ t)) ≡ at + 8 * j
+    → search k at (g ++ (b ∷ 0x5A ∷ t)) ≡ at + 8 * j
 search-found {b} j k at g t e q h l =
     let i : k ≡ j + suc (k - suc j) = omega arith in
-    ap (λ (m : ℕ). search m at (g ++ (b ∷ 90 ∷ t))) i ∙ search-through j (suc (k - suc j)) at g (b ∷ 90 ∷ t) e q
-        ∙ search-hit (k - suc j) (at + 8 * j) (b ∷ 90 ∷ t) (head-low-hit t h)
+    ap (λ (m : ℕ). search m at (g ++ (b ∷ 0x5A ∷ t))) i ∙ search-through j (suc (k - suc j)) at g (b ∷ 0x5A ∷ t) e q
+        ∙ search-hit (k - suc j) (at + 8 * j) (b ∷ 0x5A ∷ t) (head-low-hit t h)
 
 -- the search finds nothing
 pub search-none : (j k at : ℕ) (g : List ℕ) → length g ≡ 8 * j → Markless j g → j < k → search k at g ≡ at + 8 * j

@@ -32,7 +32,7 @@ unfolding is-clean
 is-clean-0 b e = rw e
 
 -- CLEAN
-pub is-clean-A0 : (b : ℕ) → b ≡ 160 → is-clean b ≡ true
+pub is-clean-A0 : (b : ℕ) → b ≡ 0xA0 → is-clean b ≡ true
 unfolding is-clean
 is-clean-A0 b e = rw e
 
