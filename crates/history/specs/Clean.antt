@@ -1,4 +1,4 @@
--- Step (c) of a move: the marks in X's data are cleared, word by word; at the end the data has its place and length, and no mark.
+-- Step (c) of a move on bytes: the marks in X's data are cleared, word by word; at the end the data has its place and length, and no mark.
 use Prim.Native.Nat.{ℕ, zero, suc, _+_, _*_, _≤_, _<_}
 use native.Mathlib.Omega.{arith}
 use native.Mathlib.Nat.{not-suc-le-zero}
@@ -35,6 +35,7 @@ clean-miss : (k a : ℕ) (s : List ℕ) → mark-here s ≡ false → clean-step
 unfolding clean-steps
 clean-miss k a s e = ap (λ (ss : List Step). ss ++ clean-steps k (a + 8) (drop 8 s)) (mark-miss a s e)
 
+-- a mark is two bytes
 pub mark-long : (s : List ℕ) → mark-here s ≡ true → 2 ≤ length s
 unfolding is-high
 mark-long [] e = absurd (not-both (mark-here []) (and-false (is-start 0 || is-clean 0 || is-record 0)) e)
@@ -45,7 +46,7 @@ set-in : (p s q : List ℕ) (a : ℕ) → length p ≡ a → 2 ≤ length s → 
 set-in p s q a e l =
     ap (λ (n : ℕ). set (p ++ (s ++ q)) (n + 1) 0) (sym e) ∙ set-past p (s ++ q) 1 0 ∙ ap (λ (m : List ℕ). p ++ m) (set-append-left s q 1 0 l)
 
--- all of (c): no mark is left
+-- what (c) leaves of the bytes s between p and q: as many bytes, with no mark in k words
 pub record Clean-now (k : ℕ) (p s q l : List ℕ) : Type 0 where
   pub now : List ℕ
   pub is : l ≡ p ++ (now ++ q)

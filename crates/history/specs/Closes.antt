@@ -1,4 +1,4 @@
--- Steps (c) to (f) of a move, cut anywhere, and what mount does with the images that they leave.
+-- What is left of a move, cut anywhere: steps (c) to (f) together, the last step alone, and repair 1. Each leaves a rested image (Rests).
 use Prim.Native.Nat.{ℕ, zero, suc, _+_, _≤_}
 use native.Mathlib.Omega.{arith}
 use mathlib.Core.Path.{_≡_, refl, sym, ap, _∙_, subst, subst₂}

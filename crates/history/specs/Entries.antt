@@ -1,4 +1,4 @@
--- Records with their addresses: one list behind another, and an entry among them.
+-- Records with their addresses: one list behind another, and one entry among them, which may be replaced by a record of its size.
 use Prim.Native.Nat.{ℕ, _+_}
 use native.Mathlib.Omega.{arith}
 use native.Mathlib.Nat.{add-zero, add-assoc}

@@ -1,4 +1,5 @@
--- Erasing sector by sector, cut anywhere: what is left has no mark if it had none from its second sector on.
+-- Sectors erased one after another, cut anywhere: what is left has no mark if it had none from its second sector on. Then the old head
+-- of a move, which is what is erased; and what a good length says.
 use Prim.Native.Nat.{ℕ, zero, suc, _+_, _-_, _*_, _≤_, _<_, _%_, _/_}
 use native.Mathlib.Omega.{arith}
 use native.Mathlib.Nat.{not-suc-le-zero}
@@ -45,6 +46,7 @@ pub sector-is : sector ≡ blanks 4096
 unfolding sector
 sector-is = refl
 
+-- it has 4,096 bytes
 pub length-sector : length sector ≡ 4096
 unfolding sector
 length-sector = refl
@@ -91,6 +93,7 @@ take-erases zero k a h = refl
 take-erases (suc i) zero a h = absurd (not-suc-le-zero h)
 take-erases (suc i) (suc k) a h = ap (λ (m : List Step). erase a ∷ m) (take-erases i k (a + 4096) (omega arith))
 
+-- there are k of them
 pub length-erases : (a k : ℕ) → length (erases a k) ≡ k
 length-erases a zero = refl
 length-erases a (suc k) = ap suc (length-erases (a + 4096) k)

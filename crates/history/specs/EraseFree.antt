@@ -96,7 +96,7 @@ module _ {s : List ℕ} {j : ℕ} (c : Cut s j) where
 
 -- ---- one erase of a vacant image
 
--- the sectors that repair 1 may erase: those below the head, and those of the run at T, which ends at lim
+-- the sectors that repair 1 may erase: those below the head's, and those behind T up to lim, where the stretch of T ends
 data Erasable (h S lim : ℕ) (t : Bool) (z : ℕ) : Type 0 where
   low-sector : t ≡ false → z % 4096 ≡ 0 → z + 4096 ≤ floor h → Erasable h S lim t z
   high-sector : z % 4096 ≡ 0 → ceiling S ≤ z → z + 4096 ≤ lim → Erasable h S lim t z

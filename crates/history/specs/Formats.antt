@@ -1,4 +1,4 @@
--- A finished format leaves a quiet image with no files.
+-- A finished format leaves a quiet image with no files: the start of every history.
 use Prim.Native.Nat.{ℕ, _+_, _-_, _*_, _/_, _%_, _≤_}
 use native.Mathlib.Omega.{arith}
 use mathlib.Core.Path.{_≡_, refl, sym, ap, ap₂, _∙_, subst}

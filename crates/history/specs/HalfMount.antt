@@ -1,4 +1,4 @@
--- Mount on a wrap marker that was begun: it is finished, and the chain has turned.
+-- Mount on the kind half, a wrap marker that was begun: it is finished, and the chain has turned.
 use Prim.Native.Nat.{ℕ, _+_, _*_, _≤_}
 use native.Mathlib.Omega.{arith}
 use mathlib.Core.Path.{_≡_, refl, sym, ap, ap₂, _∙_, subst}

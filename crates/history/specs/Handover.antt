@@ -1,4 +1,4 @@
--- Steps (b) to (f) of a move, from a rested image with a dead head: cut anywhere it keeps the files, at the end it is rested and the head is Y.
+-- Steps (b) to (f) of a move, from a rested image with a dead head: cut anywhere the files stay, at the end it is rested and the head is Y.
 use Prim.Native.Nat.{ℕ, _+_}
 use native.Mathlib.Omega.{arith}
 use mathlib.Core.Path.{_≡_, refl, sym, ap, _∙_, subst}

@@ -1,4 +1,5 @@
--- The head is found, whatever stands between the records at the front and the head, as long as it has no mark.
+-- The head is found, whatever stands between the records at the front and the head, as long as it has no mark: a START, a CLEAN, or,
+-- with none found, a CLEAN at 0.
 use Prim.Native.Nat.{ℕ, zero, suc, _+_, _-_, _*_, _≤_}
 use native.Mathlib.Omega.{arith}
 use native.Mathlib.Nat.{zero-add, add-assoc}
@@ -81,6 +82,7 @@ Reaches₁ at s t m = Reaching Lands₁ at s t m
 abbrev pub Reaches : ℕ → List ℕ → List ℕ → ℕ → Type 0
 Reaches at s t m = Reaching Lands at s t m
 
+-- more fuel
 pub reaches-more : {at m : ℕ} {s t : List ℕ} → Reaches₁ at s t m → Reaches at s t m
 reaches-more r = record { by = r .by; g = r .g; j = r .j; land = lands-more (r .land); whole = r .whole; markless = r .markless; far = r .far }
 
@@ -174,13 +176,13 @@ pub reaches-held : {m : ℕ} (at : ℕ) (n c s t : List ℕ) → Fit (length c) 
 reaches-held at n c s t f r =
     reaches-over at (size-of (length n) (length c)) (onto (held n c) s) s t (λ k. walk-held k at n c s f) (drop-onto (held n c) s) r
 
--- ---- the theorem
+-- ---- the head is found
 
 -- how the image begins: with a record, or with bytes whose second is not 5A
 pub data Front : List Rec → List ℕ → Type 0 where
   front-low : {r : Rec} {rs : List Rec} {s : List ℕ} → Front (r ∷ rs) s
   front-gap : {x y : ℕ} {s : List ℕ} → (y ≡ 0x5A → ⊥) → Front [] (x ∷ y ∷ s)
-  -- something unfinished at 0
+  -- or with something unfinished
   front-begun : {s : List ℕ} → Front [] (0xA5 ∷ s)
 
 walks-no-start : {at b : ℕ} (s : List ℕ) → Walks at b → start-here (b ∷ 0x5A ∷ s) ≡ false
@@ -240,6 +242,7 @@ clean-no-start : (t : List ℕ) → start-here (0xA0 ∷ 0x5A ∷ t) ≡ false
 unfolding is-start is-high
 clean-no-start t = refl
 
+-- CLEAN
 pub clean-is : (t : List ℕ) → clean-here (0xA0 ∷ 0x5A ∷ t) ≡ true
 unfolding is-clean is-high
 clean-is t = refl

@@ -1,4 +1,4 @@
--- A plan carried out, whole or cut; and demand 3 from an invariant: what the invariant has to give, and the induction on the history.
+-- A plan carried out, whole or cut; and demand 3 from any invariant: what it has to give, and the induction on the history.
 use Prim.Native.Nat.{ℕ, _≤_, _<_}
 use mathlib.Core.Path.{_≡_, refl, sym, ap, subst, ap₂, _∙_}
 use mathlib.Core.List.{List, [], _∷_}

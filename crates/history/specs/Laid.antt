@@ -1,4 +1,5 @@
--- Where the bytes of an image are, whether its chain has turned or not: the one description that every kind of image goes by.
+-- Where the bytes of an image are, whether its chain has turned or not (Laid): the one description that every kind of image goes by.
+-- What may be replaced in it (Hole, Inside), and what tail is read of it (Tail).
 use Prim.Native.Nat.{ℕ, _+_, _*_, _≤_, _-_}
 use mathlib.Core.Path.{_≡_, refl, sym}
 use mathlib.Core.Bool.{Bool, true, false}
@@ -23,7 +24,8 @@ abbrev pub place : Image → ℕ → ℕ → Bool → Place
 place im h T t = record { head = h; tail = T; turned = t; length = length im }
 
 -- An image with head h. es are its finished records in chain order; the next thing stands at S: seg, what is unfinished there, and behind it
--- free, up to N before the turn (t false) and up to floor(h) after it. below are the bytes of [0, floor(h)) before the turn.
+-- free, up to N before the turn (t false) and up to floor(h) after it. below are the bytes of [0, floor(h)) before the turn. So below and free
+-- are document 01's free run.
 pub data Laid (im : Image) (h S : ℕ) (t : Bool) (es : List Entry) (seg : Seg) (below free : List ℕ) : Type 0 where
   laid-straight :
       {a l : ℕ} {lost : List ℕ} {x : Rec} {ys : List Rec} (f : ℕ) → Straight im a l below lost h (x ∷ ys) seg free → t ≡ false

@@ -1,4 +1,4 @@
--- Step (c) of a move, cut anywhere: X's data keeps its place and length, and at the end X has no mark behind its first word.
+-- Step (c) of a move on a laid image, cut anywhere: X's data keeps its place and length, and at the end X has no mark behind its first word.
 use Prim.Native.Nat.{ℕ, zero, suc, _+_, _-_, _/_, _≤_, _<_}
 use native.Mathlib.Omega.{arith}
 use native.Mathlib.Nat.{suc-add}

@@ -1,4 +1,4 @@
--- Steps on a laid image: what stands at S is replaced, one record is replaced by another of its size, the chain turns.
+-- Any laid image, turned or not: its measures, what stands at S replaced, one byte of a record set, the chain turned.
 use Prim.Native.Nat.{ℕ, _+_, _*_, _≤_}
 use native.Mathlib.Omega.{arith}
 use native.Mathlib.Nat.{add-zero}

@@ -1,4 +1,5 @@
--- Step (d) of a move on a laid image, cut anywhere: after the first erase the head is Y and the image is vacant; at the end it is bare.
+-- Step (d) of a move on any laid image, cut anywhere (Leaves): with X and Y in one sector nothing is erased; otherwise after the first
+-- erase the head is Y and the image is vacant, and at the end it is bare.
 use Prim.Native.Nat.{ℕ, zero, suc, _+_, _-_, _*_, _/_, _%_, _≤_, _<_}
 use native.Mathlib.Omega.{arith}
 use mathlib.Core.Path.{_≡_, refl, sym, ap, _∙_, subst}
@@ -27,7 +28,7 @@ use Rattle.history.specs.Vacant.{Vacant, vacant-at}
 use Rattle.history.specs.StraightErase.{straight-erased, vacated-are, straight-all-erased}
 use Rattle.history.specs.TurnedErase.{turned-erased, zero-erased, zero-markless}
 
--- X is left behind: with no erase, or with k + 1 of them
+-- how step (d) leaves X behind: with no erase, X and Y being in one sector (near), or with k + 1 erases (far)
 pub data Leaves (im : Image) (x y : Entry) (es : List Entry) : Type 0 where
   near : vacated (length im) x y ≡ [] → floor (y .at) ≡ floor (x .at) → x .at ≤ y .at → Leaves im x y es
   far :

@@ -1,4 +1,4 @@
--- Step (f) of a move on a laid image: X is forgotten in its own sector, and the head is Y.
+-- Step (f) of a move on a laid image: X and Y stand in one sector, X loses its magic, and the head is Y.
 use Prim.Native.Nat.{ℕ, _+_, _*_, _/_, _<_, suc, _-_}
 use native.Mathlib.Omega.{arith}
 use mathlib.Core.Path.{_≡_, refl, sym, ap, _∙_, subst}

@@ -1,4 +1,4 @@
--- Repair 1 on a laid image: cut anywhere it is vacant, and at the end it is bare.
+-- Repair 1 on a laid image whose head is CLEAN: cut anywhere it is of that kind still, and at the end it is bare (Repaired).
 use Prim.Native.Nat.{ℕ, zero, suc, _+_, _-_, _*_, _/_, _%_, _≤_}
 use native.Mathlib.Omega.{arith}
 use mathlib.Core.Path.{_≡_, refl, sym, ap, ap₂, _∙_, subst, subst₂}
@@ -67,7 +67,7 @@ opened-up p post free c e =
         ∙ ap (λ (l : List ℕ). p ++ l) (append-assoc (blanks c) (drop c free) post)
     ∙ sym (append-assoc p (blanks c) (drop c free ++ post))
 
--- the sectors of the run at T
+-- the sectors behind T
 high-done : {im : Image} {h S : ℕ} {t : Bool} {es : List Entry} {below free : List ℕ} (d : Laid im h S t es seg-none below free) (im₀ : Image)
     (pre₀ : List ℕ) →
     im₀ ≡ pre₀ ++ (free ++ hole-of d .post) → length pre₀ ≡ S → (c k lim : ℕ) → S + c ≡ ceiling S → c ≤ length free → take c free ≡ blanks c

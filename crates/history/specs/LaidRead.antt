@@ -1,4 +1,4 @@
--- Every laid image is read: the head is found, and the chain from it gives the records.
+-- Every laid image is read: the head is found, the chain from it gives the records, and the free run is as the rules ask.
 use Prim.Native.Nat.{ℕ, suc, _+_, _≤_}
 use native.Mathlib.Omega.{arith}
 use mathlib.Core.Path.{_≡_, refl, sym, ap, ap₂, _∙_, subst}

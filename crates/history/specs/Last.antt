@@ -1,4 +1,5 @@
--- What can stand last in a chain: eight FF, the end of the stretch, a marker, a torn wrap, and the unfinished records.
+-- Document 01's "Last thing in the chain", as bytes, and the chain over it: eight FF, the end of the stretch, a wrap marker, a torn wrap,
+-- and the unfinished records: torn, or reserved with its name cut or with its data cut.
 use Prim.Native.Nat.{ℕ, suc, _+_}
 use native.Mathlib.Omega.{arith}
 use mathlib.Core.Path.{_≡_, refl, sym, ap, _∙_}
@@ -38,7 +39,7 @@ unfolding chain next long
 stops-over at true k = refl
 stops-over at false k = refl
 
--- a wrap marker
+-- a wrap marker: magic 5AFA, status F0
 abbrev pub wrap : List ℕ → List ℕ
 wrap s = 0xFA ∷ 0x5A ∷ 0xF0 ∷ 0xFF ∷ 0xFF ∷ 0xFF ∷ 0xFF ∷ 0xFF ∷ s
 
@@ -47,12 +48,12 @@ pub ends-wrap : (at : ℕ) (s : List ℕ) → Ends at (wrap s) (stop false at Ne
 unfolding chain next next-at long kind is-record is-wrap is-start is-clean is-high is-high-begun is-erased is-wrapped is-spare
 ends-wrap at s k = refl
 
--- the second byte, before it is written and after
+-- the second byte of a magic, before it is written and after: "FF or 5A"
 pub data Begun : ℕ → Type 0 where
   begun-ff : Begun 0xFF
   begun-5a : Begun 0x5A
 
--- a wrap marker that was begun, c its second byte
+-- document 01's torn wrap: a wrap marker that was begun, c its second byte, then FF up to N
 abbrev pub torn-wrap : ℕ → ℕ → List ℕ
 torn-wrap c k = 0xFA ∷ c ∷ 0xFF ∷ 0xFF ∷ 0xFF ∷ 0xFF ∷ 0xFF ∷ 0xFF ∷ blanks k
 
@@ -81,11 +82,12 @@ ends-held : {c : Chain} (at n d : ℕ) (s t : List ℕ) (r : Rec) → next s ≡
     ((k : ℕ) → chain (suc k) true (at + size-of n d) t ≡ c) → Ends at s (add (record { at = at; it = r }) c)
 ends-held at n d s t r e u f g h k = chain-record (suc k) at n d s e ∙ rw (u, f, g) (ap (add (record { at = at; it = r })) (h k))
 
--- torn: A5, then FF or 5A, any length bytes, 00 or FF
+-- byte 8 of a torn record: "FF or 00"
 pub data Name-begun : ℕ → Type 0 where
   begun-none : Name-begun 0xFF
   begun-end : Name-begun 0
 
+-- document 01's torn record: A5, the second byte c, status FF, the length bytes l, byte 8 t; it counts 16 bytes
 abbrev pub torn : ℕ → List ℕ → ℕ → List ℕ → List ℕ
 torn c l t s = 0xA5 ∷ c ∷ 0xFF ∷ 0xFF ∷ (l ++ (t ∷ (blanks 7 ++ s)))
 
@@ -110,7 +112,7 @@ pub ends-torn : {c t : ℕ} {d : Chain} (at x y z w : ℕ) (s : List ℕ) → Be
 ends-torn {c} {t} at x y z w s b n e =
     ends-held at 0 0 (torn c (x ∷ y ∷ z ∷ w ∷ []) t s) s torn-rec (next-torn x y z w s b n) unfinished-ff refl refl e
 
--- reserved
+-- document 01's reserved record, status FE
 next-reserved : (x y z w : ℕ) (s : List ℕ)
     → next (0xA5 ∷ 0x5A ∷ 0xFE ∷ 0xFF ∷ x ∷ y ∷ z ∷ w ∷ s) ≡ record-at true (0xA5 ∷ 0x5A ∷ 0xFE ∷ 0xFF ∷ x ∷ y ∷ z ∷ w ∷ s)
 unfolding next long kind next-at is-record is-wrap is-start is-clean is-high is-erased is-reserved is-spare

@@ -1,4 +1,6 @@
--- Finished records laid down as bytes: the chain gives them back and goes on with what follows them.
+-- Finished records laid down as bytes (lay), and which records those may be (Fine): the chain of document 01 reads them back, and goes on
+-- with what follows them. Bytes are written as document 01 has them: 0xA5 0x5A a record, 0x00 START, 0xA0 CLEAN, 0xFA wrap marker;
+-- status 0xFE reserved, 0xFC committed, 0xF8 migrating, 0xF0 wrap, 0x00 deleted.
 use Prim.Native.Nat.{ℕ, zero, suc, _+_, _-_, _*_, _/_, _%_, _≤_, _<_}
 use native.Mathlib.Omega.{arith}
 use native.Mathlib.Nat.{le-of-suc-le-suc, not-suc-le-zero, zero-add, suc-add, add-zero, add-assoc}
@@ -18,7 +20,7 @@ use Rattle.spec.specs.Chain.{Chain, add, chain}
 use Rattle.history.specs.Blanks.{blanks, drop-blanks}
 use Rattle.spec.specs.declared.Kind.{Kind}
 
--- ---- the printer
+-- ---- records as bytes
 
 -- the bytes up to the next multiple of 8
 abbrev pub pad : ℕ → ℕ
@@ -49,7 +51,7 @@ abbrev pub lay : List Rec → List ℕ → List ℕ
 lay [] s = s
 lay (r ∷ rs) s = onto r (lay rs s)
 
--- a record's size
+-- a record's size, as document 01 counts it
 abbrev pub rsize : Rec → ℕ
 rsize r = size-of (length (r .name)) (length (r .content))
 
@@ -91,28 +93,29 @@ pub data Stat : ℕ → Type 0 where
   st-f8 : Stat 0xF8
   st-00 : Stat 0x00
 
--- a name's characters
+-- the bytes of a name: "each 21 to 7E hex"
 abbrev pub Printable : List ℕ → Type 0
 Printable [] = Unit {0}
 Printable (x ∷ w) = ((0x21 ≤ x) × (x ≤ 0x7E)) × Printable w
 
--- a name and a length of data that a header can say
+-- a name n and a length d of data that a header can say
 pub record Fit (d : ℕ) (n : List ℕ) : Type 0 where
   pub short : length n < 64
   pub printable : Printable n
   pub small : d < 4294967296
 
--- a record that can be written
+-- a finished record, as format, put, a copy, a move or a repair leaves it
 pub record Fine (r : Rec) : Type 0 where
   pub low-ok : Low (r .low)
   pub status-ok : Stat (r .status)
   pub fit : Fit (length (r .content)) (r .name)
 
+-- so each of them
 abbrev pub All-fine : List Rec → Type 0
 All-fine [] = Unit {0}
 All-fine (r ∷ rs) = Fine r × All-fine rs
 
--- ---- lemmas
+-- ---- what stands at the front of laid records
 
 len-lens : (a b c e d : ℕ) (s : List ℕ) → d < 4294967296 → data-len-of (a ∷ b ∷ c ∷ e ∷ lens d s) ≡ d
 len-lens a b c e d s h = let top : d / 16777216 % 256 ≡ d / 16777216 = omega arith in rw top (omega arith)
@@ -133,7 +136,7 @@ name-length-at (suc k) held (x ∷ w) t s h p e =
 pub length-body : (n c s : List ℕ) → 8 + length (body n c s) ≡ size-of (length n) (length c) + length s
 length-body n c s = simp (length-append, length-replicate) (omega arith)
 
--- past p
+-- past p, and m bytes more
 pub drop-past : (p q : List ℕ) (k m : ℕ) → k ≡ length p + m → drop k (p ++ q) ≡ drop m q
 drop-past p q k m e = rw e (drop-append-add p q m)
 

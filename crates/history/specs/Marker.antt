@@ -1,4 +1,4 @@
--- The marker: from not turned, by a torn wrap, to turned; and a chain that ends exactly at N, which has turned with the same bytes.
+-- The turn: by a wrap marker, whose first two bytes alone make a torn wrap; or at N exactly, where the chain has turned with the same bytes.
 use Prim.Native.Nat.{ℕ, zero, suc, _+_, _-_, _*_, _≤_}
 use native.Mathlib.Omega.{arith}
 use native.Mathlib.Nat.{zero-add}
@@ -61,10 +61,11 @@ module _ {im : List ℕ} {a l : ℕ} {gap lost : List ℕ} {h : ℕ} {high : Lis
       programs (suc (suc (suc zero))) = tt
       programs (suc (suc (suc (suc j)))) = tt
 
-  -- cut: a torn wrap stands at T
+  -- cut after one byte: a torn wrap stands behind the records
   pub marker-cut-1 : Straight (run im (moved (h + sizes high) (take 1 marker-steps))) a l gap lost h high seg-none (torn-wrap 0xFF (g - 8))
   marker-cut-1 = straight-with (run im (moved (h + sizes high) (take 1 marker-steps))) s (at-tail 1) (s .fine)
 
+  -- cut after two
   pub marker-cut-2 : Straight (run im (moved (h + sizes high) (take 2 marker-steps))) a l gap lost h high seg-none (torn-wrap 0x5A (g - 8))
   marker-cut-2 = straight-with (run im (moved (h + sizes high) (take 2 marker-steps))) s (at-tail 2) (s .fine)
 

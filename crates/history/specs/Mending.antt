@@ -1,4 +1,5 @@
--- On a rested image no repair has a step to do; so mount is the one repair that has some, if it leaves a rested image.
+-- What mount does on an image of the invariant (Mends). On each kind one repair at most has steps, so mount is that repair, if it leaves
+-- a rested image, on which the others have nothing to do.
 use Prim.Native.Nat.{ℕ}
 use mathlib.Core.Path.{_≡_, sym, ap, _∙_, subst}
 use mathlib.Core.List.{List, []}
@@ -16,7 +17,7 @@ use Rattle.history.specs.Closes.{Rests}
 
 -- ---- mount
 
--- nothing to do on a rested image, or some step
+-- whether mount has a step to do: none on a rested image, or some
 pub data Needs (l : Ledger) (im : Image) (r : Reading) : Type 0 where
   needs-none : Rested l im r → Needs l im r
   needs-some : (mended im r .steps ≡ [] → ⊥) → Needs l im r

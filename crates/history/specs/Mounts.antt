@@ -1,4 +1,5 @@
--- Mount on every kind of image, cut anywhere; run to its end it leaves a rested image. And whether an image is settled.
+-- Mount on every kind of image, cut anywhere; run to its end it leaves a rested image. And every image is rested, or every call but mount
+-- refuses it as not settled.
 use mathlib.Core.Path.{_≡_, refl, ap}
 use mathlib.Core.Bool.{true, false}
 use mathlib.Core.List.{List, [], _∷_}

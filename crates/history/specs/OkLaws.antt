@@ -1,4 +1,4 @@
--- What a change of one record does to the live files, on lists of records alone.
+-- What a change of one record does to the live files (Ok): a file added, replaced, removed, or left as it is. On lists of records alone.
 use Prim.Native.Nat.{ℕ}
 use mathlib.Core.Path.{_≡_, refl, sym, ap, ap₂, _∙_, subst}
 use mathlib.Core.Bool.{Bool, true, false, not}

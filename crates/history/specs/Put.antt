@@ -1,4 +1,5 @@
--- A record written where FF stands, cut anywhere: before the commit it is one of the unfinished things (Seg), after it a record.
+-- The bytes of a record written where FF stands, cut anywhere: before the commit it is one of the unfinished things (Opened), with the
+-- commit it is a record.
 use Prim.Native.Nat.{ℕ, zero, suc, _+_, _-_, _≤_, _<_}
 use native.Mathlib.Omega.{arith}
 use native.Mathlib.Nat.{zero-add}

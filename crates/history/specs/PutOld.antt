@@ -1,4 +1,4 @@
--- The file that put replaces: FC to F8 before the new record is written, and 00 behind its commit.
+-- The file that put replaces: FC to F8 before the new record is written (Migrated), and 00 behind its commit.
 use Prim.Native.Nat.{ℕ, _+_}
 use native.Mathlib.Omega.{arith}
 use mathlib.Core.Path.{_≡_, refl, sym, ap, ap₂, _∙_, subst}

@@ -1,4 +1,4 @@
--- What put does up to its commit, apart from the old file: the marker if there is one, and the record, at the place that it is given.
+-- What put does up to its commit, apart from the old file: the marker if there is one, and the record, at the place that it is given (Written).
 use Prim.Native.Nat.{ℕ, _+_, _-_, _≤_}
 use native.Mathlib.Omega.{arith}
 use mathlib.Core.Path.{_≡_, sym, ap, subst}

@@ -1,4 +1,4 @@
--- The steps of a new record, on FF: each only clears bits; and what a file name gives.
+-- The steps of a new record on FF only clear bits; and what document 01's name rule gives.
 use Prim.Native.Nat.{ℕ, _+_, _-_, _/_, _%_, _≤_, _<_}
 use native.Mathlib.Omega.{arith}
 use mathlib.Core.Path.{_≡_, refl, sym, ap, _∙_, subst}

@@ -1,4 +1,4 @@
--- Where the chain turns by a marker: each of its three steps; and the place that a size that fits is given.
+-- The wrap marker that put and a copy write where a record goes to 0: each of its three steps; and the place that a size that fits is given.
 use Prim.Native.Nat.{ℕ, zero, suc, _+_, _-_, _*_, _≤_}
 use native.Mathlib.Omega.{arith}
 use native.Mathlib.Nat.{add-zero}

@@ -1,4 +1,5 @@
--- Put, and the copy of a move, on a rested image, cut anywhere: before the commit the old ledger's files stand, from it on the new one's.
+-- Put, and the copy of a move, on a rested image, cut anywhere: before the commit the old ledger's files stand, from it on the new one's
+-- (Commits). The commit has the place in the step list that document 01 gives it.
 use Prim.Native.Nat.{ℕ, _+_}
 use native.Mathlib.Omega.{arith}
 use mathlib.Core.Path.{_≡_, refl, sym, ap, _∙_, subst}

@@ -1,4 +1,4 @@
--- Repair 1: the sectors of a free run that are not FF are erased, ascending; at the end all of it is FF.
+-- Repair 1 on bytes: the sectors of a stretch that are not FF are erased, ascending; at the end all of it is FF.
 use Prim.Native.Nat.{ℕ, zero, suc, _+_, _*_, _≤_}
 use native.Mathlib.Omega.{arith}
 use native.Mathlib.Nat.{not-suc-le-zero}

@@ -1,4 +1,4 @@
--- Mount on a rested image, and on a move that was cut.
+-- Mount on a rested image, and on a move that was cut: the kinds clean, both and vacated.
 use Prim.Native.Nat.{ℕ, _+_}
 use mathlib.Core.Path.{_≡_, sym, ap, _∙_}
 use mathlib.Core.Bool.{Bool, true, false, or-true}

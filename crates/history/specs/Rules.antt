@@ -1,4 +1,4 @@
--- The rules on the records of each kind of image: none is broken.
+-- Document 01's rules on the records of each kind of image (Ruled): none is broken.
 use Prim.Native.Nat.{ℕ}
 use mathlib.Core.Path.{_≡_, refl, sym, ap, _∙_}
 use mathlib.Core.Bool.{Bool, true, false, _&&_, _||_}

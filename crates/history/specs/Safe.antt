@@ -1,4 +1,5 @@
--- A property after every cut of a step list, and that every step is sound, in one statement that composes.
+-- A property that holds before each step of a list and at its end, with each step sound, in one predicate (Safe). It composes, so each
+-- phase of each call is proved once; from it come every cut, the end, and that bits are only cleared.
 use Prim.Native.Nat.{ℕ, zero, suc, _+_, _≤_, _<_}
 use native.Mathlib.Omega.{arith}
 use mathlib.Core.Path.{_≡_, _∙_}

@@ -1,4 +1,5 @@
--- The unfinished thing that may stand at T, or nothing: its bytes, its size, its entry; the chain over it, and the head behind it.
+-- The unfinished record that may stand behind the finished ones, or nothing (Seg): torn, or reserved, in document 01's words.
+-- Its bytes, its size, its entry; the chain over it, and the head found behind it.
 use Prim.Native.Nat.{ℕ, zero, suc, _+_, _*_, _≤_}
 use native.Mathlib.Omega.{arith}
 use native.Mathlib.Nat.{zero-add, add-zero, not-suc-le-zero}
@@ -14,7 +15,7 @@ use Rattle.history.specs.Markless.{Markless}
 use Rattle.history.specs.Walk.{Head-low}
 use Rattle.history.specs.Head.{Reaches, Reaches₁, reaches-more, reaches-gap, reaches-torn, reaches-begun, reaches-held, reaches-markless}
 
--- nothing, a torn record, one whose name was not ended, one that was not committed
+-- nothing; document 01's torn record; its reserved record, with the name not ended (cut), or with the name ended and not committed (held)
 pub data Seg : Type 0 where
   seg-none : Seg
   seg-torn : (c x y z w t : ℕ) → Begun c → Name-begun t → Seg
@@ -57,13 +58,14 @@ seg-ends x at (seg-torn c u y z w t b m) s e k = ends-torn at u y z w s b m (e t
 seg-ends x at (seg-cut d n f) s e k = ends-begun at d n s f (e true) k
 seg-ends x at (seg-held n c f) s e k = ends-whole at n c s f (e true) k
 
--- lengths
+-- more behind what follows it
 pub seg-append : (g : Seg) (s t : List ℕ) → seg-onto g (s ++ t) ≡ seg-onto g s ++ t
 seg-append seg-none s t = refl
 seg-append (seg-torn c x y z w u b m) s t = refl
 seg-append (seg-cut d n f) s t = simp append-assoc
 seg-append (seg-held n c f) s t = simp append-assoc
 
+-- how long that is
 pub length-seg : (g : Seg) (s : List ℕ) → length (seg-onto g s) ≡ seg-size g + length s
 length-seg seg-none s = sym (zero-add (length s))
 length-seg (seg-torn c x y z w u b m) s = omega arith

@@ -1,4 +1,5 @@
--- The reading of an image of the general shape, lay low (gap ++ (lost ++ lay high rest)), for each way in which its chain can go.
+-- The general shape of an image, lay low (gap ++ (lost ++ lay high rest)): records from 0 on, free bytes, lost bytes in the head's sector,
+-- records from the head on. What document 01's chain reads of it, for each way in which it can end or turn.
 use Prim.Native.Nat.{ℕ, suc, _+_, _-_, _≤_, _<_}
 use native.Mathlib.Omega.{arith}
 use native.Mathlib.Nat.{zero-add}

@@ -1,4 +1,4 @@
--- Step lists cut anywhere, steps behind a first part, and runs of bytes.
+-- What step lists do to bytes: cut anywhere, moved to the address of a record, and runs of bytes programmed one after another.
 use Prim.Native.Nat.{ℕ, zero, suc, _+_, _≤_}
 use native.Mathlib.Omega.{arith}
 use native.Mathlib.Nat.{zero-add, suc-add, add-zero}
@@ -44,12 +44,14 @@ Programs [] = Unit {0}
 Programs (program i b ∷ ss) = Programs ss
 Programs (erase i ∷ ss) = ⊥
 
+-- the first of moved steps
 pub take-moved : (k a : ℕ) (ss : List Step) → take k (moved a ss) ≡ moved a (take k ss)
 take-moved zero a ss = refl
 take-moved (suc k) a [] = refl
 take-moved (suc k) a (program i b ∷ ss) = ap (λ (l : List Step). program (a + i) b ∷ l) (take-moved k a ss)
 take-moved (suc k) a (erase i ∷ ss) = ap (λ (l : List Step). erase (a + i) ∷ l) (take-moved k a ss)
 
+-- the first of steps that only program
 pub take-programs : (k : ℕ) (ss : List Step) → Programs ss → Programs (take k ss)
 take-programs zero ss p = tt
 take-programs (suc k) [] p = tt
@@ -62,6 +64,7 @@ run-past p q [] a e h = refl
 run-past p q (program i b ∷ ss) a e h = ap (λ (l : List ℕ). run l (moved a ss)) (rw (← e) (set-past p q i b)) ∙ run-past p (set q i b) ss a e h
 run-past p q (erase i ∷ ss) a e h = absurd h
 
+-- as many
 pub length-moved : (a : ℕ) (ss : List Step) → length (moved a ss) ≡ length ss
 length-moved a [] = refl
 length-moved a (program i b ∷ ss) = ap suc (length-moved a ss)
@@ -98,6 +101,7 @@ take-bytes zero a w = refl
 take-bytes (suc j) a [] = refl
 take-bytes (suc j) a (b ∷ w) = ap (λ (l : List Step). program a b ∷ l) (take-bytes j (a + 1) w)
 
+-- one step for each byte
 pub length-bytes : (a : ℕ) (w : List ℕ) → length (bytes-at a w) ≡ length w
 length-bytes a [] = refl
 length-bytes a (x ∷ w) = ap suc (length-bytes (a + 1) w)

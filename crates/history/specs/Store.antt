@@ -1,4 +1,5 @@
--- The files of a list of entries in which no name is alive twice, and the rules on such entries. Nothing here knows of bytes on the image.
+-- Records with their addresses (entries), without bytes. Alive is FC or F8 with a name. In a list in which no name is alive twice (Unique)
+-- the live files are the records that are alive, and document 01's rules on names, on doubles and on START and CLEAN hold.
 use Prim.Native.Nat.{ℕ}
 use native.Mathlib.Omega.{arith}
 use mathlib.Core.Path.{_≡_, refl, sym, _∙_}
@@ -29,9 +30,9 @@ same-sym (x ∷ s) (y ∷ t) = go (eqb x y) (eqb y x) refl refl (same-sym s t)
     go true false e f i = absurd (eqb-false y x f (sym (eqb-true x y e)))
     go false true e f i = absurd (eqb-false x y e (sym (eqb-true y x f)))
 
--- ---- alive: FC or F8, with a name
+-- ---- alive
 
--- FC or F8, with a name
+-- FC or F8, with a name; where no name is alive twice this is document 01's live file
 unfoldable pub alive : Entry → Bool
 alive e = named 0xFC e || named 0xF8 e
 
@@ -92,7 +93,7 @@ pub no-fc : (es : List Entry) → Unique es → Each (λ e. named 0xF8 e ≡ tru
 unfolding has-named
 no-fc es u = each-map es (λ e h k. any-none (named-as 0xFC e) es (each-map es (λ f o. o k) h)) (none-over es u)
 
--- live is alive
+-- document 01's live is alive
 pub live-alive : (es : List Entry) → Unique es → Each (λ e. live es e ≡ alive e) es
 unfolding live alive
 live-alive es u = each-map es (λ e h. go (named 0xFC e) (named 0xF8 e) (has-named 0xFC es e) h) (no-fc es u)
@@ -111,13 +112,13 @@ pub none-superseded : (es : List Entry) → Unique es → keep (superseded es) e
 unfolding superseded
 none-superseded es u = keep-none (superseded es) es (each-map es (λ e h. and-no (named 0xF8 e) (has-named 0xFC es e) h) (no-fc es u))
 
--- ---- the rules of a quiet store
+-- ---- the rules
 
 -- a live name is a file name
 abbrev pub Well-named : Entry → Type 0
 Well-named e = alive e ≡ true → name-ok (name-of e) ≡ true
 
--- its status is not that of an unfinished record
+-- neither torn nor reserved
 abbrev pub Finished : Entry → Type 0
 Finished e = is-unfinished (e .it .status) ≡ false
 

@@ -1,4 +1,4 @@
--- Images whose chain has not turned: where the bytes are, that the head is found, and what is read from it.
+-- Images whose chain has not turned (document 01: "before the turn"): where the bytes are, that the head is found, and what is read from it.
 use Prim.Native.Nat.{ℕ, suc, _+_, _-_, _*_, _≤_, _<_}
 use native.Mathlib.Omega.{arith}
 use native.Mathlib.Nat.{zero-add, not-suc-le-zero}
@@ -24,7 +24,8 @@ use Rattle.history.specs.Head.{Front, front-gap, front-low, Reaches, rea
 use Rattle.history.specs.Seg.{Seg, seg-none, seg-onto}
 use Rattle.history.specs.Shape.{shape-straight}
 
--- a sectors of gap and l words of lost before the head h, then the records from the head on, seg at T, and free up to N
+-- before the head h, a sectors of gap and l words of lost bytes in its own sector; then the records from the head on, seg behind them, and free
+-- up to N. gap and free are document 01's free run; lost is what stays of old heads until the sector is erased.
 pub record Straight (im : List ℕ) (a l : ℕ) (gap lost : List ℕ) (h : ℕ) (high : List Rec) (seg : Seg) (free : List ℕ) : Type 0 where
   pub is : im ≡ gap ++ (lost ++ lay high (seg-onto seg free))
   pub at : 4096 * a + 8 * l ≡ h

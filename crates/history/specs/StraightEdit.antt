@@ -1,4 +1,5 @@
--- An image that has not turned, cut in two behind some of its records; and a record with another status, low byte or data.
+-- An image that has not turned, cut in two behind some of its records, and with other bytes in place of its end; and one record with
+-- another status, low byte or data.
 use Prim.Native.Nat.{ℕ, _+_}
 use native.Mathlib.Omega.{arith}
 use native.Mathlib.Nat.{zero-add, add-assoc}

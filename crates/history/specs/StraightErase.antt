@@ -1,4 +1,5 @@
--- Step (d) of a move on an image that has not turned, Y in a later sector: which sectors are erased, and that cut anywhere the head is Y and the gap has no mark.
+-- Step (d) of a move on an image that has not turned, Y in a later sector: which sectors are erased, and that after the first erase,
+-- cut anywhere, the head is Y and the gap before it has no mark.
 use Prim.Native.Nat.{ℕ, zero, suc, _+_, _-_, _*_, _/_, _≤_, _<_}
 use native.Mathlib.Omega.{arith}
 use native.Mathlib.Nat.{not-suc-le-zero}

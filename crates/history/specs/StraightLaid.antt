@@ -1,4 +1,4 @@
--- A layout that has not turned: what stands at S may be replaced, and any record by another of its size.
+-- An image that has not turned: what stands at S may be replaced (Hole), and any record by another of its size (Inside).
 use Prim.Native.Nat.{ℕ, _+_, _*_}
 use native.Mathlib.Omega.{arith}
 use mathlib.Core.Path.{_≡_, refl, sym, ap, _∙_}

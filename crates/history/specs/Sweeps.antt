@@ -1,4 +1,4 @@
--- Sweep, and remove, on a rested image, cut anywhere.
+-- Sweep on a rested image, move by move, cut anywhere; and remove's one step.
 use Prim.Native.Nat.{ℕ, zero, suc}
 use native.Mathlib.Omega.{arith}
 use mathlib.Core.Path.{_≡_, refl, sym, ap, _∙_, subst}
@@ -35,7 +35,7 @@ use Rattle.history.specs.Handover.{hands-over}
 
 -- ---- remove
 
--- remove's one step
+-- remove's one step: it is sound, and the file goes, from the image and from the ledger
 pub remove-step :
     {l : Ledger} {im : Image} {r : Reading} (n : List ℕ) (e : Entry) → Rested l im r → file-named n (r .entries) ≡ some e →
     Sound im (status-step e 0) × Inv (without n l) (run im (status-step e 0 ∷ []))
@@ -192,7 +192,7 @@ moves-on : (k : ℕ) (im : Image) (r : Reading) → stuck r ≡ false
 unfolding moves
 moves-on k im r e = rw (moves, e)
 
--- k moves, cut anywhere
+-- k moves of a sweep, cut anywhere: the files stay
 pub moves-safe : (k : ℕ) {l : Ledger} {im : Image} {r : Reading} → Rested l im r → Safe (Inv l) im (concat (moves k im r))
 unfolding moves
 moves-safe zero q = rested-inv q

@@ -1,4 +1,5 @@
--- Images whose chain has turned: where the bytes are, that the head is found, and what is read from it.
+-- Images whose chain has turned (document 01: "after a wrap marker, or at N, the chain goes on at 0"): where the bytes are, that the head
+-- is found, and what is read from it.
 use Prim.Native.Nat.{ℕ, suc, _+_, _*_, _≤_, _<_, _-_, zero}
 use native.Mathlib.Omega.{arith}
 use mathlib.Core.Path.{_≡_, sym, ap, _∙_, subst}
@@ -21,7 +22,7 @@ use Rattle.history.specs.Head.{Front, front-gap, front-begun, front-low,
 use Rattle.history.specs.Seg.{Seg, seg-none, seg-torn, seg-cut, seg-held, seg-onto, seg-size, seg-entries, seg-open, seg-append, length-seg, seg-ends, seg-reaches}
 use Rattle.history.specs.Shape.{image, shape-turned, turns-wrap, turns-over, Low-end, low-clear, low-over}
 
--- what stands behind the records from the head on
+-- what ends the records from the head on: N itself, or a wrap marker and k bytes of FF
 pub data End : Type 0 where
   exact : End
   marker : ℕ → End
@@ -36,8 +37,8 @@ pub data Opens : List ℕ → Next → Type 0 where
   opens-ff : {s : List ℕ} → Opens (blanks 8 ++ s) Next.Clear
   opens-none : Opens [] Next.Over
 
--- the records low from 0 on, seg at T, f words of free up to floor(h), l words of lost, then the records from the head h on and what ends them;
--- floor(h) is a sectors
+-- the records low from 0 on, seg behind them, f words of free (document 01's free run) up to floor(h), which is a sectors; l words of lost
+-- bytes, then the records from the head h on and what ends them
 pub record Turned (im : List ℕ) (a l : ℕ) (lost : List ℕ) (h : ℕ) (low : List Rec) (seg : Seg) (f : ℕ) (free : List ℕ) (high : List Rec) (end : End) :
     Type 0 where
   pub is : im ≡ lay low (seg-onto seg (free ++ (lost ++ lay high (end-bytes end))))

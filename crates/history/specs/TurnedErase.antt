@@ -1,4 +1,4 @@
--- Step (d) of a move on an image that has turned, cut anywhere: Y behind X in a later sector, or Y at 0.
+-- Step (d) of a move on an image that has turned, cut anywhere: Y behind X in a later sector, or Y at 0, and then all up to N is erased.
 use Prim.Native.Nat.{ℕ, suc, _+_, _-_, _*_, _/_, _≤_, _<_}
 use native.Mathlib.Omega.{arith}
 use mathlib.Core.Path.{_≡_, refl, sym, ap, _∙_, subst}

@@ -1,4 +1,5 @@
--- A layout that has turned: what stands at S may be replaced, and any record, from the head on or from 0 on, by another of its size.
+-- An image that has turned: what stands at S may be replaced (Hole), and any record, from the head on or from 0 on, by another of its
+-- size (Inside).
 use Prim.Native.Nat.{ℕ, _+_, _*_, _<_}
 use native.Mathlib.Omega.{arith}
 use native.Mathlib.Nat.{zero-add}

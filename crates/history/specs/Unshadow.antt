@@ -1,4 +1,4 @@
--- A status byte of one record to 00: a record shadowed by its successor, which mount deletes, and a file that is removed.
+-- A status byte of one record to 00: the kind shadow, whose F8 record mount deletes, and a file that is removed.
 use Prim.Native.Nat.{ℕ, _+_}
 use mathlib.Core.Path.{_≡_, refl, ap, _∙_}
 use mathlib.Core.Bool.{Bool, true}

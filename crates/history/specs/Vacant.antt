@@ -1,4 +1,5 @@
--- Images whose head is CLEAN with T's own sector FF (Vacant), and those that are bare: from these the head's low byte makes a rested image.
+-- Images whose head is CLEAN while the free run may hold remains: T's own sector is FF (Vacant), or all is (Bare). From a bare one the
+-- head's low byte 00 makes a rested image. Also what Tail says with nothing at S.
 use Prim.Native.Nat.{ℕ, _+_, _-_, _%_, min, _≤_}
 use native.Mathlib.Omega.{arith}
 use native.Mathlib.Nat.{add-zero}

@@ -1,4 +1,4 @@
--- Repair 3: the unfinished thing at T becomes a dead record of the same size; cut anywhere it is still something unfinished.
+-- Repair 3 on bytes: the unfinished record becomes a dead record of the same size; cut anywhere it is still something unfinished.
 use Prim.Native.Nat.{ℕ, zero, suc, _+_, _<_}
 use native.Mathlib.Omega.{arith}
 use native.Mathlib.Nat.{not-suc-le-zero}

@@ -1,4 +1,4 @@
--- Mount on an unfinished record at S: cut anywhere it is still unfinished, at the end it is a dead record.
+-- Mount on an image with an unfinished record at S: cut anywhere it is still unfinished, at the end it is a dead record.
 use Prim.Native.Nat.{ℕ, _+_, _<_}
 use native.Mathlib.Omega.{arith}
 use native.Mathlib.Nat.{add-zero}

@@ -1,4 +1,4 @@
--- Repair 3 on an unfinished record at S: the definitions' steps are those of Void; cut anywhere the image is quiet, at the end rested.
+-- Repair 3 on the unfinished record at S: the definitions' steps are those of Void, and they only clear bits (Voids).
 use Prim.Native.Nat.{ℕ, _+_, _≤_}
 use native.Mathlib.Omega.{arith}
 use mathlib.Core.Path.{_≡_, refl, sym, ap, _∙_}

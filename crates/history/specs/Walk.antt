@@ -1,4 +1,5 @@
--- The walk from 0 over the records at the front, and the search through what has no mark.
+-- The first two steps to the head, in document 01's words: "walk from 0 over 5AA5 records", and "search the 8-byte boundaries".
+-- The walk steps over every record at the front, whole or reserved; the search goes through what has no mark.
 use Prim.Native.Nat.{ℕ, zero, suc, _+_, _-_, _*_, _≤_, _<_}
 use native.Mathlib.Omega.{arith}
 use native.Mathlib.Nat.{zero-add, suc-add, add-zero, add-assoc}

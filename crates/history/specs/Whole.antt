@@ -1,4 +1,5 @@
--- The parts of an image that the rules look at, and the whole reading, with its rules judged, of an image with a torn wrap.
+-- The parts of an image that the rule on the free run looks at, before the turn and after it; and the whole reading, with its rules
+-- judged, of an image with a torn wrap.
 use Prim.Native.Nat.{ℕ, _+_, _*_, _≤_}
 use native.Mathlib.Omega.{arith}
 use native.Mathlib.Nat.{zero-add}
@@ -31,7 +32,7 @@ pub is-clean-0 : (b : ℕ) → b ≡ 0 → is-clean b ≡ false
 unfolding is-clean
 is-clean-0 b e = rw e
 
--- CLEAN
+-- CLEAN is CLEAN
 pub is-clean-A0 : (b : ℕ) → b ≡ 0xA0 → is-clean b ≡ true
 unfolding is-clean
 is-clean-A0 b e = rw e
@@ -72,7 +73,7 @@ module _ {im : List ℕ} {a l : ℕ} {gap lost : List ℕ} {h : ℕ} {x : Rec} {
   gap-blank : gap ≡ blanks (4096 * a) → blank (part 0 (floor h) im) ≡ true
   gap-blank g = ap blank (gap-part ∙ g) ∙ blank-blanks (4096 * a)
 
--- a torn wrap at T
+-- a torn wrap behind the records
 pub torn-wrap-whole : (k : ℕ) {im : List ℕ} {a l : ℕ} {gap lost : List ℕ} {h c : ℕ} {x : Rec} {ys : List Rec}
     (s : Straight im a l gap lost h (x ∷ ys) seg-none (torn-wrap c k)) → Begun c → 1 ≤ a →
     gap ≡ blanks (4096 * a) → x .low ≡ 0 → Ruled (entries-of h (x ∷ ys))
