@@ -27,7 +27,8 @@ use Rattle.history.specs.Laid.{Laid, Tail, low-high, place}
 use Rattle.history.specs.LaidEdit.{laid-head, relow-laid, entry-inside}
 use Rattle.history.specs.Kinds.{Ok, clean, both, vacated as vacated-kind, Inv, Rested}
 use Rattle.history.specs.OkLaws.{ok-same, ok-behead}
-use Rattle.history.specs.Vacant.{Here, tail-here, tail-along, rested-of, first-is, relow-alive, vacant-inv, start-safe, start-rested, rested-inv}
+use Rattle.history.specs.Vacant.{Here, tail-here, tail-along, rested-of, first-is, relow-alive, vacant-inv, start-safe, start-rested}
+use Rattle.history.specs.Vacant.{rested-inv}
 use Rattle.history.specs.LaidClean.{anew, Cleans, clean-data}
 use Rattle.history.specs.LaidErase.{Leaves, near, far, leaves}
 use Rattle.history.specs.LaidForget.{forget-laid}
@@ -100,7 +101,8 @@ vacate-rests {l} {im} {h} {S} B F {t} {x} {y} {es} g d e a b c y₁ m o = go (le
         λ j q. cut j (omega (arith, length-erases A (suc k))) (good-cut j) ok₁ in
         let g₁ : good-length (length (run im (erases A (suc k)))) ≡ true =
         subst (λ (ss : List Step). good-length (length (run im ss)) ≡ true) (take-erases (suc k) (suc k) A (omega arith)) (good-cut (suc k)) in
-        let r : Rested l (set (run im (erases A (suc k))) (y .at) 0) (reading-from (set (run im (erases A (suc k))) (y .at) 0) (y .at)) = start-rested
+        let r : Rested l (set (run im (erases A (suc k))) (y .at) 0) (reading-from (set (run im (erases A (suc k))) (y .at) 0) (y .at)) =
+            start-rested
             g₁ y₁ m ok₁ w in
         subst (λ (ss : List Step). Rests l im ss (y .at)) (sym (vacate-are x y A k (vacated (length im) x y) p))
         (rests-append (erases A (suc k)) (program (y .at) 0 ∷ []) (safe-from (Inv l) im (erases A (suc k)) cuts (erases-sound A (suc k) im z i))

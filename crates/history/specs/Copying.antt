@@ -67,7 +67,8 @@ rested-perm {k} {l} p q =
 head-read : {l : Ledger} {im : Image} {r : Reading} {h : ℕ} → Rested l im r → r .place .head ≡ h → r ≡ reading-from im h
 head-read {l} {im} {r} {h} q e =
     let k : q .h ≡ h = sym (ap (λ (x : Reading). x .place .head) (q .is)) ∙ e in
-    q .is ∙ sym (laid-reads (q .laid) (q .tail) ∙ ap (λ (fs : List Entry). read (length im) (q .h) (q .S) (q .t) fs Ending.Tail) (append-nil (q .es)))
+    q .is ∙ sym (laid-reads (q .laid) (q .tail)
+        ∙ ap (λ (fs : List Entry). read (length im) (q .h) (q .S) (q .t) fs Ending.Tail) (append-nil (q .es)))
         ∙ ap (reading-from im) k
 
 -- the records: the first dead, and a second
@@ -81,7 +82,8 @@ pub record Dead-first (es : List Entry) : Type 0 where
 -- a file is there, and not the first record
 dead-first : (x : Entry) (zs : List Entry) (f : File) (l : Ledger) → alive x ≡ false → Matches (x ∷ zs) (f ∷ l) → Dead-first (x ∷ zs)
 dead-first x [] f l d m =
-    absurd (let n : length (contents (x ∷ [])) ≡ 0 = ap (λ (es : List Entry). length (map as-file es)) (keep-no alive x [] d) in omega (arith, perm-length m))
+    absurd (let n : length (contents (x ∷ [])) ≡ 0 =
+        ap (λ (es : List Entry). length (map as-file es)) (keep-no alive x [] d) in omega (arith, perm-length m))
 dead-first x (y ∷ zs) f l d m = record { x = x; y = y; rest = zs; is = refl; dead = d }
 
 -- ---- the copy

@@ -178,10 +178,12 @@ module _ (k r : ℕ) (q : List ℕ) (long : length q ≡ 4096 * suc k + 8 * r) (
       let d : List ℕ = drop (4096 * suc i) q in
       let m : ℕ = 4096 * (suc k - suc i) in
       let lm : length (take m d) ≡ 8 * (512 * (k - i)) = length-take-le m d (omega (arith, length-drop (4096 * suc i) q)) ∙ omega arith in
-      let a : Markless (512 * (k - i)) (take m d) = markless-take (512 * (k - i)) r (take m d) (drop m d) lm (rw (take-append-drop m d) (later i h)) in
+      let a : Markless (512 * (k - i)) (take m d) =
+          markless-take (512 * (k - i)) r (take m d) (drop m d) lm (rw (take-append-drop m d) (later i h)) in
       let u : 8 * (512 * suc i) ≡ 4096 * suc i = omega arith in
       let v : 512 * suc i + 512 * (k - i) ≡ 512 * suc k = omega arith in
-      let b : Markless (512 * suc i) (blanks (4096 * suc i)) = subst (λ (n : ℕ). Markless (512 * suc i) (blanks n)) u (markless-blanks (512 * suc i)) in
+      let b : Markless (512 * suc i) (blanks (4096 * suc i)) =
+          subst (λ (n : ℕ). Markless (512 * suc i) (blanks n)) u (markless-blanks (512 * suc i)) in
       subst (λ (n : ℕ). Markless n (half-erased (suc i) (suc k) q)) v
       (markless-append (512 * suc i) (512 * (k - i)) (blanks (4096 * suc i)) (take m d) (length-replicate (4096 * suc i) 0xFF ∙ omega arith) b a)
 

@@ -31,12 +31,13 @@ use Rattle.history.specs.StraightErase.{second-ff}
 
 -- ---- one sector of a part without marks
 
-markless-swap : (j n r : ℕ) (u q w s : List ℕ) → length u ≡ 8 * j → length q ≡ 8 * n → length s ≡ 8 * n → Markless n s → Markless (j + (n + r)) (u ++ (q ++ w))
+markless-swap : (j n r : ℕ) (u q w s : List ℕ) → length u ≡ 8 * j → length q ≡ 8 * n → length s ≡ 8 * n → Markless n s
+    → Markless (j + (n + r)) (u ++ (q ++ w))
     → Markless (j + (n + r)) (u ++ (s ++ w))
 markless-swap j n r u q w s lu lq ls qs h =
     let a : Markless j u = markless-take j (n + r) u (q ++ w) lu h in
-    let d : Markless (n + r) (q ++ w) = subst (λ (m : List ℕ). Markless (n + r) m) (drop-at u (q ++ w) (8 * j) lu) (markless-drop j (n + r) (u ++ (q ++ w)) h)
-        in
+    let d : Markless (n + r) (q ++ w) =
+        subst (λ (m : List ℕ). Markless (n + r) m) (drop-at u (q ++ w) (8 * j) lu) (markless-drop j (n + r) (u ++ (q ++ w)) h) in
     let b : Markless r w = subst (λ (m : List ℕ). Markless r m) (drop-at q w (8 * n) lq) (markless-drop n r (q ++ w) d) in
     markless-append j (n + r) u (s ++ w) lu a (markless-append n r s w ls qs b)
 
@@ -87,7 +88,8 @@ module _ {s : List ℕ} {j : ℕ} (c : Cut s j) where
   blanked-is pre post a z p e =
       ap (λ (l : List ℕ). apply l (erase z))
       (ap (λ (l : List ℕ). pre ++ (l ++ post)) (c .is)
-          ∙ ap (λ (l : List ℕ). pre ++ l) (append-assoc (c .u) (c .q ++ c .w) post ∙ ap (λ (l : List ℕ). c .u ++ l) (append-assoc (c .q) (c .w) post))
+          ∙ ap (λ (l : List ℕ). pre ++ l)
+              (append-assoc (c .u) (c .q ++ c .w) post ∙ ap (λ (l : List ℕ). c .u ++ l) (append-assoc (c .q) (c .w) post))
       ∙ sym (append-assoc pre (c .u) (c .q ++ (c .w ++ post))))
       ∙ erase-mid (pre ++ c .u) (c .q) (c .w ++ post) z (length-append pre (c .u) ∙ omega (arith, c .lu)) (c .lq)
       ∙ append-assoc pre (c .u) (sector ++ (c .w ++ post))
@@ -109,7 +111,8 @@ pub record Mid (N h S lim : ℕ) (t : Bool) (es : List Entry) (im : Image) : Typ
 
 front-blanked : (u q w lost : List ℕ) (j : ℕ) → length u ≡ j → j % 4096 ≡ 0 → (getD ((u ++ (q ++ w)) ++ lost) 1 0 ≡ 0x5A → ⊥)
     → getD ((u ++ (sector ++ w)) ++ lost) 1 0 ≡ 0x5A → ⊥
-front-blanked [] q w lost j e z f = subst (λ (s : List ℕ). getD ((s ++ w) ++ lost) 1 0 ≡ 0x5A → ⊥) (sym sector-is) (second-ff 4096 w lost (omega arith))
+front-blanked [] q w lost j e z f =
+    subst (λ (s : List ℕ). getD ((s ++ w) ++ lost) 1 0 ≡ 0x5A → ⊥) (sym sector-is) (second-ff 4096 w lost (omega arith))
 front-blanked (x ∷ []) q w lost j e z f = absurd (omega arith)
 front-blanked (x ∷ y ∷ u) q w lost j e z f = f
 
@@ -188,7 +191,8 @@ mid-erase {N} {h} {S} {lim} {t} {es} {im} {z} d (high-sector m g l) =
         free = blanked c;
         m = v .m;
         laid = subst (λ (x : Image). Laid x h S t es seg-none (v .below) (blanked c)) (sym i)
-            (k .plug seg-none (f .0) (blanked c) Next.Clear (e ∙ f .1) (blanked-markless c (f .0) (f .1) (omega (arith, laid-eight (v .laid))) (f .2))
+            (k .plug seg-none (f .0) (blanked c) Next.Clear (e ∙ f .1)
+                (blanked-markless c (f .0) (f .1) (omega (arith, laid-eight (v .laid))) (f .2))
             (open-ff (v .m) (drop (v .m) (blanked c)) (blanked c)
                 (sym (take-append-drop (v .m) (blanked c)) ∙ ap (λ (x : List ℕ). x ++ drop (v .m) (blanked c)) own) (vacant-long v))
             (ap (λ (n : ℕ). 0 + n) e));
@@ -219,7 +223,8 @@ free-erasable : (im : Image) (h S : ℕ) (t : Bool)
     → Each (Erasable h S (limit (place im h S t)) t) (free-sectors (place im h S t))
 unfolding free-sectors Between
 free-erasable im h S true =
-    each-map (sectors (ceiling S) (floor h)) (λ z p. high-sector (p .2 ∙ omega arith) (p .0) (p .1)) (sectors-between (floor h) (ceiling S) (floor h))
+    each-map (sectors (ceiling S) (floor h)) (λ z p. high-sector (p .2 ∙ omega arith) (p .0) (p .1))
+        (sectors-between (floor h) (ceiling S) (floor h))
 free-erasable im h S false =
     each-append (Erasable h S (length im) false) (sectors 0 (floor h)) (sectors (ceiling S) (length im))
     (each-map (sectors 0 (floor h)) (λ z p. low-sector refl (p .2 ∙ omega arith) (p .1)) (sectors-between (floor h) 0 (floor h)))

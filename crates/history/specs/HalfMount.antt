@@ -57,7 +57,8 @@ module _ {l : Ledger} {im : Image} (a m c k : ℕ) {h : ℕ} {lost : List ℕ} {
   sound : Steps-sound im (moved at finish)
   sound =
       subst (λ (i : Image). Steps-sound i (moved at finish)) (sym (split-at (x ∷ ys) [] (sym (append-nil (x ∷ ys))) s))
-      (sound-past (front-part (blanks (4096 * a)) lost (x ∷ ys)) (torn-wrap c k) finish at (front-length (x ∷ ys) [] (sym (append-nil (x ∷ ys))) s) tt
+      (sound-past (front-part (blanks (4096 * a)) lost (x ∷ ys)) (torn-wrap c k) finish at
+          (front-length (x ∷ ys) [] (sym (append-nil (x ∷ ys))) s) tt
           (finish-sound k b))
 
   -- 5A written
@@ -101,5 +102,6 @@ mends-half {l} {im} a m c k {h} {lost} {x} {ys} i s b z st ok =
     let q : Rested l (run im (moved at finish)) (reading-from (run im (moved at finish)) h) = rested a m c k s b z st ok (i .good) in
     let p : Rests l im (moved at finish) h = record { safe = (i, d .0, (half-inv a m c k s b z st ok (i .good), d .1 .0, rested-inv q)); rested = q }
         in
-    mends-3 {r = r} (torn-wrap-whole k s b z refl (st .0) (starts-ruled es l ok st)) p (some-behind [] (program (at + 2) 0xF0 ∷ []) (program (at + 1) 0x5A))
+    mends-3 {r = r} (torn-wrap-whole k s b z refl (st .0) (starts-ruled es l ok st)) p
+        (some-behind [] (program (at + 2) 0xF0 ∷ []) (program (at + 1) 0x5A))
     (one-none (begin im r) (starts-clean es st)) (two-plain (begin im r) es st) (third-finishes (begin im r) at (fine-finished es f) refl)

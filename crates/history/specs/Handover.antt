@@ -44,7 +44,8 @@ close-same : (N : ℕ) (x y : Entry) (r : Rec) → close-steps N x (record { at 
 unfolding close-steps vacated-end
 close-same N x y r = refl
 
-module _ {l : Ledger} {im : Image} {r : Reading} (q : Rested l im r) (x y : Entry) (es : List Entry) (i : q .es ≡ x ∷ y ∷ es) (dead : alive x ≡ false)
+module _ {l : Ledger} {im : Image} {r : Reading} (q : Rested l im r) (x y : Entry) (es : List Entry) (i : q .es ≡ x ∷ y ∷ es)
+    (dead : alive x ≡ false)
     where
   d : Laid im (q .h) (q .S) (q .t) (x ∷ y ∷ es) seg-none (blanks (q .B)) (blanks (q .F))
   d = subst (λ (fs : List Entry). Laid im (q .h) (q .S) (q .t) fs seg-none (blanks (q .B)) (blanks (q .F))) i (q .laid)

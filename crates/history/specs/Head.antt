@@ -18,7 +18,8 @@ use Rattle.history.specs.Blanks.{blanks}
 use Rattle.history.specs.Lay.{onto, lay, sizes, Fit, All-fine, drop-onto, length-lay, drop-lay, sizes-least}
 use Rattle.history.specs.Last.{Begun, begun-ff, begun-5a, Name-begun, begun-none, begun-end, torn, held, begun, drop-begun}
 use Rattle.history.specs.Markless.{mark-nil, no-start, no-clean, Markless, mark-append}
-use Rattle.history.specs.Walk.{Walks, walks-record, walks-clean, Walked, walk-lay, walk-begun, walk-held, Lands, Lands₁, lands-more, lands-markless, lands-torn-like, lands-head, Head-low, is-START, is-CLEAN, search-found, search-none}
+use Rattle.history.specs.Walk.{Walks, walks-record, walks-clean, Walked, walk-lay, walk-begun, walk-held, Lands, Lands₁, lands-more}
+use Rattle.history.specs.Walk.{lands-markless, lands-torn-like, lands-head, Head-low, is-START, is-CLEAN, search-found, search-none}
 
 -- ---- the choice
 
@@ -46,7 +47,8 @@ unfolding chosen
 chosen-none image a e₁ e₂ e₃ = rw (chosen, e₁, e₂, e₃)
 
 -- where the walk of the whole image ends
-module _ (low : List Rec) (by : ℕ) (s g : List ℕ) (f : All-fine low) (w : Walked 0 low) (l : Lands (sizes low) by s g) (room : 1 ≤ length (lay low s))
+module _ (low : List Rec) (by : ℕ) (s g : List ℕ) (f : All-fine low) (w : Walked 0 low) (l : Lands (sizes low) by s g)
+    (room : 1 ≤ length (lay low s))
     where
   walked : walk (suc (length (lay low s))) 0 (lay low s) ≡ sizes low + by
   walked =
@@ -274,7 +276,16 @@ nil-no-torn = refl
 
 -- nothing but what has no mark
 pub reaches-end : (at j : ℕ) (g : List ℕ) → length g ≡ 8 * j → Markless j g → Reaches₁ at g [] (8 * j)
-reaches-end at zero [] e q = record { by = 0; g = []; j = 0; land = lands-markless at [] mark-nil nil-no-torn; whole = refl; markless = tt; far = refl }
+reaches-end at zero [] e q =
+    record {
+      by = 0;
+      g = [];
+      j = 0;
+      land = lands-markless at [] mark-nil nil-no-torn;
+      whole = refl;
+      markless = tt;
+      far = refl;
+    }
 reaches-end at zero (x ∷ g) e q = absurd (omega arith)
 reaches-end at (suc j) g e q = subst (λ (l : List ℕ). Reaches₁ at l [] (8 * suc j)) (append-nil g) (reaches-markless at j g [] e q)
 

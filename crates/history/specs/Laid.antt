@@ -32,7 +32,8 @@ pub data Laid (im : Image) (h S : ℕ) (t : Bool) (es : List Entry) (seg : Seg) 
           → S ≡ h + sizes (x ∷ ys) →
       es ≡ entries-of h (x ∷ ys) → length free ≡ 8 * f → Markless f free → Laid im h S t es seg below free
   laid-turned :
-      {a l f : ℕ} {lost : List ℕ} {low : List Rec} {x : Rec} {ys : List Rec} {end : End} → Turned im a l lost h low seg f free (x ∷ ys) end → t ≡ true
+      {a l f : ℕ} {lost : List ℕ} {low : List Rec} {x : Rec} {ys : List Rec} {end : End} → Turned im a l lost h low seg f free (x ∷ ys) end
+          → t ≡ true
           → S ≡ sizes low →
       es ≡ entries-of h (x ∷ ys) ++ entries-of 0 low → below ≡ [] → Laid im h S t es seg below free
 

@@ -131,11 +131,13 @@ cleaned-by : (x : Rec) → Printable (x .name) → Markless (length (x .content)
 cleaned-by x p q =
     let d : ℕ = length (x .content) in
     let n : d ≡ up8 d / 8 + (d - up8 d / 8) = omega arith in
-    let r : Markless (up8 d / 8) (x .content) = markless-fewer (up8 d / 8) (d - up8 d / 8) (x .content) (subst (λ (m : ℕ). Markless m (x .content)) n q) in
+    let r : Markless (up8 d / 8) (x .content) =
+        markless-fewer (up8 d / 8) (d - up8 d / 8) (x .content) (subst (λ (m : ℕ). Markless m (x .content)) n q) in
     let w : up8 (length (x .name) + 1) / 8 + up8 d / 8 ≡ rsize x / 8 - 1 = omega arith in
     subst (λ (m : ℕ). Markless m (body (x .name) (x .content) [])) w
     (markless-body (x .name) (x .content) p
-    (subst (λ (s : List ℕ). Markless (up8 d / 8) (x .content ++ s)) (sym (append-nil (blanks (pad d)))) (markless-pad (up8 d / 8) (x .content) (pad d) r)))
+    (subst (λ (s : List ℕ). Markless (up8 d / 8) (x .content ++ s)) (sym (append-nil (blanks (pad d))))
+        (markless-pad (up8 d / 8) (x .content) (pad d) r)))
 
 -- ---- a record up to its data
 
@@ -211,7 +213,8 @@ module _ {im : Image} {h S : ℕ} {t : Bool} {x : Entry} {ys : List Entry} {seg 
       subst (λ (i : Image). Clean-now d P (content-of x) Q (run i steps)) (sym start)
           (clean-done d (data-at x) P (content-of x) Q P-length (omega arith)) in
       let same : done .now ≡ c .now = same-mid P Q (done .now) (c .now) (sym (done .is) ∙ c .is) (done .same-length ∙ sym (c .sized)) in
-      cleaned-by (recontent (c .now) (x .it)) (I .fine .fit .printable) (subst₂ (λ (n : ℕ) (s : List ℕ). Markless n s) (sym (c .sized)) same (done .markless))
+      cleaned-by (recontent (c .now) (x .it)) (I .fine .fit .printable)
+          (subst₂ (λ (n : ℕ) (s : List ℕ). Markless n s) (sym (c .sized)) same (done .markless))
 
 -- ---- step (c) on a laid image
 

@@ -61,7 +61,8 @@ vacated-all N x y a k z e n =
 -- ---- FF in front
 
 -- a chain that ends at N has turned once there are sectors below the head
-turn-open : {im : List ℕ} {a l : ℕ} {gap lost : List ℕ} {h : ℕ} {high : List Rec} → Straight im a l gap lost h high seg-none [] → Opens gap Next.Clear
+turn-open : {im : List ℕ} {a l : ℕ} {gap lost : List ℕ} {h : ℕ} {high : List Rec} → Straight im a l gap lost h high seg-none []
+    → Opens gap Next.Clear
     → 1 ≤ a →
     Turned im a l lost h [] seg-none (512 * a) gap high exact
 turn-open s o b =
@@ -96,7 +97,8 @@ module _ {im : Image} {a l : ℕ} {lost : List ℕ} {h : ℕ} {x y : Rec} {ys : 
   abbrev E : List Entry
   E = entries-of (h + rsize x + rsize y) ys
 
-  module _ (k r : ℕ) (all : 512 * suc k + r ≡ l + rsize x / 8) (short : r < 512) (f : ℕ) (lf : length (blanks F) ≡ 8 * f) (qf : Markless f (blanks F))
+  module _ (k r : ℕ) (all : 512 * suc k + r ≡ l + rsize x / 8) (short : r < 512) (f : ℕ) (lf : length (blanks F) ≡ 8 * f)
+      (qf : Markless f (blanks F))
       where
     abbrev A : ℕ
     A = 4096 * a
@@ -140,7 +142,8 @@ module _ {im : Image} {a l : ℕ} {lost : List ℕ} {h : ℕ} {x y : Rec} {ys : 
         λ i p. turn-open (subst (λ (m : List ℕ). Straight (run im (take (suc i) (erases A (suc k)))) (a + suc k) r
             (blanks B ++ half-erased (suc i) (suc k) q) (drop (4096 * suc k) q)
         (h + rsize x) (y ∷ ys) seg-none m) z (straight-erased s c k r all short i p))
-        (open-ff (B + 4096 * suc i) (rest i) (blanks B ++ half-erased (suc i) (suc k) q) (sym (split-front B (4096 * suc i) (B + (4096 * suc i)) (rest i) refl)) (omega arith))
+        (open-ff (B + 4096 * suc i) (rest i) (blanks B ++ half-erased (suc i) (suc k) q)
+            (sym (split-front B (4096 * suc i) (B + (4096 * suc i)) (rest i) refl)) (omega arith))
             (omega arith) in
         far A k 0 true (vacated-are (length im) h x y a l k r (s .at) (s .lost-small) all short) (omega arith) sectors-in
         (λ i p. vacant-at (laid-turned (v i p) refl refl (sym (append-nil (entries-of (h + rsize x) (y ∷ ys)))) refl) (B + 4096 * suc i) (rest i)
@@ -279,7 +282,8 @@ module _ {im : Image} {a l : ℕ} {lost : List ℕ} {h : ℕ} {y : Rec} {low : L
           → Laid (run im (take (suc i) (erases A (suc k)))) 0 S false (Y₂ ∷ E₂) seg-none [] (blanks F ++ half-erased (suc i) (suc k) q) =
       λ i p. laid-straight (f + 512 * suc k) (zero-erased s k n b i p) refl refl refl (long i p) (zero-markless s k n b i p) in
       far A k S false (vacated-all (length im) X₂ Y₂ a k refl (omega (arith, s .at, s .lost-small)) n) (omega arith) (omega arith)
-      (λ i p. vacant-at (laid i p) (F + 4096 * suc i) (rest i) (sym (split-front F (4096 * suc i) (F + (4096 * suc i)) (rest i) refl)) (omega (arith, s .below, F₂)))
+      (λ i p. vacant-at (laid i p) (F + 4096 * suc i) (rest i) (sym (split-front F (4096 * suc i) (F + (4096 * suc i)) (rest i) refl))
+          (omega (arith, s .below, F₂)))
       (record {
         S = S;
         B = 0;

@@ -29,7 +29,8 @@ use Rattle.history.specs.EraseFree.{Mid, erase-safe}
 
 -- ---- all the erases: FF
 
-front-ff : (B : ℕ) (below lost : List ℕ) → length below ≡ B → B % 8 ≡ 0 → (getD (below ++ lost) 1 0 ≡ 0x5A → ⊥) → getD (blanks B ++ lost) 1 0 ≡ 0x5A → ⊥
+front-ff : (B : ℕ) (below lost : List ℕ) → length below ≡ B → B % 8 ≡ 0 → (getD (below ++ lost) 1 0 ≡ 0x5A → ⊥)
+    → getD (blanks B ++ lost) 1 0 ≡ 0x5A → ⊥
 front-ff zero [] lost e z f = f
 front-ff zero (x ∷ below) lost e z f = absurd (omega arith)
 front-ff (suc zero) below lost e z f = absurd (omega arith)
@@ -85,7 +86,8 @@ high-done {im} {h} {S} {t} {es} {below} {free} d im₀ pre₀ i₀ l₀ c k lim 
     (length-append (K .pre) (blanks c) ∙ omega (arith, K .at))
     (length-drop c free ∙ omega arith) kl (omega arith) im₀ (i₀ ∙ opened-up pre₀ (K .post) free c cb)
     ∙ append-assoc (K .pre) (blanks c) (blanks (4096 * k) ++ K .post)
-        ∙ ap (λ (l : List ℕ). K .pre ++ l) (sym (split-front c (4096 * k) (c + (4096 * k)) (K .post) refl) ∙ ap (λ (m : ℕ). blanks m ++ K .post) n) in
+        ∙ ap (λ (l : List ℕ). K .pre ++ l)
+            (sym (split-front c (4096 * k) (c + (4096 * k)) (K .post) refl) ∙ ap (λ (m : ℕ). blanks m ++ K .post) n) in
     let lF : length (blanks F) ≡ F = length-replicate {A = ℕ} F 0xFF in
     subst (λ (i : Image). Laid i h S t es seg-none below (blanks F)) (sym e)
     (K .plug seg-none (f .0) (blanks F) Next.Clear (lF ∙ f .1) (markless-ff (f .0) (blanks F) (ap blanks (f .1))) (opens-blanks F e₈)

@@ -10,7 +10,8 @@ use lib.Seq.{drop-drop, take-append-seam}
 use Rattle.spec.specs.declared.Next.{Next}
 use Rattle.spec.specs.Basics.{long, blank}
 use Rattle.spec.specs.Geometry.{up8}
-use Rattle.spec.specs.Bytes.{is-record, is-wrap, is-start, is-clean, is-high, is-high-begun, is-erased, is-reserved, is-wrapped, is-unfinished, is-spare, is-name-begun, ends-name}
+use Rattle.spec.specs.Bytes.{is-record, is-wrap, is-start, is-clean, is-high, is-high-begun, is-erased, is-reserved, is-wrapped, is-unfinished}
+use Rattle.spec.specs.Bytes.{is-spare, is-name-begun, ends-name}
 use Rattle.spec.specs.Record.{status-of, size-of, Rec, rec-of}
 use Rattle.spec.specs.Next.{kind, record-at, torn-at, torn-wrap-at, clear-at, next-at, next}
 use Rattle.spec.specs.Chain.{Chain, add, stop, chain}

@@ -13,7 +13,8 @@ use borrow.Author.Tests.{lt-ltb, ne-eqb}
 use Rattle.spec.specs.declared.Next.{Next}
 use Rattle.spec.specs.Basics.{long}
 use Rattle.spec.specs.Geometry.{up8}
-use Rattle.spec.specs.Bytes.{is-record, is-wrap, is-start, is-clean, is-high, is-erased, is-reserved, is-committed, is-migrating, is-dead, is-unfinished, is-spare, ends-name}
+use Rattle.spec.specs.Bytes.{is-record, is-wrap, is-start, is-clean, is-high, is-erased, is-reserved, is-committed, is-migrating, is-dead}
+use Rattle.spec.specs.Bytes.{is-unfinished, is-spare, ends-name}
 use Rattle.spec.specs.Record.{name-length, data-len-of, status-of, size-of, Rec, rec-of, Entry}
 use Rattle.spec.specs.Next.{kind, sized, record-at, next-at, next, written-kind, record-kind}
 use Rattle.spec.specs.Chain.{Chain, add, chain}
@@ -181,7 +182,8 @@ ends-zero held = refl
 pub record-at-onto : (held : Bool) (r : Rec) (s : List ℕ) → Fit (length (r .content)) (r .name)
     → record-at held (onto r s) ≡ Next.Record (length (r .name)) (length (r .content))
 record-at-onto held r s f =
-    record-at-laid held (r .low) 0x5A (r .status) 0xFF 0 (length (r .content)) (r .name) (blanks (pad (length (r .name) + 1)) ++ padded (r .content) s) f
+    record-at-laid held (r .low) 0x5A (r .status) 0xFF 0 (length (r .content)) (r .name)
+        (blanks (pad (length (r .name) + 1)) ++ padded (r .content) s) f
         (ends-zero held)
     (omega (arith, length-body (r .name) (r .content) s, length-append (r .name)
         (0 ∷ (blanks (pad (length (r .name) + 1)) ++ padded (r .content) s))))

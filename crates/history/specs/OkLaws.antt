@@ -3,14 +3,17 @@ use Prim.Native.Nat.{ℕ}
 use mathlib.Core.Path.{_≡_, refl, sym, ap, ap₂, _∙_, subst}
 use mathlib.Core.Bool.{Bool, true, false, not}
 use mathlib.Core.Option.{Option, none, some}
-use mathlib.Core.List.{List, [], _∷_, _++_, map, append-nil, append-assoc, List·Permᴰ, List·Permᴰ·cons, List·Permᴰ·trans, Permᴰ·symm, Permᴰ·middle, Permᴰ·append-nil}
+use mathlib.Core.List.{List, [], _∷_, _++_, map, append-nil, append-assoc, List·Permᴰ, List·Permᴰ·cons, List·Permᴰ·trans, Permᴰ·symm, Permᴰ·middle}
+use mathlib.Core.List.{Permᴰ·append-nil}
 use lib.Dec.{eqb}
 use borrow.Author.Tests.{eqb-true, eq-eqb}
 use Rattle.spec.specs.Basics.{same, keep, first-such}
 use Rattle.spec.specs.Record.{name-ok, Entry, name-of, content-of}
 use Rattle.spec.specs.Files.{named, named-as, has-named, has-name, file-named}
 use Rattle.spec.specs.History.{File, Ledger, not-named, without, with-file}
-use Rattle.history.specs.Lists.{keep-no, keep-yes, each-map, each-end, each-swap, each-insert, each-without, each-at, each-append, each-all, pairwise-end, pairwise-without, pairwise-before, pairwise-behind, pairwise-insert, any-last, first-yes, first-no, not-both}
+use Rattle.history.specs.Lists.{keep-no, keep-yes, each-map, each-end, each-swap, each-insert, each-without, each-at, each-append, each-all}
+use Rattle.history.specs.Lists.{pairwise-end, pairwise-without, pairwise-before, pairwise-behind, pairwise-insert, any-last, first-yes}
+use Rattle.history.specs.Lists.{first-no, not-both}
 use Rattle.history.specs.Store.{same-sym, alive, Apart, Unique, Well-named, fc-alive, f8-alive, dead-apart, dead-named, files-alive}
 use Rattle.history.specs.Ledger.{as-file, contents, Matches, Absent, perm-keep, keep-contents, contents-append, contents-one, matches-dead}
 use Rattle.history.specs.Shadow.{Shadowed}
@@ -135,7 +138,8 @@ module _ (xs ys : List Entry) (e : Entry) (l : Ledger) (ok : Ok (xs ++ (e ∷ ys
 
   -- a file is removed
   pub ok-delete : (f : Entry) → alive e ≡ true → alive f ≡ false → Ok (xs ++ (f ∷ ys)) (without (name-of e) l)
-  ok-delete f a b = ok-insert xs ys f (without (name-of e) l) (ok-less (without (name-of e) l) (without-mid xs ys e l (ok .unique) a (ok .matches))) b
+  ok-delete f a b = ok-insert xs ys f (without (name-of e) l)
+      (ok-less (without (name-of e) l) (without-mid xs ys e l (ok .unique) a (ok .matches))) b
 
 -- a dead record more, at the end
 pub ok-add : (es : List Entry) (u : Entry) (l : Ledger) → Ok es l → alive u ≡ false → Ok (es ++ (u ∷ [])) l
@@ -235,7 +239,8 @@ old-first n (e ∷ es) = go (alive e) (same (name-of e) n) refl refl (old-first 
         subst (Old n (e ∷ es)) (sym (ap (first-such (has-name n)) (keep-yes alive e es x) ∙ first-no (has-name n) e (keep alive es) y))
             (old-cons n e es (λ k. y) ih)
     go false b x y ih =
-        subst (Old n (e ∷ es)) (sym (ap (first-such (has-name n)) (keep-no alive e es x))) (old-cons n e es (λ k. absurd (not-both (alive e) x k)) ih)
+        subst (Old n (e ∷ es)) (sym (ap (first-such (has-name n)) (keep-no alive e es x)))
+            (old-cons n e es (λ k. absurd (not-both (alive e) x k)) ih)
 
 -- what the search for a name gives
 pub old-file : (n : List ℕ) (es : List Entry) (l : Ledger) → Ok es l → Old n es (file-named n es)

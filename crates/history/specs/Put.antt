@@ -56,7 +56,8 @@ torn-state c x y z w f s b h =
     record {
       seg = seg-torn c x y z w 0xFF b begun-none;
       left = f - 16;
-      is = ap (λ (l : List ℕ). 0xA5 ∷ c ∷ 0xFF ∷ 0xFF ∷ x ∷ y ∷ z ∷ w ∷ l) (ap (λ (l : List ℕ). l ++ s) (blank-split 8 (f - 16) (f - 8) (omega arith)));
+      is = ap (λ (l : List ℕ). 0xA5 ∷ c ∷ 0xFF ∷ 0xFF ∷ x ∷ y ∷ z ∷ w ∷ l)
+          (ap (λ (l : List ℕ). l ++ s) (blank-split 8 (f - 16) (f - 8) (omega arith)));
       sum = omega arith;
     }
 
@@ -89,7 +90,8 @@ name-cut d f n s h p l i j k =
 
 -- the name and its 00: a held record with no data yet
 named : (n c s : List ℕ) (f : ℕ) → size-of (length n) (length c) ≤ f →
-    run (header (length c) (blanks (f - 8) ++ s)) (name-steps n) ≡ onto (held n (blanks (length c))) (blanks (f - size-of (length n) (length c)) ++ s)
+    run (header (length c) (blanks (f - 8) ++ s)) (name-steps n) ≡ onto (held n (blanks (length c)))
+        (blanks (f - size-of (length n) (length c)) ++ s)
 named n c s f h =
     let d : ℕ = length c in
     let p : ℕ = pad (length n + 1) in
@@ -142,7 +144,8 @@ names-cut : (n c s : List ℕ) (f : ℕ) → Fit (length c) n → size-of (lengt
 names-cut n c s f g h k i =
     let H : List ℕ = header (length c) (blanks (f - 8) ++ s) in
     let R : List ℕ = onto (held n (blanks (length c))) (blanks (f - size-of (length n) (length c)) ++ s) in
-    let names : (j : ℕ) → j ≤ length n → Opened f s (run H (take j (bytes-at 8 n))) = name-cut (length c) f n s (g .short) (g .printable) (g .small) h in
+    let names : (j : ℕ) → j ≤ length n → Opened f s (run H (take j (bytes-at 8 n))) =
+        name-cut (length c) f n s (g .short) (g .printable) (g .small) h in
     let all : take (length n) (bytes-at 8 n) ≡ bytes-at 8 n = take-all (length n) (bytes-at 8 n) (omega (arith, length-bytes 8 n)) in
     let a : Opened f s (run H (bytes-at 8 n)) = rw all at (names (length n) (omega arith)) in
     let e : apply (run H (bytes-at 8 n)) (program (8 + length n) 0) ≡ R = sym (run-append H (bytes-at 8 n) (program (8 + length n) 0 ∷ []))

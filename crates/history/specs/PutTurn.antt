@@ -47,9 +47,11 @@ module _ {im : Image} {h S : ℕ} {es : List Entry} (B F : ℕ) (d : Laid im h S
           (subst (λ (n : ℕ). Straight (set im (h + sizes (x ∷ ys) + 0) 0xFA) a m (blanks n) lost h (x ∷ ys) seg-none (torn-wrap 0xFF (F - 8))) b
               (marker-cut-1 s eight)) in
           let two : Straight (set (set im (S + 0) 0xFA) (S + 1) 0x5A) a m (blanks (4096 * a)) lost h (x ∷ ys) seg-none (torn-wrap 0x5A (F - 8)) =
-          subst (λ (n : ℕ). Straight (set (set im (n + 0) 0xFA) (n + 1) 0x5A) a m (blanks (4096 * a)) lost h (x ∷ ys) seg-none (torn-wrap 0x5A (F - 8)))
+          subst (λ (n : ℕ). Straight (set (set im (n + 0) 0xFA) (n + 1) 0x5A) a m (blanks (4096 * a)) lost h (x ∷ ys) seg-none
+              (torn-wrap 0x5A (F - 8)))
               (sym i)
-          (subst (λ (n : ℕ). Straight (set (set im (h + sizes (x ∷ ys) + 0) 0xFA) (h + sizes (x ∷ ys) + 1) 0x5A) a m (blanks n) lost h (x ∷ ys) seg-none
+          (subst (λ (n : ℕ). Straight (set (set im (h + sizes (x ∷ ys) + 0) 0xFA) (h + sizes (x ∷ ys) + 1) 0x5A) a m (blanks n) lost h (x ∷ ys)
+              seg-none
               (torn-wrap 0x5A (F - 8))) b (marker-cut-2 s eight)) in
           let some : 1 ≤ a = omega arith in
           let st′ : Starts (entries-of h (x ∷ ys)) = subst Starts j st in

@@ -118,7 +118,8 @@ module _ {im : Image} {h S : ℕ} {t : Bool} {es : List Entry} (B F : ℕ) (d : 
       let x = opens-words m (o .left) w in
       let laid : Laid im′ h S t es (o .seg) (blanks B) (blanks (o .left)) =
       subst (λ (z : Image). Laid z h S t es (o .seg) (blanks B) (blanks (o .left))) (ap (λ (z : List ℕ). H .pre ++ z) (sym (o .is)) ∙ sym e)
-      (H .plug (o .seg) m (blanks (o .left)) (x .0) (length-replicate {A = ℕ} (o .left) 0xFF ∙ w) (markless-ff m (blanks (o .left)) (ap blanks w)) (x .1)
+      (H .plug (o .seg) m (blanks (o .left)) (x .0) (length-replicate {A = ℕ} (o .left) 0xFF ∙ w) (markless-ff m (blanks (o .left)) (ap blanks w))
+          (x .1)
       (omega (arith, o .sum, length-replicate {A = ℕ} (o .left) 0xFF, length-replicate {A = ℕ} F 0xFF))) in
       quiet-of B (o .left) laid (tail-of S (o .seg) (left-of B (o .left) laid) (λ i. omega (arith, ap seg-size i, o .sum))) st ok
 

@@ -15,7 +15,8 @@ use Rattle.spec.specs.declared.Ending.{Ending}
 use Rattle.spec.specs.Geometry.{floor}
 use Rattle.spec.specs.Record.{Rec, Entry}
 use Rattle.spec.specs.Chain.{Chain, stop, chain, Reading, read, joined, from-head, from-zero, read-on, reading-from}
-use Rattle.history.specs.Lay.{lay, sizes, entries-of, before, All-fine, chain-lay, length-lay, sizes-least, drop-past, lay-past, before-chain, chain-of}
+use Rattle.history.specs.Lay.{lay, sizes, entries-of, before, All-fine, chain-lay, length-lay, sizes-least, drop-past, lay-past, before-chain}
+use Rattle.history.specs.Lay.{chain-of}
 use Rattle.history.specs.Last.{Ends, Stops}
 
 -- ---- the two chains
@@ -58,7 +59,8 @@ module _ (low high : List Rec) (gap lost rest : List ℕ) (h : ℕ) (below : siz
   high-read : (es : List Entry) (o : Bool) (t : ℕ) (x : Next) → All-fine high → 1 ≤ sizes high → Ends (h + sizes high) rest (chain-of es o t x) →
       from-head image h ≡ chain-of (entries-of h high ++ es) o t x
   high-read es o t x f l e =
-      ap (chain (suc (length image)) false h) drop-high ∙ fuel high (length image) h rest es o t x f e (omega (arith, length-image, sizes-least high))
+      ap (chain (suc (length image)) false h) drop-high
+          ∙ fuel high (length image) h rest es o t x f e (omega (arith, length-image, sizes-least high))
 
   low-read : (es : List Entry) (o : Bool) (t : ℕ) (x : Next) → All-fine low → 1 ≤ floor h → Ends (sizes low) gap (chain-of es o t x) →
       from-zero image h false ≡ chain-of (entries-of 0 low ++ es) o t x

@@ -14,7 +14,8 @@ use Rattle.spec.specs.Move.{vacated-end, vacated}
 use Rattle.history.specs.Blanks.{blanks}
 use Rattle.history.specs.Lay.{lay, rsize, rsize-words}
 use Rattle.history.specs.Markless.{markless-append, Cleaned, Markless}
-use Rattle.history.specs.Erase.{erases, half-erased, half-erased-length, erase-cut, markless-lost, half-erased-markless, sectors-are, all-erased, take-erases, old-head, old-head-lay, old-head-length, old-head-markless}
+use Rattle.history.specs.Erase.{erases, half-erased, half-erased-length, erase-cut, markless-lost, half-erased-markless, sectors-are}
+use Rattle.history.specs.Erase.{all-erased, take-erases, old-head, old-head-lay, old-head-length, old-head-markless}
 use Rattle.history.specs.Seg.{seg-none}
 use Rattle.history.specs.Straight.{Straight}
 
@@ -68,7 +69,8 @@ module _ {im : List ℕ} {a l : ℕ} {gap lost : List ℕ} {h : ℕ} {x y : Rec}
           gap-length = length-append gap D ∙ omega (arith, s .gap-length, ld);
           gap-markless =
               subst (λ (n : ℕ). Markless n (gap ++ D)) qn
-                  (markless-append (512 * a) (512 * suc k) gap D (s .gap-length ∙ omega arith) (s .gap-markless) (half-erased-markless k r q q-length markless-q i e));
+                  (markless-append (512 * a) (512 * suc k) gap D (s .gap-length ∙ omega arith) (s .gap-markless)
+                      (half-erased-markless k r q q-length markless-q i e));
           lost-length = length-drop (4096 * suc k) q ∙ omega (arith, q-length);
           lost-small = short;
           lost-markless = markless-lost k r q q-length markless-q;
@@ -102,7 +104,8 @@ module _ {im : Image} {a l : ℕ} {gap lost : List ℕ} {h : ℕ} {x y : Rec} {y
   A = 4096 * a
 
   -- all of (d): the gap's new sectors are FF
-  pub straight-all-erased : Straight (run im (erases A (suc k))) (a + suc k) r (gap ++ blanks (4096 * suc k)) (drop (4096 * suc k) (old-head lost x [])) (h + rsize x)
+  pub straight-all-erased : Straight (run im (erases A (suc k))) (a + suc k) r (gap ++ blanks (4096 * suc k))
+      (drop (4096 * suc k) (old-head lost x [])) (h + rsize x)
       (y ∷ ys) seg-none free
   straight-all-erased =
       subst (λ (g : List ℕ). Straight (run im (erases A (suc k))) (a + suc k) r (gap ++ g) (drop (4096 * suc k) (old-head lost x [])) (h + rsize x)

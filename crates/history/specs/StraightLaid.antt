@@ -43,7 +43,8 @@ module _ {im : List ℕ} {a l : ℕ} {gap lost : List ℕ} {h : ℕ} {x : Rec} {
         is = s .is ∙ sym (at-end (seg-onto seg free)) ∙ ap (λ (l : List ℕ). pre ++ l) (sym (seg-append seg free []));
         at = front-length rs [] (sym (append-nil rs)) s;
         plug = λ g f new y m n o z.
-            laid-of [] x ys f (straight-with (pre ++ seg-onto g (new ++ [])) s (ap (λ (l : List ℕ). pre ++ l) (seg-append g new []) ∙ at-end (seg-onto g new))
+            laid-of [] x ys f (straight-with (pre ++ seg-onto g (new ++ [])) s
+                (ap (λ (l : List ℕ). pre ++ l) (seg-append g new []) ∙ at-end (seg-onto g new))
                 (s .fine)) refl refl m n;
         grow = λ r f new y fine w m n o z.
             laid-of rs r [] f

@@ -168,7 +168,8 @@ module _ {l : Ledger} {im : Image} {r : Reading} (q : Rested l im r) (free : stu
   move-dead x (y ∷ es) i a =
       subst (Done l im) (sym (move-by im r (x ∷ y ∷ es) [] (begin im r) (entries-is ∙ i) (copy-dead r x (y ∷ es) (live-is x (y ∷ es) i ∙ a))
           (after-none (begin im r) (r .place .head))))
-      (moved-done l im (begin im r) (record { safe = rested-inv q; image = refl; rested = q }) (record { x = x; y = y; rest = es; is = i; dead = a }))
+      (moved-done l im (begin im r) (record { safe = rested-inv q; image = refl; rested = q })
+          (record { x = x; y = y; rest = es; is = i; dead = a }))
 
   move-done : Done l im (move (begin im r))
   move-done = go (q .es) refl

@@ -20,7 +20,8 @@ use Rattle.spec.specs.Reading.{reading}
 use Rattle.spec.specs.Place.{with-marker}
 use Rattle.spec.specs.Write.{put-steps, status-step}
 use Rattle.spec.specs.Mount.{mended}
-use Rattle.spec.specs.Answers.{Plan, Numbers, Outcome, doing, removing, carry-out, cut, refusal, success, mount, mount-of, mount-work, mount-plan, put-plan, file-plan, remove-plan, get-plan, list-plan, sweep-plan}
+use Rattle.spec.specs.Answers.{Plan, Numbers, Outcome, doing, removing, carry-out, cut, refusal, success, mount, mount-of, mount-work, mount-plan}
+use Rattle.spec.specs.Answers.{put-plan, file-plan, remove-plan, get-plan, list-plan, sweep-plan}
 use Rattle.spec.specs.History.{Request, plan, steps-of, Ledger, with-file, without, one-if-fc, three-if, commit-place, put-done, fed}
 use Rattle.spec.specs.Demand.{Steps-sound, Mounted, Shows, Bytes-put, Demand-3}
 use Rattle.history.specs.Steps.{run-append}
@@ -34,7 +35,8 @@ use Rattle.history.specs.Mounts.{mends}
 use Rattle.history.specs.Sweeps.{moves-safe, remove-step}
 use Rattle.history.specs.Induction.{still-keeps, demand-by, carried-done, carried-cut}
 use Rattle.history.specs.Formats.{formatted}
-use Rattle.history.specs.Calls.{Puts, put-no, put-yes, puts-of, Finds, find-no, find-yes, finds-of, Swept, sweep-no, sweep-yes, swept-of, get-none, list-none}
+use Rattle.history.specs.Calls.{Puts, put-no, put-yes, puts-of, Finds, find-no, find-yes, finds-of, Swept, sweep-no, sweep-yes, swept-of}
+use Rattle.history.specs.Calls.{get-none, list-none}
 use Rattle.history.specs.Shows.{rested-shows}
 
 -- ---- put

@@ -19,7 +19,8 @@ use Rattle.history.specs.Last.{Ends, Stops, stops-clear, stops-over, wra
 use Rattle.history.specs.Markless.{markless-append, Markless}
 use Rattle.history.specs.Walk.{Walked, Head-low, is-START, is-CLEAN}
 use Rattle.history.specs.Head.{Front, front-gap, front-begun, front-low, Reaches, head-start, head-clean}
-use Rattle.history.specs.Seg.{Seg, seg-none, seg-torn, seg-cut, seg-held, seg-onto, seg-size, seg-entries, seg-open, seg-append, length-seg, seg-ends, seg-reaches}
+use Rattle.history.specs.Seg.{Seg, seg-none, seg-torn, seg-cut, seg-held, seg-onto, seg-size, seg-entries, seg-open, seg-append, length-seg}
+use Rattle.history.specs.Seg.{seg-ends, seg-reaches}
 use Rattle.history.specs.Shape.{image, shape-turned, turns-wrap, turns-over, Low-end, low-clear, low-over}
 
 -- what ends the records from the head on: N itself, or a wrap marker and k bytes of FF
@@ -39,7 +40,8 @@ pub data Opens : List ℕ → Next → Type 0 where
 
 -- the records low from 0 on, seg behind them, f words of free (document 01's free run) up to floor(h), which is a sectors; l words of lost
 -- bytes, then the records from the head h on and what ends them
-pub record Turned (im : List ℕ) (a l : ℕ) (lost : List ℕ) (h : ℕ) (low : List Rec) (seg : Seg) (f : ℕ) (free : List ℕ) (high : List Rec) (end : End) :
+pub record Turned (im : List ℕ) (a l : ℕ) (lost : List ℕ) (h : ℕ) (low : List Rec) (seg : Seg) (f : ℕ) (free : List ℕ) (high : List Rec)
+    (end : End) :
     Type 0 where
   pub is : im ≡ lay low (seg-onto seg (free ++ (lost ++ lay high (end-bytes end))))
   pub at : 4096 * a + 8 * l ≡ h
@@ -166,7 +168,8 @@ module _ {im : List ℕ} {a l : ℕ} {lost : List ℕ} {h : ℕ} {low : List Rec
           rw e (shape-turned low (x ∷ ys) (seg-onto seg free) lost [] h low-part high-part (s .fine-low) (s .fine-high) (omega arith)
               (seg-entries (sizes low) seg) (seg-open seg)
           (h + sizes (x ∷ ys)) (sizes low + seg-size seg)
-          (λ z. omega (arith, bottom, s .some-below)) turns-over (λ k. stops-over (h + sizes (x ∷ ys)) false (suc k)) (opens-end (s .opens)) low-ends)
+          (λ z. omega (arith, bottom, s .some-below)) turns-over (λ k. stops-over (h + sizes (x ∷ ys)) false (suc k)) (opens-end (s .opens))
+              low-ends)
       go (marker k) e =
           rw e (shape-turned low (x ∷ ys) (seg-onto seg free) lost (wrap (blanks k)) h low-part high-part (s .fine-low) (s .fine-high) (omega arith)
               (seg-entries (sizes low) seg) (seg-open seg)

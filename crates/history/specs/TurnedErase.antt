@@ -10,7 +10,8 @@ use Rattle.spec.specs.Record.{Rec}
 use Rattle.history.specs.Blanks.{blank-split}
 use Rattle.history.specs.Lay.{body, onto, lay, rsize, length-lay, lay-past, rsize-words}
 use Rattle.history.specs.Markless.{markless-append, Markless, Cleaned}
-use Rattle.history.specs.Erase.{erases, half-erased, half-erased-length, erase-cut, markless-lost, half-erased-markless, old-head, old-head-lay, old-head-length, old-head-markless, old-head-second}
+use Rattle.history.specs.Erase.{erases, half-erased, half-erased-length, erase-cut, markless-lost, half-erased-markless, old-head}
+use Rattle.history.specs.Erase.{old-head-lay, old-head-length, old-head-markless, old-head-second}
 use Rattle.history.specs.Seg.{seg-none}
 use Rattle.history.specs.Straight.{Straight}
 use Rattle.history.specs.Turned.{End, end-bytes, Opens, opens-ff, opens-none, Turned}
@@ -69,7 +70,8 @@ module _ {im : List ℕ} {a l : ℕ} {lost : List ℕ} {h : ℕ} {low : List Rec
         some-below = omega arith;
         below = omega (arith, s .below);
         free-length = length-append free D ∙ omega (arith, s .free-length, ld);
-        free-markless = markless-append f (512 * suc k) free D (s .free-length) (s .free-markless) (half-erased-markless k r q q-length markless-q i e);
+        free-markless = markless-append f (512 * suc k) free D (s .free-length) (s .free-markless)
+            (half-erased-markless k r q q-length markless-q i e);
         opened = Next.Clear;
         opens = more-open i (suc k) q (s .opens);
         lost-length = length-drop (4096 * suc k) q ∙ omega (arith, q-length);

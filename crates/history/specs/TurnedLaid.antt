@@ -122,7 +122,8 @@ module _ {im : List ℕ} {a l : ℕ} {lost : List ℕ} {h : ℕ} {low : List Rec
             refl (omega (arith, sizes-append low (r ∷ [])))
             (append-assoc (entries-of h (x ∷ ys)) (entries-of 0 low) (record { at = sizes low; it = r } ∷ [])
             ∙ ap (λ (l : List Entry). entries-of h (x ∷ ys) ++ l)
-            (ap (λ (n : ℕ). entries-of 0 low ++ (record { at = n; it = r } ∷ [])) (sym (zero-add (sizes low))) ∙ sym (entries-append 0 low (r ∷ []))))
+            (ap (λ (n : ℕ). entries-of 0 low ++ (record { at = n; it = r } ∷ [])) (sym (zero-add (sizes low)))
+                ∙ sym (entries-append 0 low (r ∷ []))))
             refl;
       }
 

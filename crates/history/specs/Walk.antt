@@ -153,7 +153,8 @@ CLEAN-walk at st h = rw (ne-eqb at 0 h) (and-false (not (is-erased st)))
 pub lands-head : {b : ℕ} (at : ℕ) (t : List ℕ) → Head-low b → (at ≡ 0 → ⊥) → Lands₁ at 0 (b ∷ 0x5A ∷ t) (b ∷ 0x5A ∷ t)
 lands-head at t is-START h =
     record {
-      lands = λ k. walk-halt k at (0 ∷ 0x5A ∷ t) (START-torn (getD t 0 0)) (bad-next at (0 ∷ 0x5A ∷ t) (START-walk at (getD t 0 0))) ∙ sym (add-zero at);
+      lands = λ k. walk-halt k at (0 ∷ 0x5A ∷ t) (START-torn (getD t 0 0)) (bad-next at (0 ∷ 0x5A ∷ t) (START-walk at (getD t 0 0)))
+          ∙ sym (add-zero at);
       there = refl;
     }
 lands-head at t is-CLEAN h =
