@@ -24,7 +24,7 @@ use Rattle.history.specs.Safe.{sound-past}
 use Rattle.history.specs.Seg.{seg-none}
 use Rattle.history.specs.Straight.{Straight}
 use Rattle.history.specs.StraightEdit.{straight-with, front-part, front-length, split-at, run-behind}
-use Rattle.history.specs.Turned.{Turned, marker}
+use Rattle.history.specs.Turned.{Turned, marker, opens-blanks}
 use Rattle.history.specs.Marker.{turned-gap}
 use Rattle.history.specs.Whole.{torn-wrap-whole}
 use Rattle.history.specs.Laid.{laid-turned, clear-ff}
@@ -73,7 +73,7 @@ module _ {l : Ledger} {im : Image} (a m c k : ℕ) {h : ℕ} {lost : List ℕ} {
 
   -- F0 written
   turned : Turned (run im (moved at finish)) a m lost h [] seg-none (512 * a) (blanks (4096 * a)) (x ∷ ys) (marker k)
-  turned = turned-gap s (run im (moved at finish)) (marker k) (run-behind (x ∷ ys) [] (sym (append-nil (x ∷ ys))) s finish tt) refl z
+  turned = turned-gap s (run im (moved at finish)) (marker k) (run-behind (x ∷ ys) [] (sym (append-nil (x ∷ ys))) s finish tt) (opens-blanks (4096 * a) (omega arith)) z
 
   rested : Rested l (run im (moved at finish)) (reading-from (run im (moved at finish)) h)
   rested =

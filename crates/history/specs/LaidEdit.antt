@@ -21,6 +21,7 @@ use Rattle.history.specs.Markless.{Markless}
 use Rattle.history.specs.Seg.{Seg, seg-none, seg-size}
 use Rattle.history.specs.Straight.{bottom}
 use Rattle.history.specs.StraightEdit.{restatus, relow, straight-length}
+use Rattle.history.specs.Turned.{opens-blanks}
 use Rattle.history.specs.Marker.{turned-by, turned-exact}
 use Rattle.history.specs.Laid.{Laid, laid-straight, laid-turned, Hole, Inside, Lowered, low-same, place}
 use Rattle.history.specs.Entries.{entries-fine, Found, in-first, in-second, find, among}
@@ -175,20 +176,18 @@ module _ {im : Image} {h S : ℕ} {t : Bool} {seg : Seg} {below free : List ℕ}
 -- by a marker
 pub turn-laid : {im : Image} {h S B F : ℕ} {es : List Entry} → Laid im h S false es seg-none (blanks B) (blanks F) → 8 ≤ F → 1 ≤ B →
     Laid (run im (moved S marker-steps)) h 0 true es seg-none [] (blanks B)
-turn-laid {im} {h} {S} {B} {F} {es} (laid-straight {a = a} {lost = lost} {x = x} {ys = ys} g s p q r m n) f b =
+turn-laid {im} {h} {S} {B} {F} {es} (laid-straight {a = a} {x = x} {ys = ys} g s p q r m n) f b =
     let k : B ≡ 4096 * a = sym (length-replicate {A = ℕ} B 0xFF) ∙ s .gap-length in
     subst (λ (i : ℕ). Laid (run im (moved i marker-steps)) h 0 true es seg-none [] (blanks B)) (sym q)
-    (subst (λ (i : ℕ). Laid (run im (moved (h + sizes (x ∷ ys)) marker-steps)) h 0 true es seg-none [] (blanks i)) (sym k)
-    (laid-turned {low = []} (turned-by s f (ap blanks k) (omega arith)) refl refl (r ∙ sym (append-nil (entries-of h (x ∷ ys)))) refl))
+    (laid-turned {low = []} (turned-by s f (opens-blanks B (omega arith)) (omega arith)) refl refl (r ∙ sym (append-nil (entries-of h (x ∷ ys)))) refl)
 turn-laid (laid-turned s p q r e) f b = absurd (not-both false refl p)
 
 -- at N exactly
 pub turn-exact : {im : Image} {h S B : ℕ} {es : List Entry} → Laid im h S false es seg-none (blanks B) [] → 1 ≤ B
     → Laid im h 0 true es seg-none [] (blanks B)
-turn-exact {im} {h} {S} {B} {es} (laid-straight {a = a} {lost = lost} {x = x} {ys = ys} g s p q r m n) b =
+turn-exact {B = B} (laid-straight {a = a} {x = x} {ys = ys} g s p q r m n) b =
     let k : B ≡ 4096 * a = sym (length-replicate {A = ℕ} B 0xFF) ∙ s .gap-length in
-    subst (λ (i : ℕ). Laid im h 0 true es seg-none [] (blanks i)) (sym k)
-    (laid-turned {low = []} (turned-exact s (ap blanks k) (omega arith)) refl refl (r ∙ sym (append-nil (entries-of h (x ∷ ys)))) refl)
+    laid-turned {low = []} (turned-exact s (opens-blanks B (omega arith)) (omega arith)) refl refl (r ∙ sym (append-nil (entries-of _ (x ∷ ys)))) refl
 turn-exact (laid-turned s p q r e) b = absurd (not-both false refl p)
 
 -- the free run is words and has no mark

@@ -8,7 +8,6 @@ use mathlib.Core.List.{List, [], _∷_, _++_, append-assoc, append-nil, map}
 use lib.ListN.{length, take, drop, length-append, length-replicate, replicate-append-replicate}
 use lib.Dec.{ltb}
 use borrow.Author.Tests.{ne-eqb, eq-eqb, ltb-true, ltb-false}
-use Rattle.spec.specs.declared.Next.{Next}
 use Rattle.spec.specs.Step.{Image, Step, erase, run}
 use Rattle.spec.specs.Geometry.{good-length, floor, sectors}
 use Rattle.spec.specs.Record.{Rec, Entry}
@@ -21,7 +20,8 @@ use Rattle.history.specs.Erase.{erases, sectors-are, half-erased, half-e
 use Rattle.history.specs.Seg.{seg-none}
 use Rattle.history.specs.Straight.{Straight}
 use Rattle.history.specs.StraightEdit.{straight-length}
-use Rattle.history.specs.Turned.{Turned, End, exact, marker, end-bytes, Opens, open-ff, opens-blanks}
+use Rattle.history.specs.Turned.{Turned, End, exact, marker, end-bytes, open-ff, opens-blanks}
+use Rattle.history.specs.Marker.{turned-exact}
 use Rattle.history.specs.Laid.{Laid, laid-straight, laid-turned, Tail, tail-clear, tail-floor, tail-N, tail-turn, Bare, clear-ff}
 use Rattle.history.specs.TurnedLaid.{turned-length}
 use Rattle.history.specs.Vacant.{Vacant, vacant-at}
@@ -59,29 +59,6 @@ vacated-all N x y a k z e n =
     rw (vacated-end, eq-eqb (y .at) 0 z) (ap (λ (b : ℕ). map erase (sectors b N)) e ∙ sectors-are (suc k) (4096 * a) N (omega arith))
 
 -- ---- FF in front
-
--- a chain that ends at N has turned once there are sectors below the head
-turn-open : {im : List ℕ} {a l : ℕ} {gap lost : List ℕ} {h : ℕ} {high : List Rec} → Straight im a l gap lost h high seg-none []
-    → Opens gap Next.Clear
-    → 1 ≤ a →
-    Turned im a l lost h [] seg-none (512 * a) gap high exact
-turn-open s o b =
-    record {
-      is = s .is;
-      at = s .at;
-      some-below = b;
-      below = omega arith;
-      free-length = s .gap-length ∙ omega arith;
-      free-markless = s .gap-markless;
-      opened = Next.Clear;
-      opens = o;
-      lost-length = s .lost-length;
-      lost-small = s .lost-small;
-      lost-markless = s .lost-markless;
-      fine-low = tt;
-      walked = tt;
-      fine-high = s .fine;
-    }
 
 -- ---- not turned
 
@@ -132,14 +109,14 @@ module _ {im : Image} {a l : ℕ} {lost : List ℕ} {h : ℕ} {x y : Rec} {ys : 
     straight-full z =
         let u : Turned (run im (erases A (suc k))) (a + suc k) r (drop (4096 * suc k) q) (h + rsize x) [] seg-none (512 * (a + suc k))
             (blanks (B + 4096 * suc k)) (y ∷ ys) exact =
-        turn-open (subst (λ (m : List ℕ). Straight (run im (erases A (suc k))) (a + suc k) r (blanks (B + 4096 * suc k)) (drop (4096 * suc k) q)
+        turned-exact (subst (λ (m : List ℕ). Straight (run im (erases A (suc k))) (a + suc k) r (blanks (B + 4096 * suc k)) (drop (4096 * suc k) q)
             (h + rsize x) (y ∷ ys) seg-none m) z all-ff)
         (opens-blanks (B + 4096 * suc k) (omega arith)) (omega arith) in
         let v : (i : ℕ) → i ≤ k →
         Turned (run im (take (suc i) (erases A (suc k)))) (a + suc k) r (drop (4096 * suc k) q) (h + rsize x) [] seg-none (512 * (a + suc k))
             (blanks B ++ half-erased (suc i) (suc k) q)
         (y ∷ ys) exact =
-        λ i p. turn-open (subst (λ (m : List ℕ). Straight (run im (take (suc i) (erases A (suc k)))) (a + suc k) r
+        λ i p. turned-exact (subst (λ (m : List ℕ). Straight (run im (take (suc i) (erases A (suc k)))) (a + suc k) r
             (blanks B ++ half-erased (suc i) (suc k) q) (drop (4096 * suc k) q)
         (h + rsize x) (y ∷ ys) seg-none m) z (straight-erased s c k r all short i p))
         (open-ff (B + 4096 * suc i) (rest i) (blanks B ++ half-erased (suc i) (suc k) q)

@@ -2,10 +2,10 @@
 use Prim.Native.Nat.{ℕ, zero, suc, _+_, _-_, _*_, _≤_}
 use native.Mathlib.Omega.{arith}
 use native.Mathlib.Nat.{zero-add}
-use mathlib.Core.Path.{_≡_, sym, ap, _∙_, subst}
+use mathlib.Core.Path.{_≡_, sym, ap, _∙_}
 use mathlib.Core.Bool.{true}
 use mathlib.Core.List.{List, [], _∷_, _++_, append-nil}
-use lib.ListN.{length, take, length-replicate}
+use lib.ListN.{length, take}
 use Rattle.spec.specs.declared.Next.{Next}
 use Rattle.spec.specs.declared.Ending.{Ending}
 use Rattle.spec.specs.Step.{run, moved}
@@ -16,28 +16,26 @@ use Rattle.history.specs.Blanks.{blanks, blank-split}
 use Rattle.history.specs.Lay.{lay, sizes, entries-of}
 use Rattle.history.specs.Last.{Begun, torn-wrap, ends-torn-wrap}
 use Rattle.history.specs.Steps.{Programs}
-use Rattle.history.specs.Markless.{Markless}
 use Rattle.history.specs.Seg.{seg-none}
 use Rattle.history.specs.Shape.{shape-torn-wrap}
 use Rattle.history.specs.Straight.{Straight, bottom}
 use Rattle.history.specs.StraightEdit.{straight-with, run-behind}
-use Rattle.history.specs.Turned.{Turned, exact, marker, opens-blanks, End, end-bytes}
+use Rattle.history.specs.Turned.{Turned, exact, marker, End, end-bytes, Opens}
 
 -- a chain whose records are followed by what ends them has turned: the sectors below the head are its free run
 pub turned-gap : {im : List ℕ} {a l : ℕ} {gap lost : List ℕ} {h : ℕ} {high : List Rec} {free : List ℕ}
-    (s : Straight im a l gap lost h high seg-none free) (im′ : List ℕ) (end : End) →
-    im′ ≡ gap ++ (lost ++ lay high (end-bytes end)) → gap ≡ blanks (4096 * a) → 1 ≤ a
-        → Turned im′ a l lost h [] seg-none (512 * a) (blanks (4096 * a)) high end
-turned-gap {a = a} {lost = lost} {high = high} s im′ end i e b =
+    (s : Straight im a l gap lost h high seg-none free) (im′ : List ℕ) (end : End) → im′ ≡ gap ++ (lost ++ lay high (end-bytes end))
+    → Opens gap Next.Clear → 1 ≤ a → Turned im′ a l lost h [] seg-none (512 * a) gap high end
+turned-gap s im′ end i o b =
     record {
-      is = i ∙ ap (λ (x : List ℕ). x ++ (lost ++ lay high (end-bytes end))) e;
+      is = i;
       at = s .at;
       some-below = b;
       below = omega arith;
-      free-length = length-replicate {A = ℕ} (4096 * a) 0xFF ∙ omega arith;
-      free-markless = subst (λ (l : List ℕ). Markless (512 * a) l) e (s .gap-markless);
+      free-length = s .gap-length ∙ omega arith;
+      free-markless = s .gap-markless;
       opened = Next.Clear;
-      opens = opens-blanks (4096 * a) (omega arith);
+      opens = o;
       lost-length = s .lost-length;
       lost-small = s .lost-small;
       lost-markless = s .lost-markless;
@@ -70,15 +68,14 @@ module _ {im : List ℕ} {a l : ℕ} {gap lost : List ℕ} {h : ℕ} {high : Lis
   marker-cut-2 = straight-with (run im (moved (h + sizes high) (take 2 marker-steps))) s (at-tail 2) (s .fine)
 
   -- done: the chain has turned, T is 0
-  pub turned-by : gap ≡ blanks (4096 * a) → 1 ≤ a
-      → Turned (run im (moved (h + sizes high) marker-steps)) a l lost h [] seg-none (512 * a) (blanks (4096 * a)) high (marker (g - 8))
-  turned-by e b = turned-gap s (run im (moved (h + sizes high) marker-steps)) (marker (g - 8)) (at-tail 3) e b
+  pub turned-by : Opens gap Next.Clear → 1 ≤ a
+      → Turned (run im (moved (h + sizes high) marker-steps)) a l lost h [] seg-none (512 * a) gap high (marker (g - 8))
+  turned-by o b = turned-gap s (run im (moved (h + sizes high) marker-steps)) (marker (g - 8)) (at-tail 3) o b
 
 -- a chain that ends at N with floor(h) > 0 has turned: the same bytes
-pub turned-exact : {im : List ℕ} {a l : ℕ} {gap lost : List ℕ} {h : ℕ} {high : List Rec} (s : Straight im a l gap lost h high seg-none [])
-    → gap ≡ blanks (4096 * a) → 1 ≤ a →
-    Turned im a l lost h [] seg-none (512 * a) (blanks (4096 * a)) high exact
-turned-exact {im = im} s e b = turned-gap s im exact (s .is) e b
+pub turned-exact : {im : List ℕ} {a l : ℕ} {gap lost : List ℕ} {h : ℕ} {high : List Rec} → Straight im a l gap lost h high seg-none []
+    → Opens gap Next.Clear → 1 ≤ a → Turned im a l lost h [] seg-none (512 * a) gap high exact
+turned-exact {im} s o b = turned-gap s im exact (s .is) o b
 
 -- the reading of a torn wrap
 pub torn-reading : (k : ℕ) {im : List ℕ} {a l : ℕ} {gap lost : List ℕ} {h c : ℕ} {x : Rec} {ys : List Rec}

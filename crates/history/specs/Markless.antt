@@ -29,6 +29,10 @@ none-of true b c true p = (p, cc, cc)
 none-of false true c true p = (refl, p, cc)
 none-of false false c true p = (refl, refl, p)
 
+-- no mark, so no A5 5A: the walk stops here
+pub no-record : (s : List ℕ) → mark-here s ≡ false → (is-record (low-of s) && is-high (high-of s)) ≡ false
+no-record s e = none-of (is-start (low-of s)) (is-clean (low-of s)) (is-record (low-of s)) (is-high (high-of s)) e .2
+
 -- no mark, so no START
 pub no-start : (s : List ℕ) → mark-here s ≡ false → start-here s ≡ false
 no-start s e = none-of (is-start (low-of s)) (is-clean (low-of s)) (is-record (low-of s)) (is-high (high-of s)) e .0
@@ -36,10 +40,6 @@ no-start s e = none-of (is-start (low-of s)) (is-clean (low-of s)) (is-record (l
 -- no mark, so no CLEAN
 pub no-clean : (s : List ℕ) → mark-here s ≡ false → clean-here s ≡ false
 no-clean s e = none-of (is-start (low-of s)) (is-clean (low-of s)) (is-record (low-of s)) (is-high (high-of s)) e .1
-
--- no mark, so no record
-pub no-record : (s : List ℕ) → mark-here s ≡ false → (is-record (low-of s) && is-high (high-of s)) ≡ false
-no-record s e = none-of (is-start (low-of s)) (is-clean (low-of s)) (is-record (low-of s)) (is-high (high-of s)) e .2
 
 -- a mark is in the first 8 bytes
 pub mark-append : (p s : List ℕ) → 8 ≤ length p → mark-here (p ++ s) ≡ mark-here p
