@@ -217,7 +217,7 @@ module _ (x : Rec) (lost : List ℕ) (l k r : ℕ) (long : length lost ≡ 8 * l
       let n : rsize x / 8 - 1 ≡ 511 - l + (512 * k + r) = omega arith in
       old-head-second x lost [] l (512 * k + r) long h (subst (λ (m : ℕ). Markless m (body (x .name) (x .content) [])) n c)
 
--- it stands before the records ys
+-- X with t behind it, in two parts
 pub old-head-lay : (lost : List ℕ) (x : Rec) (t : List ℕ) → lost ++ onto x t ≡ old-head lost x [] ++ t
 unfolding old-head
 old-head-lay lost x t = ap (λ (m : List ℕ). lost ++ m) (lay-is (x ∷ []) t) ∙ sym (append-assoc lost (onto x []) t)

@@ -58,8 +58,6 @@ unfolding vacated-end
 vacated-all N x y a k z e n =
     rw (vacated-end, eq-eqb (y .at) 0 z) (ap (λ (b : ℕ). map erase (sectors b N)) e ∙ sectors-are (suc k) (4096 * a) N (omega arith))
 
--- ---- FF in front
-
 -- ---- not turned
 
 module _ {im : Image} {a l : ℕ} {lost : List ℕ} {h : ℕ} {x y : Rec} {ys : List Rec} (B F : ℕ)

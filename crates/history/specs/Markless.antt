@@ -75,7 +75,7 @@ markless-drop (suc j) k s q =
     let e : 8 + 8 * j ≡ 8 * suc j = omega arith in
     subst (λ (n : ℕ). Markless k (drop n s)) e (rw (drop-drop (8 * j) 8 s) at (markless-drop j k (drop 8 s) ((rw (suc-add j k) at q) .1)))
 
--- the first words of a quiet list
+-- the first words of what has no mark
 pub markless-take : (j k : ℕ) (p s : List ℕ) → length p ≡ 8 * j → Markless (j + k) (p ++ s) → Markless j p
 markless-take zero k p s e q = tt
 markless-take (suc j) k p s e q =
@@ -140,10 +140,10 @@ markless-body n c p q =
     rw e (markless-append (up8 (length n + 1) / 8) (up8 (length c) / 8) N (padded c []) l
         (calm-markless (up8 (length n + 1) / 8) N (calm-name n (pad (length n + 1)) p)) q)
 
--- what is left of the head X, behind its first word, has no mark
+-- X as step (c) of a move leaves it: behind its first word it has no mark
 abbrev pub Cleaned : Rec → Type 0
 Cleaned x = Markless (rsize x / 8 - 1) (body (x .name) (x .content) [])
 
--- an old header: its second byte is 00, or its first is none of the three
+-- a header whose second byte went to 00 is no mark
 pub mark-second : (b : ℕ) (s : List ℕ) → mark-here (b ∷ 0 ∷ s) ≡ false
 mark-second b s = pair-nil b

@@ -84,7 +84,7 @@ pub status-sound : {im : Image} {h S : ℕ} {t : Bool} {seg : Seg} {below free :
     Sound im (program (e .at + 2) b)
 status-sound xs ys e d b k = (omega (arith, entry-inside xs ys e d), subst (λ (z : ℕ). bitAnd b z ≡ b) (sym (status-at xs ys e d)) k)
 
--- ---- a quiet image
+-- ---- a bare image whose head is START
 
 -- it is of the invariant
 pub bare-inv : {im : Image} {h : ℕ} {es : List Entry} {l : Ledger} → good-length (length im) ≡ true → Bare h es im → Starts es → Ok es l → Inv l im

@@ -27,7 +27,7 @@ use Rattle.history.specs.PutSound.{name-fit}
 use Rattle.history.specs.PutWrite.{bare-of, good-run, length-open, open-safe, commit-sound, committed}
 use Rattle.history.specs.PutTurn.{Given, given-tail, given-zero, given, turned-by-marker, marker-safe}
 
--- the steps before the commit of a record at a, behind the steps `turn`, m of them
+-- put up to the commit, for a record of the name n and the content c at address a: m steps `turn`, then the record's but the commit
 pub record Written (l : Ledger) (im : Image) (h : ℕ) (es : List Entry) (n c : List ℕ) (turn : List Step) (a m : ℕ) : Type 0 where
   pub safe : Safe (Inv l) im (turn ++ moved a (open-steps n c))
   pub count : length (turn ++ moved a (open-steps n c)) ≡ 8 + length n + length c + m

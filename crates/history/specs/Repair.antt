@@ -31,7 +31,7 @@ sectors-next : (n a b : ℕ) → a + 4096 ≤ b → sectors-by (suc n) a b ≡ a
 unfolding sectors-by
 sectors-next n a b e = rw (sectors-by, le-leb (a + 4096) b e)
 
--- the steps on k sectors from a on
+-- the steps of repair 1 from a up to b: the sectors that are not FF in im are erased; n bounds their number
 abbrev pub mend-steps : Image → ℕ → ℕ → ℕ → List Step
 mend-steps im n a b = map erase (keep (dirty im) (sectors-by n a b))
 

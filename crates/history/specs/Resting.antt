@@ -31,7 +31,7 @@ use Rattle.history.specs.Vacant.{first-is, rested-inv}
 use Rattle.history.specs.Closes.{close-rests, both-rests, vacated-rests}
 use Rattle.history.specs.Mending.{Mends, mends-none, mends-1, mends-2}
 
--- ---- quiet, nothing at S
+-- ---- the kind quiet with nothing at S
 
 -- a rested image: mount has nothing to do
 pub mends-quiet : {l : Ledger} {im : Image} {r : Reading} → Rested l im r → Mends l im

@@ -20,13 +20,13 @@ use Rattle.history.specs.Legal.{Ruled}
 use Rattle.history.specs.Kinds.{Ok, Starts}
 use Rattle.history.specs.OkLaws.{same-is}
 
--- ---- head START, the others plain
+-- ---- finished and unfinished records
 
 -- a fine record is finished
 pub fine-finished : (es : List Entry) → Each (λ e. Fine (e .it)) es → Each Finished es
 fine-finished es f = each-map es (λ e h. finished (h .status-ok)) f
 
--- the unfinished record is dead and plain
+-- the unfinished record is not alive
 pub seg-dead : (at : ℕ) (g : Seg) → Each (λ e. alive e ≡ false) (seg-entries at g)
 unfolding alive named
 seg-dead at seg-none = tt
@@ -34,7 +34,7 @@ seg-dead at (seg-torn c x y z w t b m) = (refl, tt)
 seg-dead at (seg-cut d n f) = (refl, tt)
 seg-dead at (seg-held n c f) = (refl, tt)
 
--- the unfinished record is plain
+-- and is neither START nor CLEAN
 pub seg-plain : (at : ℕ) (g : Seg) → Each Unmarked (seg-entries at g)
 unfolding is-start is-clean
 seg-plain at seg-none = tt

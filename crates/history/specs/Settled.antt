@@ -28,6 +28,8 @@ use Rattle.history.specs.LaidRead.{start-reads}
 use lib.ListN.{length}
 use Rattle.spec.specs.History.{Ledger}
 
+-- ---- each repair alone
+
 -- no step: nothing changes
 pub after-none : (w : Work) (h : ℕ) → after w [] h ≡ w
 unfolding after
@@ -90,7 +92,7 @@ two-plain w (x ∷ es) s = two-none w x es (s .1)
 
 -- ---- the whole reading, with nothing at S
 
--- the whole reading, with nothing at S
+-- the first record START, whatever the second
 pub start-read :
     {im : Image} {h S T : ℕ} (B F : ℕ) {t u : Bool} {x : Entry} {es : List Entry} → Laid im h S t (x ∷ es) seg-none (blanks B) (blanks F)
         → Tail h S t seg-none (blanks B) (blanks F) T u →

@@ -28,7 +28,7 @@ use Rattle.history.specs.Kinds.{Rested}
 use Rattle.history.specs.OkLaws.{same-refl, Old, old-none, old-some, old-file}
 use Rattle.history.specs.Settled.{rested-settled}
 
--- ---- permutations
+-- ---- elements by their index
 
 module _ {A : Type 0} where
 

@@ -15,32 +15,32 @@ use Rattle.history.specs.Straight.{Straight}
 
 -- ---- lists of records
 
--- two lists of records
+-- laid down, one list behind the other
 pub lay-append : (xs ys : List Rec) (s : List ℕ) → lay (xs ++ ys) s ≡ lay xs (lay ys s)
 lay-append [] ys s = refl
 lay-append (a ∷ xs) ys s = ap (onto a) (lay-append xs ys s)
 
--- two lists of records
+-- their sizes
 pub sizes-append : (xs ys : List Rec) → sizes (xs ++ ys) ≡ sizes xs + sizes ys
 sizes-append [] ys = sym (zero-add (sizes ys))
 sizes-append (a ∷ xs) ys = ap (λ (n : ℕ). rsize a + n) (sizes-append xs ys) ∙ sym (add-assoc (rsize a) (sizes xs) (sizes ys))
 
--- two lists of records
+-- both fine
 pub fine-append : (xs ys : List Rec) → All-fine xs → All-fine ys → All-fine (xs ++ ys)
 fine-append [] ys p q = q
 fine-append (x ∷ xs) ys p q = (p .0, fine-append xs ys (p .1) q)
 
--- the first list
+-- so the first
 pub fine-left : (xs ys : List Rec) → All-fine (xs ++ ys) → All-fine xs
 fine-left [] ys p = tt
 fine-left (x ∷ xs) ys p = (p .0, fine-left xs ys (p .1))
 
--- the second
+-- and the second
 pub fine-right : (xs ys : List Rec) → All-fine (xs ++ ys) → All-fine ys
 fine-right [] ys p = p
 fine-right (x ∷ xs) ys p = fine-right xs ys (p .1)
 
--- the same place with straight-with records and another end
+-- the same place with other records and another end
 pub straight-with : {im : List ℕ} {a l : ℕ} {gap lost : List ℕ} {h : ℕ} {high high′ : List Rec} {seg seg′ : Seg} {free free′ : List ℕ} (im′ : List ℕ)
     → Straight im a l gap lost h high seg free →
     im′ ≡ gap ++ (lost ++ lay high′ (seg-onto seg′ free′)) → All-fine high′ → Straight im′ a l gap lost h high′ seg′ free′
@@ -102,7 +102,7 @@ restatus b r = record { low = r .low; status = b; name = r .name; content = r .c
 abbrev pub relow : ℕ → Rec → Rec
 relow b r = record { low = b; status = r .status; name = r .name; content = r .content }
 
--- with straight-with data
+-- with other data
 abbrev pub recontent : List ℕ → Rec → Rec
 recontent c r = record { low = r .low; status = r .status; name = r .name; content = c }
 

@@ -173,11 +173,11 @@ module _ {l : Ledger} {im : Image} {h S T : ℕ} (B F : ℕ) {t u : Bool} {es : 
       go q false k c = cut-inv k (leb-false (length (void-rel g)) k c)
 
 -- repair 3's steps are these
-third : (w : Work) (es : List Entry) (e : Entry) (ss : List Step) → w .reading .entries ≡ es ++ (e ∷ []) → w .reading .ending ≡ Ending.Tail
+third-voids : (w : Work) (es : List Entry) (e : Entry) (ss : List Step) → w .reading .entries ≡ es ++ (e ∷ []) → w .reading .ending ≡ Ending.Tail
     → void-steps (w .image) e ≡ ss →
     repair-3 w ≡ after w ss (w .reading .place .head)
 unfolding repair-3
-third w es e ss i j k =
+third-voids w es e ss i j k =
     ap₂ (λ (a : List Step) (b : Ending). after w (a ++ torn-wrap-steps b) (w .reading .place .head))
         (ap (last-steps (w .image)) i ∙ last-end (w .image) es e ∙ k) j
     ∙ ap (λ (a : List Step). after w a (w .reading .place .head)) (append-nil ss)
@@ -200,5 +200,5 @@ mends-void {l} {im} {h} {S} {T} B F {t} {u} (x ∷ es) g good d e st ok n =
     mends-3 {r = r} (start-reads B F d e (st .0) (subst Ruled (sym k) c)) (void-rests B F good d e st ok v) (v .some)
     (one-none (begin im r) (is-clean-0 (x .it .low) (st .0)))
     (two-none (begin im r) x (es ++ seg-entries S g) (each-append Unmarked es (seg-entries S g) (st .1) (seg-plain S g)))
-    (third (begin im r) (x ∷ es) (v .entry) (moved S (void-rel g)) k refl
+    (third-voids (begin im r) (x ∷ es) (v .entry) (moved S (void-rel g)) k refl
     (ap (λ (i : Image). void-steps i (v .entry)) (p .is) ∙ v .steps (p .pre) (blanks F ++ p .post) (p .at)))

@@ -46,31 +46,6 @@ walk-torn : (k at : ℕ) (s : List ℕ) → torn-here s ≡ true → walk (suc k
 unfolding walk
 walk-torn k at s e = rw (walk, e)
 
-not-torn : {st : ℕ} (b c : ℕ) (s : List ℕ) → Stat st → torn-here (b ∷ c ∷ st ∷ s) ≡ false
-not-torn b c s t = rw (stat-is t .0)
-
-walks-low : {at b : ℕ} → Walks at b → ((is-record b && is-high 0x5A) || (eqb at 0 && (is-clean b && is-high 0x5A))) ≡ true
-unfolding is-record is-high is-clean
-walks-low walks-record = refl
-walks-low walks-clean = refl
-
-steps-over : {at b st : ℕ} (s : List ℕ) → Walks at b → Stat st → walk-next at (b ∷ 0x5A ∷ st ∷ s) ≡ record-at false (b ∷ 0x5A ∷ st ∷ s)
-unfolding walk-next
-steps-over s w t = rw (walk-next, stat-is t .0, walks-low w, stat-is t .1)
-
-walk-onto : (r : Rec) (k at : ℕ) (s : List ℕ) → Fine r → Walks at (r .low) → walk (suc k) at (onto r s) ≡ walk k (at + rsize r) s
-walk-onto r k at s f w =
-    walk-over k at (length (r .name)) (length (r .content)) (onto r s) (not-torn (r .low) 0x5A (drop 3 (onto r s)) (f .status-ok))
-    (steps-over (drop 3 (onto r s)) w (f .status-ok) ∙ record-at-onto false r s (f .fit))
-    ∙ ap (walk k (at + rsize r)) (drop-onto r s)
-
--- the walk over the records
-pub walk-lay : (rs : List Rec) (k at : ℕ) (s : List ℕ) → All-fine rs → Walked at rs → walk (length rs + k) at (lay rs s) ≡ walk k (at + sizes rs) s
-walk-lay [] k at s f w = rw (zero-add k, add-zero at)
-walk-lay (r ∷ rs) k at s f w =
-    rw (suc-add (length rs) k, walk-onto r (length rs + k) at (lay rs s) (f .0) (w .0))
-    (walk-lay rs k (at + rsize r) s (f .1) (w .1) ∙ rw (add-assoc at (rsize r)))
-
 -- ---- "a reserved record is stepped over by its finished size"
 
 reserved-not-torn : (s : List ℕ) → torn-here (0xA5 ∷ 0x5A ∷ 0xFE ∷ s) ≡ false
@@ -85,6 +60,35 @@ walk-reserved : (k at n d : ℕ) (u s : List ℕ) → record-at true (0xA5 ∷ 0
     → drop (size-of n d) (0xA5 ∷ 0x5A ∷ 0xFE ∷ u) ≡ s → walk (suc k) at (0xA5 ∷ 0x5A ∷ 0xFE ∷ u) ≡ walk k (at + size-of n d) s
 walk-reserved k at n d u s e f =
     walk-over k at n d (0xA5 ∷ 0x5A ∷ 0xFE ∷ u) (reserved-not-torn u) (over-reserved at u ∙ e) ∙ ap (walk k (at + size-of n d)) f
+
+-- ---- "any other status is stepped over"
+
+not-torn : {st : ℕ} (b c : ℕ) (s : List ℕ) → Stat st → torn-here (b ∷ c ∷ st ∷ s) ≡ false
+not-torn b c s t = rw (stat-is t .0)
+
+walks-here : {at b st : ℕ} (s : List ℕ) → Walks at b → Stat st → walked-here at (b ∷ 0x5A ∷ st ∷ s) ≡ true
+unfolding is-record is-high is-clean
+walks-here s walks-record t = rw (stat-is t .0)
+walks-here s walks-clean t = rw (stat-is t .0)
+
+steps-over : {at b st : ℕ} (s : List ℕ) → Walks at b → Stat st → walk-next at (b ∷ 0x5A ∷ st ∷ s) ≡ record-at false (b ∷ 0x5A ∷ st ∷ s)
+unfolding walk-next
+steps-over s w t = rw (walk-next, walks-here s w t, stat-is t .1)
+
+walk-onto : (r : Rec) (k at : ℕ) (s : List ℕ) → Fine r → Walks at (r .low) → walk (suc k) at (onto r s) ≡ walk k (at + rsize r) s
+walk-onto r k at s f w =
+    walk-over k at (length (r .name)) (length (r .content)) (onto r s) (not-torn (r .low) 0x5A (drop 3 (onto r s)) (f .status-ok))
+    (steps-over (drop 3 (onto r s)) w (f .status-ok) ∙ record-at-onto false r s (f .fit))
+    ∙ ap (walk k (at + rsize r)) (drop-onto r s)
+
+-- the walk over the records
+pub walk-lay : (rs : List Rec) (k at : ℕ) (s : List ℕ) → All-fine rs → Walked at rs → walk (length rs + k) at (lay rs s) ≡ walk k (at + sizes rs) s
+walk-lay [] k at s f w = rw (zero-add k, add-zero at)
+walk-lay (r ∷ rs) k at s f w =
+    rw (suc-add (length rs) k, walk-onto r (length rs + k) at (lay rs s) (f .0) (w .0))
+    (walk-lay rs k (at + rsize r) s (f .1) (w .1) ∙ rw (add-assoc at (rsize r)))
+
+-- ---- over what is reserved
 
 -- over a record whose name was not ended
 pub walk-begun : (k at d : ℕ) (n s : List ℕ) → Fit d n → walk (suc k) at (begun d n s) ≡ walk k (at + size-of (length n) d) s
@@ -124,11 +128,11 @@ pub data Head-low : ℕ → Type 0 where
   is-START : Head-low 0
   is-CLEAN : Head-low 0xA0
 
--- nothing unfinished before what has no mark: torn-like data makes the walk end 8 further
+-- the walk stops at what has no mark
 pub lands-markless : (at : ℕ) (s : List ℕ) → mark-here s ≡ false → (torn-here s ≡ false) → Lands₁ at 0 s s
 lands-markless at s e t = record { lands = λ k. walk-halt k at s t (markless-bad at s e) ∙ sym (add-zero at); there = refl }
 
--- a torn header is stepped over
+-- "8 further if torn", or if the bytes look so
 pub lands-torn-like : (at : ℕ) (s : List ℕ) → (torn-here s ≡ true) → Lands₁ at 8 s (drop 8 s)
 lands-torn-like at s t = record { lands = λ k. walk-torn k at s t; there = refl }
 
@@ -187,7 +191,7 @@ search-over : (k at : ℕ) → search (suc k) at [] ≡ at
 unfolding search is-start is-clean is-high long
 search-over k at = refl
 
--- one law for every quiet region: the search goes through it
+-- one law for whatever has no mark: the search goes through it
 search-through : (j k at : ℕ) (g s : List ℕ) → length g ≡ 8 * j → Markless j g → search (j + k) at (g ++ s) ≡ search k (at + 8 * j) s
 search-through zero k at [] s e q = rw (zero-add k, add-zero at)
 search-through zero k at (x ∷ g) s e q = absurd (omega arith)
