@@ -4,20 +4,20 @@ use Prim.Native.Nat.{ℕ, zero, suc, _+_, _-_, _*_, _≤_, _<_, _%_, _/_}
 use native.Mathlib.Omega.{arith}
 use native.Mathlib.Nat.{not-suc-le-zero}
 use mathlib.Core.Path.{_≡_, refl, sym, ap, ap₂, _∙_, subst}
+use mathlib.Core.Bool.{_&&_, true}
 use mathlib.Core.List.{List, [], _∷_, _++_, append-assoc, append-nil, map}
 use lib.ListN.{length, take, drop, length-append, length-replicate, length-drop, take-append-drop}
 use lib.Seq.{drop-drop, length-take-le, take-at, drop-at}
+use lib.Dec.{eqb, leb}
 use borrow.Author.Tests.{le-leb, lt-leb, eqb-true, leb-true}
 use Rattle.spec.specs.Step.{Step, erase, sector, apply, run, Image}
 use Rattle.spec.specs.Geometry.{sectors-by, sectors, good-length}
+use Rattle.spec.specs.Record.{Rec}
+use Rattle.spec.specs.Demand.{Steps-sound}
 use Rattle.history.specs.Lists.{and-left, and-right}
 use Rattle.history.specs.Blanks.{blanks, blank-split}
 use Rattle.history.specs.Lay.{drop-past, body, onto, rsize, rsize-words, lay-is, length-lay}
 use Rattle.history.specs.Markless.{markless-blanks, markless-append, markless-drop, markless-take, Markless, Cleaned}
-use Rattle.spec.specs.Record.{Rec}
-use lib.Dec.{eqb, leb}
-use mathlib.Core.Bool.{_&&_, true}
-use Rattle.spec.specs.Demand.{Steps-sound}
 
 -- ---- whole sectors
 

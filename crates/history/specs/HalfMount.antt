@@ -73,7 +73,8 @@ module _ {l : Ledger} {im : Image} (a m c k : ℕ) {h : ℕ} {lost : List ℕ} {
 
   -- F0 written
   turned : Turned (run im (moved at finish)) a m lost h [] seg-none (512 * a) (blanks (4096 * a)) (x ∷ ys) (marker k)
-  turned = turned-gap s (run im (moved at finish)) (marker k) (run-behind (x ∷ ys) [] (sym (append-nil (x ∷ ys))) s finish tt) (opens-blanks (4096 * a) (omega arith)) z
+  turned = turned-gap s (run im (moved at finish)) (marker k) (run-behind (x ∷ ys) [] (sym (append-nil (x ∷ ys))) s finish tt)
+      (opens-blanks (4096 * a) (omega arith)) z
 
   rested : Rested l (run im (moved at finish)) (reading-from (run im (moved at finish)) h)
   rested =

@@ -1,6 +1,8 @@
 -- Where the bytes of an image are, whether its chain has turned or not (Laid): the one description that every kind of image goes by.
 -- What may be replaced in it (Hole, Inside), and what tail is read of it (Tail).
 use Prim.Native.Nat.{ℕ, _+_, _*_, _≤_, _-_}
+use native.Mathlib.Omega.{arith}
+use native.Mathlib.Nat.{add-zero}
 use mathlib.Core.Path.{_≡_, refl, sym}
 use mathlib.Core.Bool.{Bool, true, false}
 use mathlib.Core.List.{List, [], _∷_, _++_}
@@ -9,15 +11,13 @@ use Rattle.spec.specs.declared.Next.{Next}
 use Rattle.spec.specs.Step.{Image}
 use Rattle.spec.specs.Geometry.{floor}
 use Rattle.spec.specs.Record.{Rec, Entry}
-use native.Mathlib.Omega.{arith}
-use native.Mathlib.Nat.{add-zero}
+use Rattle.spec.specs.declared.Place.{Place}
 use Rattle.history.specs.Blanks.{blanks, blank-split}
 use Rattle.history.specs.Lay.{onto, rsize, sizes, entries-of, Fine}
 use Rattle.history.specs.Markless.{Markless}
 use Rattle.history.specs.Seg.{Seg, seg-none, seg-onto, seg-size}
 use Rattle.history.specs.Straight.{Straight}
 use Rattle.history.specs.Turned.{Turned, End, Opens}
-use Rattle.spec.specs.declared.Place.{Place}
 
 -- head, tail, turn and length as a place
 abbrev pub place : Image → ℕ → ℕ → Bool → Place

@@ -179,7 +179,8 @@ pub turn-laid : {im : Image} {h S B F : ℕ} {es : List Entry} → Laid im h S f
 turn-laid {im} {h} {S} {B} {F} {es} (laid-straight {a = a} {x = x} {ys = ys} g s p q r m n) f b =
     let k : B ≡ 4096 * a = sym (length-replicate {A = ℕ} B 0xFF) ∙ s .gap-length in
     subst (λ (i : ℕ). Laid (run im (moved i marker-steps)) h 0 true es seg-none [] (blanks B)) (sym q)
-    (laid-turned {low = []} (turned-by s f (opens-blanks B (omega arith)) (omega arith)) refl refl (r ∙ sym (append-nil (entries-of h (x ∷ ys)))) refl)
+    (laid-turned {low = []} (turned-by s f (opens-blanks B (omega arith)) (omega arith)) refl refl (r ∙ sym (append-nil (entries-of h (x ∷ ys))))
+        refl)
 turn-laid (laid-turned s p q r e) f b = absurd (not-both false refl p)
 
 -- at N exactly
@@ -187,7 +188,8 @@ pub turn-exact : {im : Image} {h S B : ℕ} {es : List Entry} → Laid im h S fa
     → Laid im h 0 true es seg-none [] (blanks B)
 turn-exact {B = B} (laid-straight {a = a} {x = x} {ys = ys} g s p q r m n) b =
     let k : B ≡ 4096 * a = sym (length-replicate {A = ℕ} B 0xFF) ∙ s .gap-length in
-    laid-turned {low = []} (turned-exact s (opens-blanks B (omega arith)) (omega arith)) refl refl (r ∙ sym (append-nil (entries-of _ (x ∷ ys)))) refl
+    laid-turned {low = []} (turned-exact s (opens-blanks B (omega arith)) (omega arith)) refl refl (r ∙ sym (append-nil (entries-of _ (x ∷ ys))))
+        refl
 turn-exact (laid-turned s p q r e) b = absurd (not-both false refl p)
 
 -- the free run is words and has no mark

@@ -1,6 +1,7 @@
 -- Step (f) of a move on a laid image: X and Y stand in one sector, X loses its magic, and the head is Y.
 use Prim.Native.Nat.{ℕ, _+_, _*_, _/_, _<_, suc, _-_}
 use native.Mathlib.Omega.{arith}
+use native.Mathlib.Nat.{add-zero}
 use mathlib.Core.Path.{_≡_, refl, sym, ap, _∙_, subst}
 use mathlib.Core.Bool.{Bool}
 use mathlib.Core.List.{List, [], _∷_, _++_, append-assoc}
@@ -8,7 +9,6 @@ use lib.ListN.{length, set, length-append, drop, getD}
 use Rattle.spec.specs.Step.{Image}
 use Rattle.spec.specs.Geometry.{floor}
 use Rattle.spec.specs.Record.{Rec, Entry}
-use native.Mathlib.Nat.{add-zero}
 use Rattle.history.specs.Lay.{onto, lay, rsize, sizes, entries-of, lay-is, length-body, body, lens, rsize-words}
 use Rattle.history.specs.Steps.{set-past}
 use Rattle.history.specs.Markless.{markless-append, mark-second, Markless, Cleaned}

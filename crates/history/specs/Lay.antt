@@ -18,8 +18,8 @@ use Rattle.spec.specs.Bytes.{is-unfinished, is-spare, ends-name}
 use Rattle.spec.specs.Record.{name-length, data-len-of, status-of, size-of, Rec, rec-of, Entry}
 use Rattle.spec.specs.Next.{kind, sized, record-at, next-at, next, written-kind, record-kind}
 use Rattle.spec.specs.Chain.{Chain, add, chain}
-use Rattle.history.specs.Blanks.{blanks, drop-blanks}
 use Rattle.spec.specs.declared.Kind.{Kind}
+use Rattle.history.specs.Blanks.{blanks, drop-blanks}
 
 -- ---- records as bytes
 

@@ -4,12 +4,12 @@ use mathlib.Core.Path.{_≡_, refl, sym, ap, _∙_, subst}
 use mathlib.Core.Bool.{Bool, true, false, not}
 use mathlib.Core.List.{List, [], _∷_, _++_, map, List·Permᴰ, List·Permᴰ·nil, List·Permᴰ·cons, List·Permᴰ·swap, List·Permᴰ·trans, Permᴰ·refl}
 use mathlib.Core.List.{map-append}
+use lib.ListN.{length}
 use Rattle.spec.specs.Basics.{same, keep, Each}
 use Rattle.spec.specs.Record.{Entry, name-of, content-of}
 use Rattle.spec.specs.History.{File, Ledger, not-named, without}
 use Rattle.history.specs.Lists.{keep-yes, keep-no, keep-append}
 use Rattle.history.specs.Store.{alive}
-use lib.ListN.{length}
 
 -- an entry as a file
 abbrev pub as-file : Entry → File

@@ -1,13 +1,13 @@
 -- Laws of lists and tests that know nothing of flash: any, all, keep and first-such over facts on each element (Each),
 -- on each pair (Pairwise), and with one element more or less.
+use Prim.Native.Nat.{ℕ}
+use native.Mathlib.Omega.{arith}
 use mathlib.Core.Path.{_≡_, refl, sym, ap, _∙_}
 use mathlib.Core.Bool.{Bool, true, false, _&&_, _||_}
 use mathlib.Core.Option.{some}
 use mathlib.Core.List.{List, [], _∷_, _++_}
-use Rattle.spec.specs.Basics.{any, all, keep, first-such, Each}
-use Prim.Native.Nat.{ℕ}
-use native.Mathlib.Omega.{arith}
 use lib.ListN.{length}
+use Rattle.spec.specs.Basics.{any, all, keep, first-such, Each}
 
 -- ---- tests
 

@@ -12,9 +12,9 @@ use borrow.Author.Tests.{ne-eqb}
 use Rattle.spec.specs.Geometry.{up8}
 use Rattle.spec.specs.Bytes.{is-record, is-start, is-clean, is-high}
 use Rattle.spec.specs.Move.{mark-here}
+use Rattle.spec.specs.Record.{low-of, high-of, start-here, clean-here, Rec}
 use Rattle.history.specs.Blanks.{blanks, blank-split}
 use Rattle.history.specs.Lay.{pad, padded, body, Printable, rsize}
-use Rattle.spec.specs.Record.{low-of, high-of, start-here, clean-here, Rec}
 
 -- k words, none of which begins with a mark
 abbrev pub Markless : ℕ → List ℕ → Type 0

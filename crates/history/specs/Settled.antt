@@ -3,6 +3,7 @@ use Prim.Native.Nat.{ℕ}
 use mathlib.Core.Path.{_≡_, refl, ap, ap₂, _∙_, sym, subst}
 use mathlib.Core.Bool.{Bool, false}
 use mathlib.Core.List.{List, [], _∷_, _++_, map, append-nil}
+use lib.ListN.{length}
 use Rattle.spec.specs.declared.Ending.{Ending}
 use Rattle.spec.specs.Step.{Image, Step, run}
 use Rattle.spec.specs.Basics.{give, Each}
@@ -14,6 +15,7 @@ use Rattle.spec.specs.Move.{Work, begin, after, reread}
 use Rattle.spec.specs.Mount.{repair-1, repair-2, repair-3, repair-4, void-steps, last-steps, torn-wrap-steps, delete-step, drop-steps, mended}
 use Rattle.spec.specs.Mount.{settled, repair-2-on}
 use Rattle.spec.specs.Answers.{if-settled, settled-reading}
+use Rattle.spec.specs.History.{Ledger}
 use Rattle.history.specs.Lists.{or-left, or-right}
 use Rattle.history.specs.Blanks.{blanks}
 use Rattle.history.specs.Store.{Finished, Unmarked, Unique, none-superseded}
@@ -25,8 +27,6 @@ use Rattle.history.specs.LaidEdit.{laid-fine}
 use Rattle.history.specs.Kinds.{Starts, Rested}
 use Rattle.history.specs.Rules.{fine-finished, starts-ruled}
 use Rattle.history.specs.LaidRead.{start-reads}
-use lib.ListN.{length}
-use Rattle.spec.specs.History.{Ledger}
 
 -- ---- each repair alone
 

@@ -6,15 +6,16 @@ use native.Mathlib.Nat.{not-suc-le-zero}
 use mathlib.Core.Path.{_≡_, sym, ap, _∙_, subst, refl, ap₂}
 use mathlib.Core.List.{List, [], _∷_, _++_, append-assoc, map}
 use lib.ListN.{length, take, drop, getD, length-append, length-drop}
+use borrow.Author.Tests.{ne-eqb}
 use Rattle.spec.specs.Step.{run, Image, Step, erase}
 use Rattle.spec.specs.Record.{Rec, Entry}
-use borrow.Author.Tests.{ne-eqb}
 use Rattle.spec.specs.Geometry.{floor, sectors}
 use Rattle.spec.specs.Move.{vacated-end, vacated}
 use Rattle.history.specs.Blanks.{blanks}
 use Rattle.history.specs.Lay.{lay, rsize, rsize-words}
 use Rattle.history.specs.Markless.{markless-append, Cleaned, Markless}
-use Rattle.history.specs.Erase.{erases, half-erased, half-erased-length, erase-cut, markless-lost, half-erased-markless, sectors-are, all-erased, take-erases, old-head, old-head-lay, old-head-length, old-head-markless}
+use Rattle.history.specs.Erase.{erases, half-erased, half-erased-length, erase-cut, markless-lost, half-erased-markless, sectors-are}
+use Rattle.history.specs.Erase.{all-erased, take-erases, old-head, old-head-lay, old-head-length, old-head-markless}
 use Rattle.history.specs.Seg.{seg-none}
 use Rattle.history.specs.Straight.{Straight}
 

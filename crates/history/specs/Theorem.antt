@@ -1,12 +1,11 @@
 -- Demand 3. Each call keeps the invariant, with the ledger as it is fed; a mount, run to its end, shows the ledger's files.
 -- The theorem stands at the end; read from there upwards.
-use Prim.Native.Nat.{ℕ, zero, suc, _+_, _-_, _≤_, _<_}
+use Prim.Native.Nat.{ℕ, zero, suc, _+_, _-_, _≤_, _<_, min}
 use native.Mathlib.Omega.{arith}
 use mathlib.Core.Path.{_≡_, refl, sym, ap, ap₂, _∙_, subst}
 use mathlib.Core.Bool.{Bool, true, false}
 use mathlib.Core.List.{List, [], _∷_, _++_}
 use lib.ListN.{length, take}
-use Prim.Native.Nat.{min}
 use lib.Seq.{take-append-le, take-append-add}
 use lib.Dec.{eqb, leb}
 use borrow.Author.Tests.{leb-true, leb-false}
@@ -35,7 +34,8 @@ use Rattle.history.specs.Mounts.{mends}
 use Rattle.history.specs.Sweeps.{moves-safe, remove-step}
 use Rattle.history.specs.Induction.{still-keeps, demand-by, carried-done, carried-cut}
 use Rattle.history.specs.Formats.{formatted}
-use Rattle.history.specs.Calls.{Puts, put-no, put-yes, puts-of, Finds, find-no, find-yes, finds-of, Swept, sweep-no, sweep-yes, swept-of, get-none, list-none}
+use Rattle.history.specs.Calls.{Puts, put-no, put-yes, puts-of, Finds, find-no, find-yes, finds-of, Swept, sweep-no, sweep-yes, swept-of}
+use Rattle.history.specs.Calls.{get-none, list-none}
 use Rattle.history.specs.Shows.{rested-shows}
 
 -- ---- put
