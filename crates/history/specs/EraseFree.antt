@@ -12,7 +12,7 @@ use borrow.Author.Tests.{leb-true, leb-false}
 use Rattle.spec.specs.declared.Next.{Next}
 use Rattle.spec.specs.Step.{Image, erase, sector, apply}
 use Rattle.spec.specs.Basics.{Each, keep}
-use Rattle.spec.specs.Geometry.{good-length, floor, ceiling, sectors-by, sectors}
+use Rattle.spec.specs.Geometry.{floor, ceiling, sectors-by, sectors}
 use Rattle.spec.specs.Record.{Entry}
 use Rattle.spec.specs.Reading.{limit}
 use Rattle.spec.specs.Mount.{free-sectors, dirty, erase-steps}
@@ -144,9 +144,9 @@ own-blanked free j m c l z =
 own-kept : (free : List ℕ) (j m : ℕ) (c : Cut free j) → take m free ≡ blanks m → m ≤ j → take m (blanked c) ≡ blanks m
 own-kept free j m c e l = take-append-le m (c .u) (sector ++ c .w) (omega (arith, c .lu)) ∙ ap (take m) (c .u-is) ∙ take-take m j free l ∙ e
 
-own-after : (S m z : ℕ) (free : List ℕ) (c : Cut free (z - S)) → S + m ≡ floor S + 4096 → z % 4096 ≡ 0 → ceiling S ≤ z → take m free ≡ blanks m
+own-after : (S m z : ℕ) (free : List ℕ) (c : Cut free (z - S)) → S + m ≡ floor S + 4096 → z % 4096 ≡ 0 → take m free ≡ blanks m
     → take m (blanked c) ≡ blanks m
-own-after S m z free c o y l e = go (leb m (z - S)) refl
+own-after S m z free c o y e = go (leb m (z - S)) refl
   where
     go : (b : Bool) → leb m (z - S) ≡ b → take m (blanked c) ≡ blanks m
     go true p = own-kept free (z - S) m c e (leb-true m (z - S) p)
@@ -181,7 +181,7 @@ mid-erase {N} {h} {S} {lim} {t} {es} {im} {z} d (high-sector m g l) =
     let k : Hole im h S t es seg-none (v .below) (v .free) = hole-of (v .laid) in
     let f : (f : ℕ) × (length (v .free) ≡ 8 * f) × Markless f (v .free) = free-markless (v .laid) in
     let e : length (blanked c) ≡ length (v .free) = blanked-length c in
-    let own : take (v .m) (blanked c) ≡ blanks (v .m) = own-after S (v .m) z (v .free) c (v .own) m g (v .ff) in
+    let own : take (v .m) (blanked c) ≡ blanks (v .m) = own-after S (v .m) z (v .free) c (v .own) m (v .ff) in
     let i : apply im (erase z) ≡ k .pre ++ (blanked c ++ k .post) = ap (λ (x : Image). apply x (erase z)) (k .is)
         ∙ blanked-is c (k .pre) (k .post) S z (k .at) (omega arith) in
     record {
@@ -241,11 +241,11 @@ mid-safe {N} {h} {S} {lim} {t} {es} (z ∷ zs) im e d = (d, sound (e .0), mid-sa
     sound (high-sector m g l) = (m, omega (arith, laid-length (d .vac .laid), d .ends))
 
 -- erases in the free run, cut anywhere
-pub erase-safe : {im : Image} {h S : ℕ} {t : Bool} {es : List Entry} → good-length (length im) ≡ true
+pub erase-safe : {im : Image} {h S : ℕ} {t : Bool} {es : List Entry}
     → Mid (length im) h S (limit (place im h S t)) t es im →
     Safe (Mid (length im) h S (limit (place im h S t)) t es) im (erase-steps im (place im h S t))
 unfolding erase-steps
-erase-safe {im} {h} {S} {t} g d =
+erase-safe {im} {h} {S} {t} d =
     mid-safe (keep (dirty im) (free-sectors (place im h S t))) im
     (each-keep (Erasable h S (limit (place im h S t)) t) (dirty im) (free-sectors (place im h S t))
         (each-map (free-sectors (place im h S t)) (λ z e k. e) (free-erasable im h S t))) d

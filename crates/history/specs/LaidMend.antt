@@ -71,10 +71,10 @@ opened-up p post free c e =
 -- the sectors behind T
 high-done : {im : Image} {h S : ℕ} {t : Bool} {es : List Entry} {below free : List ℕ} (d : Laid im h S t es seg-none below free) (im₀ : Image)
     (pre₀ : List ℕ) →
-    im₀ ≡ pre₀ ++ (free ++ hole-of d .post) → length pre₀ ≡ S → (c k lim : ℕ) → S + c ≡ ceiling S → c ≤ length free → take c free ≡ blanks c
+    im₀ ≡ pre₀ ++ (free ++ hole-of d .post) → length pre₀ ≡ S → (c k lim : ℕ) → S + c ≡ ceiling S → take c free ≡ blanks c
         → ceiling S + 4096 * k ≡ lim → S + length free ≡ lim →
     8 ≤ length free → Laid (run im (mend-steps im₀ lim (ceiling S) lim)) h S t es seg-none below (blanks (length free))
-high-done {im} {h} {S} {t} {es} {below} {free} d im₀ pre₀ i₀ l₀ c k lim sc cf cb kl fl e₈ =
+high-done {im} {h} {S} {t} {es} {below} {free} d im₀ pre₀ i₀ l₀ c k lim sc cb kl fl e₈ =
     let K : Hole im h S t es seg-none below free = hole-of d in
     let f : (f : ℕ) × (length free ≡ 8 * f) × Markless f free = free-markless d in
     let lc : length (blanks c) ≡ c = length-replicate {A = ℕ} c 0xFF in
@@ -121,7 +121,7 @@ module _ {im : Image} {h S : ℕ} {es : List Entry} (g : length im % 4096 ≡ 0)
         laid =
             subst (λ (b : List ℕ). Laid (run im (mend-steps im (floor h) (ceiling S) (floor h))) h S true es seg-none b (blanks (length (v .free))))
                 (turned-below (v .laid))
-            (high-done (v .laid) im (K .pre) (K .is) (K .at) c k (floor h) (omega arith) (omega (arith, v .own, v .whole)) e
+            (high-done (v .laid) im (K .pre) (K .is) (K .at) c k (floor h) (omega arith) e
                 (omega (arith, v .own, v .whole)) (sym L)
             (omega (arith, vacant-long v, v .whole)));
         tail = clear-ff (length (v .free)) (omega (arith, vacant-long v, v .whole));
@@ -149,7 +149,7 @@ module _ {im : Image} {h S : ℕ} {es : List Entry} (g : length im % 4096 ≡ 0)
         F = length (v .free);
         t = false;
         laid =
-            high-done d im (K .pre) is (K .at) c k N (omega arith) (omega (arith, v .own, v .whole)) e (omega (arith, v .own, v .whole)) (sym L)
+            high-done d im (K .pre) is (K .at) c k N (omega arith) e (omega (arith, v .own, v .whole)) (sym L)
                 (omega (arith, vacant-long v, v .whole));
         tail = clear-ff (length (v .free)) (omega (arith, vacant-long v, v .whole));
       })
@@ -241,7 +241,7 @@ repair-laid {im} {h} {S} {t} {es} {below} {free} g d e b = go e
                 blank = vacant-blank (w .vac);
               }) im
               (erase-steps im (place im h S t))
-              (erase-safe g (record { len = refl; vac = v; ends = sym (limit-is (v .laid)) }));
+              (erase-safe (record { len = refl; vac = v; ends = sym (limit-is (v .laid)) }));
           bare = vacant-bare (good-is (length im) g .0) t v;
         }
     go (tail-floor f t₁ p q) = full f (λ u. let n : _≡_ {A = ℕ} 0 1 = cc in absurd (omega arith))

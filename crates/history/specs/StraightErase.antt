@@ -14,8 +14,7 @@ use Rattle.spec.specs.Move.{vacated-end, vacated}
 use Rattle.history.specs.Blanks.{blanks}
 use Rattle.history.specs.Lay.{lay, rsize, rsize-words}
 use Rattle.history.specs.Markless.{markless-append, Cleaned, Markless}
-use Rattle.history.specs.Erase.{erases, half-erased, half-erased-length, erase-cut, markless-lost, half-erased-markless, sectors-are}
-use Rattle.history.specs.Erase.{all-erased, take-erases, old-head, old-head-lay, old-head-length, old-head-markless}
+use Rattle.history.specs.Erase.{erases, half-erased, half-erased-length, erase-cut, markless-lost, half-erased-markless, sectors-are, all-erased, take-erases, old-head, old-head-lay, old-head-length, old-head-markless}
 use Rattle.history.specs.Seg.{seg-none}
 use Rattle.history.specs.Straight.{Straight}
 
