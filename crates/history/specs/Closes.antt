@@ -27,7 +27,8 @@ use Rattle.history.specs.Laid.{Laid, Tail, low-high, place}
 use Rattle.history.specs.LaidEdit.{laid-head, relow-laid, entry-inside}
 use Rattle.history.specs.Kinds.{Ok, clean, both, vacated as vacated-kind, Inv, Rested}
 use Rattle.history.specs.OkLaws.{ok-same, ok-behead}
-use Rattle.history.specs.Vacant.{Here, tail-here, tail-along, rested-of, first-is, relow-alive, vacant-inv, start-safe, start-rested, rested-inv}
+use Rattle.history.specs.Vacant.{Here, tail-here, tail-along, rested-of, first-is, relow-alive, vacant-inv, start-safe, start-rested}
+use Rattle.history.specs.Vacant.{rested-inv}
 use Rattle.history.specs.LaidClean.{anew, Cleans, clean-data}
 use Rattle.history.specs.LaidErase.{Leaves, near, far, leaves}
 use Rattle.history.specs.LaidForget.{forget-laid}

@@ -18,7 +18,8 @@ use Rattle.history.specs.Blanks.{blanks}
 use Rattle.history.specs.Lay.{onto, lay, sizes, Fit, All-fine, drop-onto, length-lay, drop-lay, sizes-least}
 use Rattle.history.specs.Last.{Begun, begun-ff, begun-5a, Name-begun, begun-none, begun-end, torn, held, begun, drop-begun}
 use Rattle.history.specs.Markless.{mark-nil, no-start, no-clean, Markless, mark-append}
-use Rattle.history.specs.Walk.{Walks, walks-record, walks-clean, Walked, walk-lay, walk-begun, walk-held, Lands, Lands₁, lands-more, lands-markless, lands-torn-like, lands-head, Head-low, is-START, is-CLEAN, search-found, search-none}
+use Rattle.history.specs.Walk.{Walks, walks-record, walks-clean, Walked, walk-lay, walk-begun, walk-held, Lands, Lands₁, lands-more}
+use Rattle.history.specs.Walk.{lands-markless, lands-torn-like, lands-head, Head-low, is-START, is-CLEAN, search-found, search-none}
 
 -- ---- the choice
 

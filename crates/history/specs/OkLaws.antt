@@ -11,7 +11,9 @@ use Rattle.spec.specs.Basics.{same, keep, first-such}
 use Rattle.spec.specs.Record.{name-ok, Entry, name-of, content-of}
 use Rattle.spec.specs.Files.{named, named-as, has-named, has-name, file-named}
 use Rattle.spec.specs.History.{File, Ledger, not-named, without, with-file}
-use Rattle.history.specs.Lists.{keep-no, keep-yes, each-map, each-end, each-swap, each-insert, each-without, each-at, each-append, each-all, pairwise-end, pairwise-without, pairwise-before, pairwise-behind, pairwise-insert, any-last, first-yes, first-no, not-both}
+use Rattle.history.specs.Lists.{keep-no, keep-yes, each-map, each-end, each-swap, each-insert, each-without, each-at, each-append, each-all}
+use Rattle.history.specs.Lists.{pairwise-end, pairwise-without, pairwise-before, pairwise-behind, pairwise-insert, any-last, first-yes}
+use Rattle.history.specs.Lists.{first-no, not-both}
 use Rattle.history.specs.Store.{same-sym, alive, Apart, Unique, Well-named, fc-alive, f8-alive, dead-apart, dead-named, files-alive}
 use Rattle.history.specs.Ledger.{as-file, contents, Matches, Absent, perm-keep, keep-contents, contents-append, contents-one, matches-dead}
 use Rattle.history.specs.Shadow.{Shadowed}

@@ -20,12 +20,12 @@ use Rattle.history.specs.Safe.{Safe, safe-append}
 use Rattle.history.specs.Erase.{good-is}
 use Rattle.history.specs.Seg.{seg-none}
 use Rattle.history.specs.Laid.{Laid, Tail, Bare, place}
-use Rattle.history.specs.LaidEdit.{laid-below, laid-length, laid-head}
+use Rattle.history.specs.LaidEdit.{laid-below, laid-length, laid-head, turn-laid}
 use Rattle.history.specs.Kinds.{Bytes, Starts, Ok, Inv}
 use Rattle.history.specs.Put.{open-steps, file}
 use Rattle.history.specs.PutSound.{name-fit}
 use Rattle.history.specs.PutWrite.{bare-of, good-run, length-open, open-safe, commit-sound, committed}
-use Rattle.history.specs.PutTurn.{Given, given-tail, given-zero, given, turned-by-marker, marker-safe}
+use Rattle.history.specs.PutTurn.{Given, given-tail, given-zero, given, marker-safe}
 
 -- put up to the commit, for a record of the name n and the content c at address a: m steps `turn`, then the record's but the commit
 pub record Written (l : Ledger) (im : Image) (h : ℕ) (es : List Entry) (n c : List ℕ) (turn : List Step) (a m : ℕ) : Type 0 where
@@ -48,10 +48,10 @@ module _ {im : Image} {h S : ℕ} {t : Bool} {es : List Entry} (B F : ℕ) (d : 
   at-tail : size-of (length n) (length c) ≤ F → Written l im h es n c [] S 0
   at-tail room =
       record {
-        safe = open-safe B F d n c (fit-tail room) b room l good st ok;
+        safe = open-safe B F d n c (fit-tail room) room b l good st ok;
         count = omega (arith, length-moved S (open-steps n c), length-open n c);
-        sound = commit-sound B F d n c (fit-tail room) b room;
-        rest = bare-of B (F - size-of (length n) (length c)) (committed B F d n c (fit-tail room) b room);
+        sound = commit-sound B F d n c (fit-tail room) room;
+        rest = bare-of B (F - size-of (length n) (length c)) (committed B F d n c (fit-tail room) room);
       }
 
   at-zero : t ≡ false → size-of (length n) (length c) ≤ B → 8 ≤ F → Written l im h es n c (moved S marker-steps) 0 3
@@ -59,13 +59,14 @@ module _ {im : Image} {h S : ℕ} {t : Bool} {es : List Entry} (B F : ℕ) (d : 
       let g : Fit (length c) n = fit-zero e room in
       let s : Laid im h S false es seg-none (blanks B) (blanks F) = subst (λ (u : Bool). Laid im h S u es seg-none (blanks B) (blanks F)) e d in
       let below : 8 ≤ B = omega arith in
-      let turned : Laid (run im (moved S marker-steps)) h 0 true es seg-none [] (blanks B) = turned-by-marker B F s l st ok eight below in
+      let turned : Laid (run im (moved S marker-steps)) h 0 true es seg-none [] (blanks B) =
+          let one : 1 ≤ B = omega arith in turn-laid s eight one in
       record {
         safe = safe-append (Inv l) im (moved S marker-steps) (moved 0 (open-steps n c)) (marker-safe B F s l st ok eight below good)
-            (open-safe 0 B turned n c g b room l (good-run im (moved S marker-steps) tt good) st ok);
+            (open-safe 0 B turned n c g room b l (good-run im (moved S marker-steps) tt good) st ok);
         count = omega (arith, length-moved 0 (open-steps n c), length-open n c);
-        sound = commit-sound 0 B turned n c g b room;
-        rest = bare-of 0 (B - size-of (length n) (length c)) (committed 0 B turned n c g b room);
+        sound = commit-sound 0 B turned n c g room;
+        rest = bare-of 0 (B - size-of (length n) (length c)) (committed 0 B turned n c g room);
       }
 
   -- put up to its commit, at the place that the size is given

@@ -60,7 +60,7 @@ module _ {im : Image} {h S : ℕ} {es : List Entry} (B F : ℕ) (d : Laid im h S
       go (laid-turned s e i j k) = let z : _≡_ {A = ℕ} 0 1 = cc in absurd (omega arith)
 
   -- after the marker: turned, and S is 0
-  pub turned-by-marker : Laid (run im (moved S marker-steps)) h 0 true es seg-none [] (blanks B)
+  turned-by-marker : Laid (run im (moved S marker-steps)) h 0 true es seg-none [] (blanks B)
   turned-by-marker = let one : 1 ≤ B = omega arith in turn-laid d eight one
 
   marker-kind : (k : ℕ) → k ≤ 3 → Kind (run im (take k (moved S marker-steps))) l

@@ -103,7 +103,7 @@ pub length-open : (n c : List ℕ) → length (open-steps n c) ≡ 8 + length n 
 length-open n c = omega (arith, length-record n c, ap length (commit-last n c), length-append (open-steps n c) commit-steps)
 
 module _ {im : Image} {h S : ℕ} {t : Bool} {es : List Entry} (B F : ℕ) (d : Laid im h S t es seg-none (blanks B) (blanks F)) (n c : List ℕ)
-    (g : Fit (length c) n) (b : Bytes c)
+    (g : Fit (length c) n)
     (room : size-of (length n) (length c) ≤ F) where
   at-hole : (H : Hole im h S t es seg-none (blanks B) (blanks F)) (ss : List Step) → Programs ss
       → run im (moved S ss) ≡ H .pre ++ run (blanks F ++ H .post) ss
@@ -131,8 +131,8 @@ module _ {im : Image} {h S : ℕ} {t : Bool} {es : List Entry} (B F : ℕ) (d : 
           ∙ at-hole (hole-of d) (take k (open-steps n c)) (take-programs k (open-steps n c) (open-programs n c)))
 
   -- before the commit, cut anywhere
-  pub open-safe : (l : Ledger) → good-length (length im) ≡ true → Starts es → Ok es l → Safe (Inv l) im (moved S (open-steps n c))
-  open-safe l good st ok =
+  pub open-safe : Bytes c → (l : Ledger) → good-length (length im) ≡ true → Starts es → Ok es l → Safe (Inv l) im (moved S (open-steps n c))
+  open-safe b l good st ok =
       safe-from (Inv l) im (moved S (open-steps n c))
       (λ k i. record {
         good =

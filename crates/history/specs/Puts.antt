@@ -32,7 +32,8 @@ use Rattle.history.specs.OkLaws.{ok-new, Old, old-none, old-some}
 use Rattle.history.specs.Put.{open-steps, file}
 use Rattle.history.specs.PutSound.{name-some, commit-last}
 use Rattle.history.specs.PutPhases.{Written, written}
-use Rattle.history.specs.PutOld.{starts-end, plain-file, named-by, bare-inv, bare-read, bare-head, bare-rested, Migrated, stays, migrates, deleted, delete-safe, delete-rested}
+use Rattle.history.specs.PutOld.{starts-end, plain-file, named-by, bare-inv, bare-read, bare-head, bare-rested, Migrated, stays, migrates}
+use Rattle.history.specs.PutOld.{deleted, delete-safe, delete-rested}
 
 -- steps that lead from the ledger k to the ledger l, by their step number `at`; the head stays at h
 pub record Commits (k l : Ledger) (im : Image) (ss : List Step) (at h : ℕ) : Type 0 where

@@ -11,8 +11,10 @@ use Rattle.spec.specs.Record.{Entry, name-of}
 use Rattle.spec.specs.Files.{same-name, named, named-as, has-named, live, doubled}
 use Rattle.spec.specs.Reading.{marked, second-ok, marks-ok, name-legal, names-ok, single}
 use Rattle.spec.specs.History.{Ledger}
-use Rattle.history.specs.Lists.{and-no, any-none, all-each, each-map, each-all, each-both, each-left, each-right, each-insert, Pairwise, pairwise-insert, pairwise-map}
-use Rattle.history.specs.Store.{alive, Apart, Well-named, Finished, Unmarked, names-by, unique-single, marks-by, live-alive, fc-alive, f8-alive, fc-not-f8, no-fc, same-sym}
+use Rattle.history.specs.Lists.{and-no, any-none, all-each, each-map, each-all, each-both, each-left, each-right, each-insert, Pairwise}
+use Rattle.history.specs.Lists.{pairwise-insert, pairwise-map}
+use Rattle.history.specs.Store.{alive, Apart, Well-named, Finished, Unmarked, names-by, unique-single, marks-by, live-alive, fc-alive}
+use Rattle.history.specs.Store.{f8-alive, fc-not-f8, no-fc, same-sym}
 use Rattle.history.specs.Shadow.{Shadowed, live-same, o-dead}
 use Rattle.history.specs.Lay.{Fine, finished}
 use Rattle.history.specs.Seg.{Seg, seg-entries, seg-none, seg-torn, seg-cut, seg-held}

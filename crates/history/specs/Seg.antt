@@ -10,7 +10,8 @@ use lib.ListN.{length, drop, length-append, length-replicate}
 use Rattle.spec.specs.declared.Next.{Next}
 use Rattle.spec.specs.Record.{size-of, Entry}
 use Rattle.history.specs.Lay.{onto, Fit, drop-onto, chain-of}
-use Rattle.history.specs.Last.{Begun, Name-begun, torn, torn-rec, held, begun, cut-rec, drop-begun, Ends, Stops, ends-torn, ends-begun, ends-whole}
+use Rattle.history.specs.Last.{Begun, Name-begun, torn, torn-rec, held, begun, cut-rec, drop-begun, Ends, Stops, ends-torn, ends-begun}
+use Rattle.history.specs.Last.{ends-whole}
 use Rattle.history.specs.Markless.{Markless}
 use Rattle.history.specs.Walk.{Head-low}
 use Rattle.history.specs.Head.{Reaches, Reaches₁, reaches-more, reaches-gap, reaches-torn, reaches-begun, reaches-held, reaches-markless}

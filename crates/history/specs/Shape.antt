@@ -15,7 +15,8 @@ use Rattle.spec.specs.declared.Ending.{Ending}
 use Rattle.spec.specs.Geometry.{floor}
 use Rattle.spec.specs.Record.{Rec, Entry}
 use Rattle.spec.specs.Chain.{Chain, stop, chain, Reading, read, joined, from-head, from-zero, read-on, reading-from}
-use Rattle.history.specs.Lay.{lay, sizes, entries-of, before, All-fine, chain-lay, length-lay, sizes-least, drop-past, lay-past, before-chain, chain-of}
+use Rattle.history.specs.Lay.{lay, sizes, entries-of, before, All-fine, chain-lay, length-lay, sizes-least, drop-past, lay-past, before-chain}
+use Rattle.history.specs.Lay.{chain-of}
 use Rattle.history.specs.Last.{Ends, Stops}
 
 -- ---- the two chains

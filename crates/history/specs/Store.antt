@@ -12,7 +12,8 @@ use Rattle.spec.specs.Bytes.{is-start, is-clean, is-unfinished}
 use Rattle.spec.specs.Record.{name-ok, Entry, name-of}
 use Rattle.spec.specs.Files.{same-name, named, named-as, has-named, live, superseded, files, doubled}
 use Rattle.spec.specs.Reading.{marked, second-ok, marks-ok, name-legal, names-ok, single}
-use Rattle.history.specs.Lists.{and-left, and-no, any-none, all-each, keep-none, keep-same, each-map, each-both, Pairwise, all-pairs, or-left, or-right}
+use Rattle.history.specs.Lists.{and-left, and-no, any-none, all-each, keep-none, keep-same, each-map, each-both, Pairwise, all-pairs, or-left}
+use Rattle.history.specs.Lists.{or-right}
 
 -- ---- names
 

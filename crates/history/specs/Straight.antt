@@ -20,7 +20,8 @@ use Rattle.history.specs.Lay.{lay, sizes, entries-of, length-lay, All-fi
 use Rattle.history.specs.Last.{Ends}
 use Rattle.history.specs.Markless.{markless-append, Markless}
 use Rattle.history.specs.Walk.{Walked}
-use Rattle.history.specs.Head.{Front, front-gap, front-low, Reaches, reaches-more, reaches-markless, head-start, head-clean, head-zero, head-none, reaches-end, clean-is}
+use Rattle.history.specs.Head.{Front, front-gap, front-low, Reaches, reaches-more, reaches-markless, head-start, head-clean, head-zero}
+use Rattle.history.specs.Head.{head-none, reaches-end, clean-is}
 use Rattle.history.specs.Seg.{Seg, seg-none, seg-onto}
 use Rattle.history.specs.Shape.{shape-straight}
 

@@ -3,18 +3,19 @@
 use Prim.Native.Nat.{ℕ, zero, suc, _+_, _-_, _*_, _/_, _≤_, _<_}
 use native.Mathlib.Omega.{arith}
 use native.Mathlib.Nat.{not-suc-le-zero}
-use mathlib.Core.Path.{_≡_, sym, ap, _∙_, subst, refl, ap₂}
+use mathlib.Core.Path.{_≡_, sym, ap, _∙_, subst, refl, ap₂, subst₂}
 use mathlib.Core.List.{List, [], _∷_, _++_, append-assoc, map}
 use lib.ListN.{length, take, drop, getD, length-append, length-drop}
 use borrow.Author.Tests.{ne-eqb}
-use Rattle.spec.specs.Step.{run, Image, Step, erase}
+use Rattle.spec.specs.Step.{run, Step, erase}
 use Rattle.spec.specs.Record.{Rec, Entry}
 use Rattle.spec.specs.Geometry.{floor, sectors}
 use Rattle.spec.specs.Move.{vacated-end, vacated}
 use Rattle.history.specs.Blanks.{blanks}
 use Rattle.history.specs.Lay.{lay, rsize, rsize-words}
 use Rattle.history.specs.Markless.{markless-append, Cleaned, Markless}
-use Rattle.history.specs.Erase.{erases, half-erased, half-erased-length, erase-cut, markless-lost, half-erased-markless, sectors-are, all-erased, take-erases, old-head, old-head-lay, old-head-length, old-head-markless}
+use Rattle.history.specs.Erase.{erases, half-erased, half-erased-length, erase-cut, markless-lost, half-erased-markless, sectors-are}
+use Rattle.history.specs.Erase.{all-erased, take-erases, old-head, old-head-lay, old-head-length, old-head-markless}
 use Rattle.history.specs.Seg.{seg-none}
 use Rattle.history.specs.Straight.{Straight}
 
@@ -79,6 +80,15 @@ module _ {im : List ℕ} {a l : ℕ} {gap lost : List ℕ} {h : ℕ} {x y : Rec}
           fine = s .fine .1;
         }
 
+    -- all of (d): the gap's new sectors are FF
+    pub straight-all-erased :
+        Straight (run im (erases (4096 * a) (suc k))) (a + suc k) r (gap ++ blanks (4096 * suc k)) (drop (4096 * suc k) (old-head lost x []))
+        (h + rsize x) (y ∷ ys) seg-none free
+    straight-all-erased =
+        subst₂ (λ (ss : List Step) (g : List ℕ). Straight (run im ss) (a + suc k) r (gap ++ g) (drop (4096 * suc k) q) (h + rsize x) (y ∷ ys) seg-none
+            free)
+        (take-erases (suc k) (suc k) (4096 * a) (omega arith)) (all-erased (suc k) q) (straight-erased k (omega arith))
+
 -- ---- the sectors to erase
 
 vacated-to : (N : ℕ) (y : Entry) → (y .at ≡ 0 → ⊥) → vacated-end N y ≡ floor (y .at)
@@ -93,24 +103,3 @@ vacated-are N h x y a l k r e s t u =
     let g : floor (h + rsize x) ≡ 4096 * a + 4096 * suc k = omega (arith, rsize-words x) in
     ap (λ (b : ℕ). map erase (sectors (floor h) b)) (vacated-to N (record { at = h + rsize x; it = y }) (λ z. omega arith))
     ∙ ap₂ (λ (b c : ℕ). map erase (sectors b c)) f g ∙ sectors-are (suc k) (4096 * a) (4096 * a + 4096 * suc k) refl
-
--- ---- after (c): X's data is cleaned
-
-module _ {im : Image} {a l : ℕ} {gap lost : List ℕ} {h : ℕ} {x y : Rec} {ys : List Rec} {free : List ℕ}
-    (s : Straight im a l gap lost h (x ∷ y ∷ ys) seg-none free) (c : Cleaned x)
-    (k r : ℕ) (all : 512 * suc k + r ≡ l + rsize x / 8) (short : r < 512) where
-  abbrev A : ℕ
-  A = 4096 * a
-
-  -- all of (d): the gap's new sectors are FF
-  pub straight-all-erased : Straight (run im (erases A (suc k))) (a + suc k) r (gap ++ blanks (4096 * suc k))
-      (drop (4096 * suc k) (old-head lost x [])) (h + rsize x)
-      (y ∷ ys) seg-none free
-  straight-all-erased =
-      subst (λ (g : List ℕ). Straight (run im (erases A (suc k))) (a + suc k) r (gap ++ g) (drop (4096 * suc k) (old-head lost x [])) (h + rsize x)
-          (y ∷ ys) seg-none free)
-      (all-erased (suc k) (old-head lost x []))
-      (subst (λ (ss : List Step). Straight (run im ss) (a + suc k) r (gap ++ half-erased (suc k) (suc k) (old-head lost x []))
-          (drop (4096 * suc k) (old-head lost x [])) (h + rsize x)
-      (y ∷ ys) seg-none free)
-      (take-erases (suc k) (suc k) A (omega arith)) (straight-erased s c k r all short k (omega arith)))

@@ -27,9 +27,9 @@ use Rattle.history.specs.Kinds.{Ok, Starts, Inv, Rested}
 use Rattle.history.specs.OkLaws.{Old, old-none, old-some, old-file, ok-delete}
 use Rattle.history.specs.Settled.{after-none, after-some}
 use Rattle.history.specs.Vacant.{rested-inv}
-use Rattle.history.specs.PutOld.{gone, gone-dead}
+use Rattle.history.specs.PutOld.{gone, gone-dead, status-sound}
 use Rattle.history.specs.Closes.{Rests}
-use Rattle.history.specs.Unshadow.{delete-sound, delete-rests}
+use Rattle.history.specs.Unshadow.{delete-rests}
 use Rattle.history.specs.Copying.{Dead-first, copy-safe, copy-some, copied}
 use Rattle.history.specs.Handover.{hands-over}
 
@@ -49,7 +49,7 @@ remove-step {l} {im} {r} n e q f = go (old-file n (q .es) l (q .ok)) (sym (ap (�
         let o : Ok (xs ++ (gone e ∷ ys)) (without n l) =
         subst (λ (k : List ℕ). Ok (xs ++ (gone e ∷ ys)) (without k l)) m
             (ok-delete xs ys e l (subst (λ (fs : List Entry). Ok fs l) i (q .ok)) (gone e) a (gone-dead e)) in
-        (delete-sound (q .B) (q .F) xs ys e (q .good) d (q .tail), rested-inv
+        (status-sound xs ys e d 0 refl, rested-inv
             (delete-rests (q .B) (q .F) xs ys e (q .good) d (q .tail) (subst Starts i (q .starts)) o))
 
     go : {o : Option Entry} → Old n (q .es) o → o ≡ some e → Sound im (status-step e 0) × Inv (without n l) (run im (status-step e 0 ∷ []))

@@ -34,7 +34,8 @@ use Rattle.history.specs.Mounts.{mends}
 use Rattle.history.specs.Sweeps.{moves-safe, remove-step}
 use Rattle.history.specs.Induction.{still-keeps, demand-by, carried-done, carried-cut}
 use Rattle.history.specs.Formats.{formatted}
-use Rattle.history.specs.Calls.{Puts, put-no, put-yes, puts-of, Finds, find-no, find-yes, finds-of, Swept, sweep-no, sweep-yes, swept-of, get-none, list-none}
+use Rattle.history.specs.Calls.{Puts, put-no, put-yes, puts-of, Finds, find-no, find-yes, finds-of, Swept, sweep-no, sweep-yes, swept-of}
+use Rattle.history.specs.Calls.{get-none, list-none}
 use Rattle.history.specs.Shows.{rested-shows}
 
 -- ---- put

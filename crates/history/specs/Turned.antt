@@ -19,7 +19,8 @@ use Rattle.history.specs.Last.{Ends, Stops, stops-clear, stops-over, wra
 use Rattle.history.specs.Markless.{markless-append, Markless}
 use Rattle.history.specs.Walk.{Walked, Head-low, is-START, is-CLEAN}
 use Rattle.history.specs.Head.{Front, front-gap, front-begun, front-low, Reaches, head-start, head-clean}
-use Rattle.history.specs.Seg.{Seg, seg-none, seg-torn, seg-cut, seg-held, seg-onto, seg-size, seg-entries, seg-open, seg-append, length-seg, seg-ends, seg-reaches}
+use Rattle.history.specs.Seg.{Seg, seg-none, seg-torn, seg-cut, seg-held, seg-onto, seg-size, seg-entries, seg-open, seg-append, length-seg}
+use Rattle.history.specs.Seg.{seg-ends, seg-reaches}
 use Rattle.history.specs.Shape.{image, shape-turned, turns-wrap, turns-over, Low-end, low-clear, low-over}
 
 -- what ends the records from the head on: N itself, or a wrap marker and k bytes of FF

@@ -10,7 +10,8 @@ use Rattle.spec.specs.Record.{Rec}
 use Rattle.history.specs.Blanks.{blank-split}
 use Rattle.history.specs.Lay.{body, onto, lay, rsize, length-lay, lay-past, rsize-words}
 use Rattle.history.specs.Markless.{markless-append, Markless, Cleaned}
-use Rattle.history.specs.Erase.{erases, half-erased, half-erased-length, erase-cut, markless-lost, half-erased-markless, old-head, old-head-lay, old-head-length, old-head-markless, old-head-second}
+use Rattle.history.specs.Erase.{erases, half-erased, half-erased-length, erase-cut, markless-lost, half-erased-markless, old-head}
+use Rattle.history.specs.Erase.{old-head-lay, old-head-length, old-head-markless, old-head-second}
 use Rattle.history.specs.Seg.{seg-none}
 use Rattle.history.specs.Straight.{Straight}
 use Rattle.history.specs.Turned.{End, end-bytes, Opens, opens-ff, opens-none, Turned}
