@@ -85,8 +85,8 @@ module _ {im : List ℕ} {a l : ℕ} {gap lost : List ℕ} {h : ℕ} {x y : Rec}
         Straight (run im (erases (4096 * a) (suc k))) (a + suc k) r (gap ++ blanks (4096 * suc k)) (drop (4096 * suc k) (old-head lost x []))
         (h + rsize x) (y ∷ ys) seg-none free
     straight-all-erased =
-        subst₂ (λ (ss : List Step) (g : List ℕ). Straight (run im ss) (a + suc k) r (gap ++ g) (drop (4096 * suc k) q) (h + rsize x) (y ∷ ys) seg-none
-            free)
+        subst₂
+        (λ (ss : List Step) (g : List ℕ). Straight (run im ss) (a + suc k) r (gap ++ g) (drop (4096 * suc k) q) (h + rsize x) (y ∷ ys) seg-none free)
         (take-erases (suc k) (suc k) (4096 * a) (omega arith)) (all-erased (suc k) q) (straight-erased k (omega arith))
 
 -- ---- the sectors to erase
