@@ -4,6 +4,7 @@ use Rattle.spec.specs.Step.{Image}
 use Rattle.spec.specs.Answers.{Numbers, format}
 use Rattle.spec.specs.History.{Request, Call, outcome, replay}
 
+-- an image, calls done on it first, one more call, what that answers, and some of the bytes that it leaves
 pub record Case : Type 0 where
   pub start : Image
   pub before : List Call
@@ -13,10 +14,11 @@ pub record Case : Type 0 where
   pub at : ℕ
   pub bytes : List ℕ
 
--- the image that the call gets, and the one that it leaves
+-- the image that the call gets
 abbrev pub given : Case → Image
 given c = replay (c .start) (c .before)
 
+-- and the one that it leaves
 abbrev pub left : Case → Image
 left c = outcome (given c) (c .call) .image
 
@@ -35,6 +37,7 @@ filled N b = replicate N b
 abbrev pub formatted : Image
 formatted = format (filled 8192 7) 1000 .image
 
+-- a request, cut after k steps
 abbrev pub with-allowance : Request → ℕ → Call
 with-allowance r k = record { request = r; allowance = k }
 
@@ -42,6 +45,7 @@ with-allowance r k = record { request = r; allowance = k }
 abbrev pub uncut : Request → Call
 uncut r = with-allowance r 100000
 
+-- answer, three values and steps, as document 01 gives them for each call
 abbrev pub gives : ℕ → ℕ → ℕ → ℕ → ℕ → Numbers
 gives answer first second third steps = record { answer = answer; first = first; second = second; third = third; steps = steps }
 
@@ -49,5 +53,6 @@ gives answer first second third steps = record { answer = answer; first = first;
 abbrev pub row : Image → List Call → Call → Numbers → Case
 row start before call numbers = record { start = start; before = before; call = call; numbers = numbers; at = 0; bytes = [] }
 
+-- a case with bytes
 abbrev pub row-bytes : Image → List Call → Call → Numbers → ℕ → List ℕ → Case
 row-bytes start before call numbers at bytes = record { start = start; before = before; call = call; numbers = numbers; at = at; bytes = bytes }

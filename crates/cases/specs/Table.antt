@@ -3,13 +3,15 @@ use Rattle.spec.specs.Prelude.{ℕ, List, [], _∷_, replicate}
 use Rattle.spec.specs.History.{Request, Call}
 use Rattle.cases.specs.Case.{Case, filled, formatted, with-allowance, uncut, gives, row, row-bytes}
 
--- the file of the cases, and another content for it
+-- the name of the file in the cases: "dose"
 abbrev pub dose : List ℕ
 dose = 0x64 ∷ 0x6F ∷ 0x73 ∷ 0x65 ∷ []
 
+-- its content
 abbrev pub old : List ℕ
 old = 1 ∷ 2 ∷ 3 ∷ []
 
+-- another content
 abbrev pub new : List ℕ
 new = 7 ∷ 8 ∷ 9 ∷ []
 
@@ -26,6 +28,7 @@ put-marked = Request.put dose (0x00 ∷ 0x5A ∷ 3 ∷ [])
 abbrev pub mount : Call
 mount = uncut Request.mount
 
+-- the table; each row stands under the words of document 01 that it renders
 unfoldable pub table : List Case
 table =
     -- "All FF: 6"

@@ -15,10 +15,11 @@ use Rattle.spec.specs.Files.{file-named, file-indexed}
 use Rattle.spec.specs.Place.{largest-with, fits, fits-all, room}
 use Rattle.spec.specs.Write.{put-steps}
 use Rattle.spec.specs.Sweep.{no-room, sweep-moves}
-use Rattle.spec.specs.Answers.{Plan, doing, found, settled-reading, put-into, put-plan, file-of, file-plan, getting, get-plan, listing, list-of, list-plan, sweeping, sweep-of, sweep-plan}
+use Rattle.spec.specs.Answers.{Plan, doing, found, settled-reading, put-into, put-plan, file-of, file-plan, getting, get-plan, listing, list-of}
+use Rattle.spec.specs.Answers.{list-plan, sweeping, sweep-of, sweep-plan}
 use Rattle.spec.specs.History.{Ledger, steps-of}
 use Rattle.history.specs.Kinds.{Inv, Rested}
-use Rattle.history.specs.Settling.{rested-settled}
+use Rattle.history.specs.Settled.{rested-settled}
 use Rattle.history.specs.Mounts.{Settling, rests, waits, settling}
 
 -- a refusal's number is neither 0 nor 4

@@ -1,4 +1,4 @@
--- Step (c) of a move: the marks in X's data are cleared, word by word; at the end the data has its place and length, and no mark.
+-- Step (c) of a move on bytes: the marks in X's data are cleared, word by word; at the end the data has its place and length, and no mark.
 use Prim.Native.Nat.{ℕ, zero, suc, _+_, _*_, _≤_, _<_}
 use native.Mathlib.Omega.{arith}
 use native.Mathlib.Nat.{not-suc-le-zero}
@@ -12,10 +12,9 @@ use borrow.Author.Tests.{ltb-true, ltb-false}
 use Rattle.spec.specs.Step.{Step, program, run}
 use Rattle.spec.specs.Bytes.{is-start, is-clean, is-record, is-high}
 use Rattle.spec.specs.Move.{mark-here, mark-steps, clean-steps}
-use Rattle.history.specs.Walk.{Quiet, mark-append}
-use Rattle.history.specs.Quiet.{mark-second, calm-quiet}
-use Rattle.history.specs.Steps.{set-past}
 use Rattle.history.specs.Lists.{not-both}
+use Rattle.history.specs.Steps.{set-past}
+use Rattle.history.specs.Markless.{mark-second, calm-markless, Markless, mark-append}
 
 clean-nil : (k a : ℕ) → clean-steps k a [] ≡ []
 unfolding clean-steps is-high is-start
@@ -36,6 +35,7 @@ clean-miss : (k a : ℕ) (s : List ℕ) → mark-here s ≡ false → clean-step
 unfolding clean-steps
 clean-miss k a s e = ap (λ (ss : List Step). ss ++ clean-steps k (a + 8) (drop 8 s)) (mark-miss a s e)
 
+-- a mark is two bytes
 pub mark-long : (s : List ℕ) → mark-here s ≡ true → 2 ≤ length s
 unfolding is-high
 mark-long [] e = absurd (not-both (mark-here []) (and-false (is-start 0 || is-clean 0 || is-record 0)) e)
@@ -46,15 +46,15 @@ set-in : (p s q : List ℕ) (a : ℕ) → length p ≡ a → 2 ≤ length s → 
 set-in p s q a e l =
     ap (λ (n : ℕ). set (p ++ (s ++ q)) (n + 1) 0) (sym e) ∙ set-past p (s ++ q) 1 0 ∙ ap (λ (m : List ℕ). p ++ m) (set-append-left s q 1 0 l)
 
--- all of (c): no mark is left
+-- what (c) leaves of the bytes s between p and q: as many bytes, with no mark in k words
 pub record Clean-now (k : ℕ) (p s q l : List ℕ) : Type 0 where
   pub now : List ℕ
   pub is : l ≡ p ++ (now ++ q)
   pub same-length : length now ≡ length s
-  pub quiet : Quiet k now
+  pub markless : Markless k now
 
-quiet-nil : (k : ℕ) → Quiet k []
-quiet-nil k = calm-quiet k [] tt
+markless-nil : (k : ℕ) → Markless k []
+markless-nil k = calm-markless k [] tt
 
 -- the first word w has no mark, nor has the rest
 word-more : (k : ℕ) (p s q l u v w : List ℕ) → s ≡ u ++ v → length w ≡ length u → length w ≡ 8 → mark-here w ≡ false → Clean-now k (p ++ w) v q l
@@ -64,7 +64,7 @@ word-more k p s q l u v w e h i m c =
       now = w ++ c .now;
       is = c .is ∙ append-assoc p w (c .now ++ q) ∙ ap (λ (x : List ℕ). p ++ x) (sym (append-assoc w (c .now) q));
       same-length = length-append w (c .now) ∙ ap₂ _+_ h (c .same-length) ∙ sym (length-append u v) ∙ ap length (sym e);
-      quiet = (mark-append w (c .now) (omega arith) ∙ m, rw (drop-at w (c .now) 8 i) (c .quiet));
+      markless = (mark-append w (c .now) (omega arith) ∙ m, rw (drop-at w (c .now) 8 i) (c .markless));
     }
 
 mark-set : (s : List ℕ) → 2 ≤ length s → mark-here (set s 1 0) ≡ false
@@ -78,7 +78,7 @@ mark-take s h = sym (mark-append (take 8 s) (drop 8 s) (omega (arith, length-tak
 -- all of (c)
 pub clean-done : (k a : ℕ) (p s q : List ℕ) → length p ≡ a → length s ≤ 8 * k → Clean-now k p s q (run (p ++ (s ++ q)) (clean-steps k a s))
 unfolding clean-steps
-clean-done zero a p s q e l = record { now = s; is = refl; same-length = refl; quiet = tt }
+clean-done zero a p s q e l = record { now = s; is = refl; same-length = refl; markless = tt }
 clean-done (suc k) a p s q e l =
     go (mark-here s) (ltb (length s) 8) refl refl
         (λ w i. clean-done k (a + 8) (p ++ w) (drop 8 s) q (length-append p w ∙ omega arith) (omega (arith, length-drop 8 s)))
@@ -86,8 +86,8 @@ clean-done (suc k) a p s q e l =
     none-left : (i : length s < 8) → (n : ℕ) → clean-steps n (a + 8) (drop 8 s) ≡ []
     none-left i n = ap (clean-steps n (a + 8)) (drop-of-length-le s {i = 8} (omega arith)) ∙ clean-nil n (a + 8)
 
-    short-quiet : (t : List ℕ) → length t < 8 → mark-here t ≡ false → Quiet (suc k) t
-    short-quiet t i m = (m, subst (λ (x : List ℕ). Quiet k x) (sym (drop-of-length-le t {i = 8} (omega arith))) (quiet-nil k))
+    short-markless : (t : List ℕ) → length t < 8 → mark-here t ≡ false → Markless (suc k) t
+    short-markless t i m = (m, subst (λ (x : List ℕ). Markless k x) (sym (drop-of-length-le t {i = 8} (omega arith))) (markless-nil k))
 
     go : (b c : Bool) → mark-here s ≡ b → ltb (length s) 8 ≡ c →
         ((w : List ℕ) → length w ≡ 8 → Clean-now k (p ++ w) (drop 8 s) q (run ((p ++ w) ++ (drop 8 s ++ q)) (clean-steps k (a + 8) (drop 8 s)))) →
@@ -100,7 +100,7 @@ clean-done (suc k) a p s q e l =
           now = set s 1 0;
           is = set-in p s q a e (mark-long s x);
           same-length = length-set s 1 0;
-          quiet = short-quiet (set s 1 0) (omega (arith, length-set s 1 0)) (mark-set s (mark-long s x));
+          markless = short-markless (set s 1 0) (omega (arith, length-set s 1 0)) (mark-set s (mark-long s x));
         })
     go true false x y f =
         let i : 8 ≤ length s = ltb-false (length s) 8 y in
@@ -118,7 +118,7 @@ clean-done (suc k) a p s q e l =
     go false true x y f =
         let i : length s < 8 = ltb-true (length s) 8 y in
         subst (λ (ss : List Step). Clean-now (suc k) p s q (run (p ++ (s ++ q)) ss)) (sym (clean-miss k a s x ∙ none-left i k))
-        (record { now = s; is = refl; same-length = refl; quiet = short-quiet s i x })
+        (record { now = s; is = refl; same-length = refl; markless = short-markless s i x })
     go false false x y f =
         let i : 8 ≤ length s = ltb-false (length s) 8 y in
         let lu : length (take 8 s) ≡ 8 = length-take-le 8 s i in

@@ -1,4 +1,4 @@
--- Steps (c) to (f) of a move, cut anywhere, and what mount does with the images that they leave.
+-- What is left of a move, cut anywhere: steps (c) to (f) together, the last step alone, and repair 1. Each leaves a rested image (Rests).
 use Prim.Native.Nat.{ℕ, zero, suc, _+_, _≤_}
 use native.Mathlib.Omega.{arith}
 use mathlib.Core.Path.{_≡_, refl, sym, ap, _∙_, subst, subst₂}
@@ -14,22 +14,24 @@ use Rattle.spec.specs.Reading.{tail-blank}
 use Rattle.spec.specs.Move.{clean-steps, vacated, vacate-steps, close-steps}
 use Rattle.spec.specs.Mount.{erase-steps}
 use Rattle.spec.specs.History.{Ledger}
-use Rattle.history.specs.Lay.{blanks, low-start}
-use Rattle.history.specs.Seg.{seg-none}
-use Rattle.history.specs.StraightErase.{Cleaned}
-use Rattle.history.specs.StraightEdit.{relow}
-use Rattle.history.specs.Steps.{run-append}
-use Rattle.history.specs.Erase.{erases, length-erases, take-erases}
-use Rattle.history.specs.Laid.{Laid, Tail, low-high}
-use Rattle.history.specs.Safe.{Safe, safe-append, safe-from, safe-map, safe-end}
+use Rattle.history.specs.Blanks.{blanks}
 use Rattle.history.specs.Store.{alive, Unmarked}
-use Rattle.history.specs.Kinds.{Ok, place, clean, both, vacated as vacated-kind, Inv, Rested}
+use Rattle.history.specs.Lay.{low-start}
+use Rattle.history.specs.Steps.{run-append}
+use Rattle.history.specs.Safe.{Safe, safe-append, safe-from, safe-map, safe-end}
+use Rattle.history.specs.Markless.{Cleaned}
+use Rattle.history.specs.Erase.{erases, length-erases, take-erases, erases-length, erases-sound}
+use Rattle.history.specs.Seg.{seg-none}
+use Rattle.history.specs.StraightEdit.{relow}
+use Rattle.history.specs.Laid.{Laid, Tail, low-high, place}
 use Rattle.history.specs.LaidEdit.{laid-head, relow-laid, entry-inside}
+use Rattle.history.specs.Kinds.{Ok, clean, both, vacated as vacated-kind, Inv, Rested}
 use Rattle.history.specs.OkLaws.{ok-same, ok-behead}
-use Rattle.history.specs.Vacant.{Here, tail-here, tail-along, rested-of, first-is, relow-alive, vacant-inv, bare-safe, bare-rested, rested-inv}
-use Rattle.history.specs.LaidClean.{anew, Swept, sweep-data}
+use Rattle.history.specs.Vacant.{Here, tail-here, tail-along, rested-of, first-is, relow-alive, vacant-inv, start-safe, start-rested}
+use Rattle.history.specs.Vacant.{rested-inv}
+use Rattle.history.specs.LaidClean.{anew, Cleans, clean-data}
+use Rattle.history.specs.LaidErase.{Leaves, near, far, leaves}
 use Rattle.history.specs.LaidForget.{forget-laid}
-use Rattle.history.specs.LaidErase.{Leaves, near, far, erases-length, erases-sound, leaves}
 use Rattle.history.specs.LaidMend.{Vacates, Repaired, repair-laid}
 
 -- steps after which the image is rested, its head being h
@@ -76,7 +78,7 @@ vacate-anew x y c (z ∷ zs) = refl
 vacate-rests :
     {l : Ledger} {im : Image} {h S : ℕ} (B F : ℕ) {t : Bool} {x y : Entry} {es : List Entry} → good-length (length im) ≡ true →
     Laid im h S t (x ∷ y ∷ es) seg-none (blanks B) (blanks F) → Tail h S t seg-none (blanks B) (blanks F) S t → x .it .low ≡ 0 → alive x ≡ false
-        → Cleaned (x .it) → y .it .low ≡ 160 →
+        → Cleaned (x .it) → y .it .low ≡ 0xA0 →
     Each Unmarked es → Ok (x ∷ y ∷ es) l → Rests l im (vacate-steps x y (vacated (length im) x y)) (y .at)
 vacate-rests {l} {im} {h} {S} B F {t} {x} {y} {es} g d e a b c y₁ m o = go (leaves B F g d e c)
   where
@@ -99,12 +101,12 @@ vacate-rests {l} {im} {h} {S} B F {t} {x} {y} {es} g d e a b c y₁ m o = go (le
         λ j q. cut j (omega (arith, length-erases A (suc k))) (good-cut j) ok₁ in
         let g₁ : good-length (length (run im (erases A (suc k)))) ≡ true =
         subst (λ (ss : List Step). good-length (length (run im ss)) ≡ true) (take-erases (suc k) (suc k) A (omega arith)) (good-cut (suc k)) in
-        let r : Rested l (set (run im (erases A (suc k))) (y .at) 0) (reading-from (set (run im (erases A (suc k))) (y .at) 0) (y .at)) = bare-rested
+        let r : Rested l (set (run im (erases A (suc k))) (y .at) 0) (reading-from (set (run im (erases A (suc k))) (y .at) 0) (y .at)) =
+            start-rested
             g₁ y₁ m ok₁ w in
-        
         subst (λ (ss : List Step). Rests l im ss (y .at)) (sym (vacate-are x y A k (vacated (length im) x y) p))
         (rests-append (erases A (suc k)) (program (y .at) 0 ∷ []) (safe-from (Inv l) im (erases A (suc k)) cuts (erases-sound A (suc k) im z i))
-        (record { safe = bare-safe g₁ y₁ m ok₁ w (rested-inv r); rested = r }))
+        (record { safe = start-safe g₁ y₁ m ok₁ w (rested-inv r); rested = r }))
       where
         cut : (j : ℕ) → j ≤ suc k → good-length (length (run im (take j (erases A (suc k))))) ≡ true → Ok (y ∷ es) l
             → Inv l (run im (take j (erases A (suc k))))
@@ -115,13 +117,13 @@ vacate-rests {l} {im} {h} {S} B F {t} {x} {y} {es} g d e a b c y₁ m o = go (le
 pub close-rests :
     {l : Ledger} {im : Image} {h S T : ℕ} (B F : ℕ) {t u : Bool} {x y : Entry} {es : List Entry} → good-length (length im) ≡ true →
     Laid im h S t (x ∷ y ∷ es) seg-none (blanks B) (blanks F) → Tail h S t seg-none (blanks B) (blanks F) T u → x .it .low ≡ 0 → alive x ≡ false
-        → y .it .low ≡ 160 → Each Unmarked es →
+        → y .it .low ≡ 0xA0 → Each Unmarked es →
     Ok (x ∷ y ∷ es) l → Rests l im (close-steps (length im) x y) (y .at)
 unfolding close-steps
 close-rests {l} {im} {h} {S} B F {t} {x = x} {y} {es} g d e a b c m o =
     let tl : Tail h S t seg-none (blanks B) (blanks F) S t = tail-here e .tail in
     let cs : List Step = clean-steps (length (content-of x)) (data-at x) (content-of x) in
-    let w : Swept l im cs h S B F t x y es = sweep-data B F g d tl a b c m o in
+    let w : Cleans l im cs h S B F t x y es = clean-data B F g d tl a b c m o in
     rests-append cs (vacate-steps x y (vacated (length im) x y)) (w .safe)
     (subst (λ (ss : List Step). Rests l (run im cs) ss (y .at))
         (vacate-anew x y (w .now) (vacated (length (run im cs)) x y) ∙ ap (λ (n : ℕ). vacate-steps x y (vacated n x y)) (w .same))
@@ -131,7 +133,7 @@ close-rests {l} {im} {h} {S} B F {t} {x = x} {y} {es} g d e a b c m o =
 pub vacated-rests :
     {l : Ledger} {im : Image} {h S T : ℕ} {t u : Bool} {x : Entry} {es : List Entry} {below free : List ℕ} → good-length (length im) ≡ true
         → Laid im h S t (x ∷ es) seg-none below free →
-    Tail h S t seg-none below free T u → tail-blank im (place im h T u) ≡ true → x .it .low ≡ 160 → Each Unmarked es → Ok (x ∷ es) l →
+    Tail h S t seg-none below free T u → tail-blank im (place im h T u) ≡ true → x .it .low ≡ 0xA0 → Each Unmarked es → Ok (x ∷ es) l →
     Rests l im (erase-steps im (place im h T u) ++ (program h 0 ∷ [])) h
 vacated-rests {l} {im} {h} {S} {T} {t} {u} {x} {es} {below} {free} g d e b a m o =
     let k : Here h S t below free T u = tail-here e in
@@ -143,9 +145,9 @@ vacated-rests {l} {im} {h} {S} {T} {t} {u} {x} {es} {below} {free} g d e b a m o
         let ss : List Step = erase-steps im (place im h S t) in
         let W : Image → Type 0 = Vacates (length im) h S t (x ∷ es) in
         let g₁ : good-length (length (run im ss)) ≡ true = rw (safe-end W im ss (n .safe) .len) g in
-        let r : Rested l (set (run im ss) h 0) (reading-from (set (run im ss) h 0) h) = bare-rested g₁ a m o (n .bare) in
+        let r : Rested l (set (run im ss) h 0) (reading-from (set (run im ss) h 0) h) = start-rested g₁ a m o (n .bare) in
         rests-append ss (program h 0 ∷ []) (safe-map W (Inv l) (λ i v. record {
           good = rw (v .len) g;
           kind = vacated-kind (v .laid) (v .tail) (v .blank) a m o;
         }) im ss (n .safe))
-        (record { safe = bare-safe g₁ a m o (n .bare) (rested-inv r); rested = r })
+        (record { safe = start-safe g₁ a m o (n .bare) (rested-inv r); rested = r })

@@ -4,7 +4,7 @@ use native.Mathlib.Omega.{arith}
 use mathlib.Core.Path.{_≡_, refl, sym, ap, ap₂, _∙_, subst}
 use mathlib.Core.Bool.{true, false}
 use mathlib.Core.Option.{some}
-use mathlib.Core.List.{List, [], _∷_, _++_, List·Permᴰ, List·Permᴰ·nil, List·Permᴰ·cons, List·Permᴰ·swap, List·Permᴰ·trans, append-assoc, append-nil, map}
+use mathlib.Core.List.{List, [], _∷_, _++_, List·Permᴰ, append-assoc, append-nil, map}
 use lib.ListN.{length, set, getD, length-set}
 use lib.Seq.{getD-set-same}
 use Rattle.spec.specs.declared.Ending.{Ending}
@@ -16,20 +16,20 @@ use Rattle.spec.specs.Files.{named}
 use Rattle.spec.specs.Place.{fits, address, with-marker}
 use Rattle.spec.specs.Write.{migrate-steps, turn-steps, record-steps, put-steps}
 use Rattle.spec.specs.History.{File, Ledger, without, with-file, one-if-fc, three-if}
-use Rattle.history.specs.Lay.{blanks}
-use Rattle.history.specs.Seg.{seg-none}
+use Rattle.history.specs.Lists.{keep-no, some-behind}
+use Rattle.history.specs.Blanks.{blanks}
+use Rattle.history.specs.Store.{alive}
+use Rattle.history.specs.Ledger.{as-file, Matches, perm-length, contents}
 use Rattle.history.specs.Steps.{run-append}
+use Rattle.history.specs.Safe.{Safe, safe-append, safe-end, safe-map}
+use Rattle.history.specs.Seg.{seg-none}
 use Rattle.history.specs.Laid.{Laid}
 use Rattle.history.specs.LaidEdit.{laid-first, status-at, entry-inside}
-use Rattle.history.specs.LaidRead.{laid-reads}
-use Rattle.history.specs.Safe.{Safe, safe-append, safe-end, safe-map}
-use Rattle.history.specs.Store.{alive}
-use Rattle.history.specs.Ledger.{as-file, Matches}
-use Rattle.history.specs.Lists.{keep-no, some-behind}
-use Rattle.history.specs.OkLaws.{old-some, ok-perm, ok-again}
 use Rattle.history.specs.Kinds.{Ok, Kind, quiet, half, shadow, clean, both, vacated, Inv, Rested}
-use Rattle.history.specs.Puts.{Commits, put-commits}
+use Rattle.history.specs.OkLaws.{old-some, ok-perm, ok-again}
+use Rattle.history.specs.LaidRead.{laid-reads}
 use Rattle.history.specs.Vacant.{first-is}
+use Rattle.history.specs.Puts.{Commits, put-commits}
 
 -- ---- the ledger in another order
 
@@ -67,14 +67,9 @@ rested-perm {k} {l} p q =
 head-read : {l : Ledger} {im : Image} {r : Reading} {h : ℕ} → Rested l im r → r .place .head ≡ h → r ≡ reading-from im h
 head-read {l} {im} {r} {h} q e =
     let k : q .h ≡ h = sym (ap (λ (x : Reading). x .place .head) (q .is)) ∙ e in
-    q .is ∙ sym (laid-reads (q .laid) (q .tail) ∙ ap (λ (fs : List Entry). read (length im) (q .h) (q .S) (q .t) fs Ending.Tail) (append-nil (q .es)))
+    q .is ∙ sym (laid-reads (q .laid) (q .tail)
+        ∙ ap (λ (fs : List Entry). read (length im) (q .h) (q .S) (q .t) fs Ending.Tail) (append-nil (q .es)))
         ∙ ap (reading-from im) k
-
-none-left : {xs ys : List File} → List·Permᴰ xs ys → xs ≡ [] → ys ≡ []
-none-left List·Permᴰ·nil e = refl
-none-left (List·Permᴰ·cons p d) e = cc
-none-left (List·Permᴰ·swap p q) e = cc
-none-left (List·Permᴰ·trans d f) e = none-left f (none-left d e)
 
 -- the records: the first dead, and a second
 pub record Dead-first (es : List Entry) : Type 0 where
@@ -87,7 +82,8 @@ pub record Dead-first (es : List Entry) : Type 0 where
 -- a file is there, and not the first record
 dead-first : (x : Entry) (zs : List Entry) (f : File) (l : Ledger) → alive x ≡ false → Matches (x ∷ zs) (f ∷ l) → Dead-first (x ∷ zs)
 dead-first x [] f l d m =
-    absurd (let e : f ∷ l ≡ [] = none-left m (ap (map as-file) (keep-no alive x [] d)) in let z : _≡_ {A = ℕ} 0 1 = cc in omega arith)
+    absurd (let n : length (contents (x ∷ [])) ≡ 0 =
+        ap (λ (es : List Entry). length (map as-file es)) (keep-no alive x [] d) in omega (arith, perm-length m))
 dead-first x (y ∷ zs) f l d m = record { x = x; y = y; rest = zs; is = refl; dead = d }
 
 -- ---- the copy
@@ -151,7 +147,6 @@ module _ {l : Ledger} {im : Image} {r : Reading} (q : Rested l im r) (x : Entry)
       let k : Commits l (with-file n c l) im ss
           (length n + length c + 9 + one-if-fc (some x) + three-if (with-marker (r .place) (size-of (length n) (length c))))
           (r .place .head) = commits in
-      
       subst (Safe (Inv l) im) (sym (k .is))
       (safe-append (Inv l) im (k .before) (k .commit ∷ k .behind) (k .safe-before) (
         safe-end (Inv l) im (k .before) (k .safe-before),

@@ -1,4 +1,4 @@
--- Records with their addresses: one list behind another, and an entry among them.
+-- Records with their addresses: one list behind another, and one entry among them, which may be replaced by a record of its size.
 use Prim.Native.Nat.{ℕ, _+_}
 use native.Mathlib.Omega.{arith}
 use native.Mathlib.Nat.{add-zero, add-assoc}
@@ -6,9 +6,9 @@ use mathlib.Core.Path.{_≡_, refl, sym, ap, ap₂, _∙_, subst}
 use mathlib.Core.List.{List, [], _∷_, _++_}
 use Rattle.spec.specs.Basics.{Each}
 use Rattle.spec.specs.Record.{Rec, Entry}
+use Rattle.history.specs.Lists.{some-behind, cons-first, cons-rest}
 use Rattle.history.specs.Lay.{rsize, sizes, entries-of, Fine, All-fine}
 use Rattle.history.specs.StraightEdit.{sizes-append, fine-append, fine-left, fine-right}
-use Rattle.history.specs.Lists.{some-behind, cons-first, cons-rest}
 
 -- ---- an element of two lists, one behind the other
 

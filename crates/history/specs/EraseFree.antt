@@ -2,7 +2,7 @@
 use Prim.Native.Nat.{ℕ, zero, suc, _+_, _-_, _*_, _/_, _%_, _≤_, _<_}
 use native.Mathlib.Omega.{arith}
 use native.Mathlib.Nat.{zero-add}
-use mathlib.Core.Path.{_≡_, refl, sym, ap, _∙_, subst}
+use mathlib.Core.Path.{_≡_, refl, sym, ap, _∙_, subst, ap₂}
 use mathlib.Core.Bool.{Bool, true, false}
 use mathlib.Core.List.{List, [], _∷_, _++_, append-assoc, map}
 use lib.ListN.{length, take, drop, getD, length-append, length-drop, take-append-drop}
@@ -12,36 +12,34 @@ use borrow.Author.Tests.{leb-true, leb-false}
 use Rattle.spec.specs.declared.Next.{Next}
 use Rattle.spec.specs.Step.{Image, erase, sector, apply}
 use Rattle.spec.specs.Basics.{Each, keep}
-use Rattle.spec.specs.Geometry.{good-length, floor, ceiling, sectors-by, sectors}
+use Rattle.spec.specs.Geometry.{floor, ceiling, sectors-by, sectors}
 use Rattle.spec.specs.Record.{Entry}
 use Rattle.spec.specs.Reading.{limit}
 use Rattle.spec.specs.Mount.{free-sectors, dirty, erase-steps}
-use Rattle.history.specs.Lay.{blanks, lay}
-use Rattle.history.specs.Walk.{Quiet}
-use Rattle.history.specs.Quiet.{quiet-append, quiet-drop, quiet-take, quiet-ff}
-use Rattle.history.specs.Seg.{seg-none, seg-onto}
-use Rattle.history.specs.Erase.{erase-mid, length-sector, sector-is}
-use Rattle.history.specs.Lists.{keep-yes, keep-no, each-map, each-append}
+use Rattle.history.specs.Lists.{each-map, each-append, each-keep}
+use Rattle.history.specs.Blanks.{blanks, take-blanks}
+use Rattle.history.specs.Lay.{lay}
 use Rattle.history.specs.Safe.{Safe}
-use Rattle.history.specs.Laid.{Laid, laid-straight, laid-turned, Hole}
-use Rattle.history.specs.Kinds.{place}
-use Rattle.history.specs.LaidEdit.{laid-below, laid-head, laid-length, hole-of, free-quiet}
-use Rattle.history.specs.Vacant.{laid-eight, take-blanks, good-mod, Vacant, vacant-long}
-use Rattle.history.specs.LaidErase.{erase-length}
-use Rattle.history.specs.StraightErase.{second-ff}
+use Rattle.history.specs.Markless.{markless-append, markless-drop, markless-take, markless-ff, Markless}
+use Rattle.history.specs.Erase.{erase-mid, length-sector, sector-is, erase-length}
+use Rattle.history.specs.Seg.{seg-none, seg-onto}
 use Rattle.history.specs.Turned.{open-ff}
+use Rattle.history.specs.Laid.{Laid, laid-straight, laid-turned, Hole, place}
+use Rattle.history.specs.LaidEdit.{laid-below, laid-head, laid-length, hole-of, free-markless}
+use Rattle.history.specs.Vacant.{laid-eight, Vacant, vacant-long}
+use Rattle.history.specs.StraightErase.{second-ff}
 
 -- ---- one sector of a part without marks
 
-quiet-swap : (j n r : ℕ) (u q w s : List ℕ) → length u ≡ 8 * j → length q ≡ 8 * n → length s ≡ 8 * n → Quiet n s → Quiet (j + (n + r)) (u ++ (q ++ w))
-    → Quiet (j + (n + r)) (u ++ (s ++ w))
-quiet-swap j n r u q w s lu lq ls qs h =
-    let a : Quiet j u = quiet-take j (n + r) u (q ++ w) lu h in
-    let d : Quiet (n + r) (q ++ w) = subst (λ (m : List ℕ). Quiet (n + r) m) (drop-at u (q ++ w) (8 * j) lu) (quiet-drop j (n + r) (u ++ (q ++ w)) h)
-        in
-    
-    let b : Quiet r w = subst (λ (m : List ℕ). Quiet r m) (drop-at q w (8 * n) lq) (quiet-drop n r (q ++ w) d) in
-    quiet-append j (n + r) u (s ++ w) lu a (quiet-append n r s w ls qs b)
+markless-swap : (j n r : ℕ) (u q w s : List ℕ) → length u ≡ 8 * j → length q ≡ 8 * n → length s ≡ 8 * n → Markless n s
+    → Markless (j + (n + r)) (u ++ (q ++ w))
+    → Markless (j + (n + r)) (u ++ (s ++ w))
+markless-swap j n r u q w s lu lq ls qs h =
+    let a : Markless j u = markless-take j (n + r) u (q ++ w) lu h in
+    let d : Markless (n + r) (q ++ w) =
+        subst (λ (m : List ℕ). Markless (n + r) m) (drop-at u (q ++ w) (8 * j) lu) (markless-drop j (n + r) (u ++ (q ++ w)) h) in
+    let b : Markless r w = subst (λ (m : List ℕ). Markless r m) (drop-at q w (8 * n) lq) (markless-drop n r (q ++ w) d) in
+    markless-append j (n + r) u (s ++ w) lu a (markless-append n r s w ls qs b)
 
 -- a list cut where one of its sectors stands
 record Cut (s : List ℕ) (j : ℕ) : Type 0 where
@@ -76,21 +74,22 @@ module _ {s : List ℕ} {j : ℕ} (c : Cut s j) where
           (length-append sector (c .w) ∙ ap (λ (n : ℕ). n + length (c .w)) (length-sector ∙ sym (c .lq)) ∙ sym (length-append (c .q) (c .w)))
       ∙ sym (length-append (c .u) (c .q ++ c .w)) ∙ ap length (sym (c .is))
 
-  blanked-quiet : (f : ℕ) → length s ≡ 8 * f → j % 8 ≡ 0 → Quiet f s → Quiet f blanked
-  blanked-quiet f l z h =
+  blanked-markless : (f : ℕ) → length s ≡ 8 * f → j % 8 ≡ 0 → Markless f s → Markless f blanked
+  blanked-markless f l z h =
       let n : f ≡ j / 8 + (512 + (f - 512 - j / 8)) =
       omega (arith, ap length (c .is), length-append (c .u) (c .q ++ c .w), length-append (c .q) (c .w), c .lu, c .lq) in
-      subst (λ (m : ℕ). Quiet m blanked) (sym n)
-      (quiet-swap (j / 8) 512 (f - 512 - j / 8) (c .u) (c .q) (c .w) sector (omega (arith, c .lu)) (c .lq) length-sector
-          (quiet-ff 512 sector sector-is)
-      (subst (λ (m : ℕ). Quiet m (c .u ++ (c .q ++ c .w))) n (subst (λ (m : List ℕ). Quiet f m) (c .is) h)))
+      subst (λ (m : ℕ). Markless m blanked) (sym n)
+      (markless-swap (j / 8) 512 (f - 512 - j / 8) (c .u) (c .q) (c .w) sector (omega (arith, c .lu)) (c .lq) length-sector
+          (markless-ff 512 sector sector-is)
+      (subst (λ (m : ℕ). Markless m (c .u ++ (c .q ++ c .w))) n (subst (λ (m : List ℕ). Markless f m) (c .is) h)))
 
   -- the erase, in an image where the part stands at address a
   blanked-is : (pre post : List ℕ) (a z : ℕ) → length pre ≡ a → a + j ≡ z → apply (pre ++ (s ++ post)) (erase z) ≡ pre ++ (blanked ++ post)
   blanked-is pre post a z p e =
       ap (λ (l : List ℕ). apply l (erase z))
       (ap (λ (l : List ℕ). pre ++ (l ++ post)) (c .is)
-          ∙ ap (λ (l : List ℕ). pre ++ l) (append-assoc (c .u) (c .q ++ c .w) post ∙ ap (λ (l : List ℕ). c .u ++ l) (append-assoc (c .q) (c .w) post))
+          ∙ ap (λ (l : List ℕ). pre ++ l)
+              (append-assoc (c .u) (c .q ++ c .w) post ∙ ap (λ (l : List ℕ). c .u ++ l) (append-assoc (c .q) (c .w) post))
       ∙ sym (append-assoc pre (c .u) (c .q ++ (c .w ++ post))))
       ∙ erase-mid (pre ++ c .u) (c .q) (c .w ++ post) z (length-append pre (c .u) ∙ omega (arith, c .lu)) (c .lq)
       ∙ append-assoc pre (c .u) (sector ++ (c .w ++ post))
@@ -99,7 +98,7 @@ module _ {s : List ℕ} {j : ℕ} (c : Cut s j) where
 
 -- ---- one erase of a vacant image
 
--- the sectors that repair 1 may erase: those below the head, and those of the run at T, which ends at lim
+-- the sectors that repair 1 may erase: those below the head's, and those behind T up to lim, where the stretch of T ends
 data Erasable (h S lim : ℕ) (t : Bool) (z : ℕ) : Type 0 where
   low-sector : t ≡ false → z % 4096 ≡ 0 → z + 4096 ≤ floor h → Erasable h S lim t z
   high-sector : z % 4096 ≡ 0 → ceiling S ≤ z → z + 4096 ≤ lim → Erasable h S lim t z
@@ -110,9 +109,10 @@ pub record Mid (N h S lim : ℕ) (t : Bool) (es : List Entry) (im : Image) : Typ
   pub vac : Vacant h S t es im
   pub ends : S + length (vac .free) ≡ lim
 
-front-blanked : (u q w lost : List ℕ) (j : ℕ) → length u ≡ j → j % 4096 ≡ 0 → (getD ((u ++ (q ++ w)) ++ lost) 1 0 ≡ 90 → ⊥)
-    → getD ((u ++ (sector ++ w)) ++ lost) 1 0 ≡ 90 → ⊥
-front-blanked [] q w lost j e z f = subst (λ (s : List ℕ). getD ((s ++ w) ++ lost) 1 0 ≡ 90 → ⊥) (sym sector-is) (second-ff 4096 w lost (omega arith))
+front-blanked : (u q w lost : List ℕ) (j : ℕ) → length u ≡ j → j % 4096 ≡ 0 → (getD ((u ++ (q ++ w)) ++ lost) 1 0 ≡ 0x5A → ⊥)
+    → getD ((u ++ (sector ++ w)) ++ lost) 1 0 ≡ 0x5A → ⊥
+front-blanked [] q w lost j e z f =
+    subst (λ (s : List ℕ). getD ((s ++ w) ++ lost) 1 0 ≡ 0x5A → ⊥) (sym sector-is) (second-ff 4096 w lost (omega arith))
 front-blanked (x ∷ []) q w lost j e z f = absurd (omega arith)
 front-blanked (x ∷ y ∷ u) q w lost j e z f = f
 
@@ -125,11 +125,11 @@ low-erase {im} {h} {S} {z} {es} {below} {free} (laid-straight {a} {l} {lost} {x}
       is = ap (λ (i : Image). apply i (erase z)) (s .is) ∙ blanked-is c [] (lost ++ lay (x ∷ ys) (seg-onto seg-none free)) 0 z refl (zero-add z);
       at = s .at;
       gap-length = blanked-length c ∙ s .gap-length;
-      gap-quiet = blanked-quiet c (512 * a) (s .gap-length ∙ omega arith) (omega arith) (s .gap-quiet);
+      gap-markless = blanked-markless c (512 * a) (s .gap-length ∙ omega arith) (omega arith) (s .gap-markless);
       lost-length = s .lost-length;
       lost-small = s .lost-small;
-      lost-quiet = s .lost-quiet;
-      front = front-blanked (c .u) (c .q) (c .w) lost z (c .lu) m (subst (λ (g : List ℕ). getD (g ++ lost) 1 0 ≡ 90 → ⊥) (c .is) (s .front));
+      lost-markless = s .lost-markless;
+      front = front-blanked (c .u) (c .q) (c .w) lost z (c .lu) m (subst (λ (g : List ℕ). getD (g ++ lost) 1 0 ≡ 0x5A → ⊥) (c .is) (s .front));
       fine = s .fine;
     })
     t₁ S₁ e₁ lf qf
@@ -139,15 +139,14 @@ low-erase (laid-turned s t₁ S₁ e₁ b) c m = let n : _≡_ {A = ℕ} 0 1 = c
 own-blanked : (free : List ℕ) (j m : ℕ) (c : Cut free j) → m ≤ 4096 → j ≡ 0 → take m (blanked c) ≡ blanks m
 own-blanked free j m c l z =
     let u₀ : c .u ≡ [] = c .u-is ∙ ap (λ (i : ℕ). take i free) z in
-    ap (λ (u : List ℕ). take m (u ++ (sector ++ c .w))) u₀ ∙ take-append-le m sector (c .w) (omega (arith, length-sector)) ∙ ap (take m) sector-is
-        ∙ take-blanks m 4096 l
+    ap₂ (λ (u s : List ℕ). take m (u ++ (s ++ c .w))) u₀ sector-is ∙ take-blanks m 4096 (c .w) l
 
 own-kept : (free : List ℕ) (j m : ℕ) (c : Cut free j) → take m free ≡ blanks m → m ≤ j → take m (blanked c) ≡ blanks m
 own-kept free j m c e l = take-append-le m (c .u) (sector ++ c .w) (omega (arith, c .lu)) ∙ ap (take m) (c .u-is) ∙ take-take m j free l ∙ e
 
-own-after : (S m z : ℕ) (free : List ℕ) (c : Cut free (z - S)) → S + m ≡ floor S + 4096 → z % 4096 ≡ 0 → ceiling S ≤ z → take m free ≡ blanks m
+own-after : (S m z : ℕ) (free : List ℕ) (c : Cut free (z - S)) → S + m ≡ floor S + 4096 → z % 4096 ≡ 0 → take m free ≡ blanks m
     → take m (blanked c) ≡ blanks m
-own-after S m z free c o y l e = go (leb m (z - S)) refl
+own-after S m z free c o y e = go (leb m (z - S)) refl
   where
     go : (b : Bool) → leb m (z - S) ≡ b → take m (blanked c) ≡ blanks m
     go true p = own-kept free (z - S) m c e (leb-true m (z - S) p)
@@ -180,12 +179,11 @@ mid-erase {N} {h} {S} {lim} {t} {es} {im} {z} d (high-sector m g l) =
     let v : Vacant h S t es im = d .vac in
     let c : Cut (v .free) (z - S) = cut-at (v .free) (z - S) (omega (arith, d .ends)) in
     let k : Hole im h S t es seg-none (v .below) (v .free) = hole-of (v .laid) in
-    let f : (f : ℕ) × (length (v .free) ≡ 8 * f) × Quiet f (v .free) = free-quiet (v .laid) in
+    let f : (f : ℕ) × (length (v .free) ≡ 8 * f) × Markless f (v .free) = free-markless (v .laid) in
     let e : length (blanked c) ≡ length (v .free) = blanked-length c in
-    let own : take (v .m) (blanked c) ≡ blanks (v .m) = own-after S (v .m) z (v .free) c (v .own) m g (v .ff) in
+    let own : take (v .m) (blanked c) ≡ blanks (v .m) = own-after S (v .m) z (v .free) c (v .own) m (v .ff) in
     let i : apply im (erase z) ≡ k .pre ++ (blanked c ++ k .post) = ap (λ (x : Image). apply x (erase z)) (k .is)
         ∙ blanked-is c (k .pre) (k .post) S z (k .at) (omega arith) in
-    
     record {
       len = erase-length im z (omega (arith, laid-length (v .laid), d .ends)) ∙ d .len;
       vac = record {
@@ -193,7 +191,8 @@ mid-erase {N} {h} {S} {lim} {t} {es} {im} {z} d (high-sector m g l) =
         free = blanked c;
         m = v .m;
         laid = subst (λ (x : Image). Laid x h S t es seg-none (v .below) (blanked c)) (sym i)
-            (k .plug seg-none (f .0) (blanked c) Next.Clear (e ∙ f .1) (blanked-quiet c (f .0) (f .1) (omega (arith, laid-eight (v .laid))) (f .2))
+            (k .plug seg-none (f .0) (blanked c) Next.Clear (e ∙ f .1)
+                (blanked-markless c (f .0) (f .1) (omega (arith, laid-eight (v .laid))) (f .2))
             (open-ff (v .m) (drop (v .m) (blanked c)) (blanked c)
                 (sym (take-append-drop (v .m) (blanked c)) ∙ ap (λ (x : List ℕ). x ++ drop (v .m) (blanked c)) own) (vacant-long v))
             (ap (λ (n : ℕ). 0 + n) e));
@@ -220,20 +219,13 @@ sectors-between (suc n) a b = go (leb (a + 4096) b) refl (sectors-between n (a +
             (λ z p. (omega (arith, p .0), p .1, p .2 ∙ omega arith)) i)
     go false e i = rw (sectors-by, e) tt
 
-each-keep : {A : Type 0} (P : A → Type 0) (f : A → Bool) (xs : List A) → Each P xs → Each P (keep f xs)
-each-keep P f [] p = tt
-each-keep P f (x ∷ xs) p = go (f x) refl (each-keep P f xs (p .1))
-  where
-    go : (b : Bool) → f x ≡ b → Each P (keep f xs) → Each P (keep f (x ∷ xs))
-    go true e i = subst (Each P) (sym (keep-yes f x xs e)) (p .0, i)
-    go false e i = subst (Each P) (sym (keep-no f x xs e)) i
-
-free-erasable : (im : Image) (h S : ℕ) (t : Bool) → length im % 4096 ≡ 0
+free-erasable : (im : Image) (h S : ℕ) (t : Bool)
     → Each (Erasable h S (limit (place im h S t)) t) (free-sectors (place im h S t))
 unfolding free-sectors Between
-free-erasable im h S true n =
-    each-map (sectors (ceiling S) (floor h)) (λ z p. high-sector (p .2 ∙ omega arith) (p .0) (p .1)) (sectors-between (floor h) (ceiling S) (floor h))
-free-erasable im h S false n =
+free-erasable im h S true =
+    each-map (sectors (ceiling S) (floor h)) (λ z p. high-sector (p .2 ∙ omega arith) (p .0) (p .1))
+        (sectors-between (floor h) (ceiling S) (floor h))
+free-erasable im h S false =
     each-append (Erasable h S (length im) false) (sectors 0 (floor h)) (sectors (ceiling S) (length im))
     (each-map (sectors 0 (floor h)) (λ z p. low-sector refl (p .2 ∙ omega arith) (p .1)) (sectors-between (floor h) 0 (floor h)))
     (each-map (sectors (ceiling S) (length im)) (λ z p. high-sector (p .2 ∙ omega arith) (p .0) (p .1))
@@ -249,11 +241,11 @@ mid-safe {N} {h} {S} {lim} {t} {es} (z ∷ zs) im e d = (d, sound (e .0), mid-sa
     sound (high-sector m g l) = (m, omega (arith, laid-length (d .vac .laid), d .ends))
 
 -- erases in the free run, cut anywhere
-pub erase-safe : {im : Image} {h S : ℕ} {t : Bool} {es : List Entry} → good-length (length im) ≡ true
+pub erase-safe : {im : Image} {h S : ℕ} {t : Bool} {es : List Entry}
     → Mid (length im) h S (limit (place im h S t)) t es im →
     Safe (Mid (length im) h S (limit (place im h S t)) t es) im (erase-steps im (place im h S t))
 unfolding erase-steps
-erase-safe {im} {h} {S} {t} g d =
+erase-safe {im} {h} {S} {t} d =
     mid-safe (keep (dirty im) (free-sectors (place im h S t))) im
-    (each-keep (Erasable h S (limit (place im h S t)) t) (dirty im) (free-sectors (place im h S t)) (free-erasable im h S t (good-mod (length im) g)))
-        d
+    (each-keep (Erasable h S (limit (place im h S t)) t) (dirty im) (free-sectors (place im h S t))
+        (each-map (free-sectors (place im h S t)) (λ z e k. e) (free-erasable im h S t))) d

@@ -1,13 +1,13 @@
--- A finished format leaves a quiet image with no files.
+-- A finished format leaves a quiet image with no files: the start of every history.
 use Prim.Native.Nat.{ℕ, _+_, _-_, _*_, _/_, _%_, _≤_}
 use native.Mathlib.Omega.{arith}
 use mathlib.Core.Path.{_≡_, refl, sym, ap, ap₂, _∙_, subst}
-use mathlib.Core.Bool.{Bool, true, false, _&&_}
+use mathlib.Core.Bool.{Bool, true, false}
 use mathlib.Core.List.{List, [], _∷_, _++_, append-nil, map, List·Permᴰ·nil}
 use lib.ListN.{length, drop, length-replicate}
 use lib.Seq.{drop-length}
-use lib.Dec.{eqb, leb}
-use borrow.Author.Tests.{eqb-true, leb-true, leb-false}
+use lib.Dec.{leb}
+use borrow.Author.Tests.{leb-true, leb-false}
 use Rattle.spec.specs.Step.{Image, erase, run}
 use Rattle.spec.specs.Basics.{Answer, refuse, give, checked}
 use Rattle.spec.specs.Geometry.{good-length, sectors}
@@ -15,17 +15,17 @@ use Rattle.spec.specs.Record.{Rec, Entry}
 use Rattle.spec.specs.Files.{named}
 use Rattle.spec.specs.Write.{first-steps, format-steps}
 use Rattle.spec.specs.Answers.{Plan, Outcome, doing, carry-out, format-plan, format}
-use Rattle.history.specs.Lay.{blanks, onto, lay, length-lay, low-start, st-00}
-use Rattle.history.specs.Quiet.{blank-split, quiet-blanks}
-use Rattle.history.specs.Seg.{seg-none}
+use Rattle.history.specs.Blanks.{blanks, blank-split}
+use Rattle.history.specs.Store.{alive}
+use Rattle.history.specs.Lay.{onto, lay, length-lay, low-start, st-00}
 use Rattle.history.specs.Steps.{run-append}
-use Rattle.history.specs.Erase.{erase-run, sectors-are}
+use Rattle.history.specs.Markless.{markless-blanks}
+use Rattle.history.specs.Erase.{erase-run, sectors-are, good-is}
+use Rattle.history.specs.Seg.{seg-none}
 use Rattle.history.specs.Straight.{Straight}
 use Rattle.history.specs.Laid.{laid-straight, tail-clear}
-use Rattle.history.specs.Lists.{and-left, and-right}
-use Rattle.history.specs.Store.{alive}
 use Rattle.history.specs.Kinds.{Ok, quiet, Inv}
-use Rattle.history.specs.Top.{carried-done, carried-cut}
+use Rattle.history.specs.Induction.{carried-done, carried-cut}
 
 -- ---- the bytes
 
@@ -52,7 +52,7 @@ format-run raw k f e g =
 
 -- ---- the image
 
-no-front : _≡_ {A = ℕ} 0 90 → ⊥
+no-front : _≡_ {A = ℕ} 0 0x5A → ⊥
 no-front e = omega arith
 
 fresh-straight : (f : ℕ) → Straight (fresh f) 0 0 [] [] 0 (first ∷ []) seg-none (blanks (8 * f))
@@ -61,12 +61,12 @@ fresh-straight f =
       is = refl;
       at = refl;
       gap-length = refl;
-      gap-quiet = tt;
+      gap-markless = tt;
       lost-length = refl;
       lost-small = omega arith;
-      lost-quiet = tt;
+      lost-markless = tt;
       front = no-front;
-      fine = (record { low-ok = low-start; status-ok = st-00; fit = record { short = omega arith; plain = tt; small = omega arith } }, tt);
+      fine = (record { low-ok = low-start; status-ok = st-00; fit = record { short = omega arith; printable = tt; small = omega arith } }, tt);
     }
 
 abbrev head : Entry
@@ -89,24 +89,18 @@ fresh-ok =
 fresh-inv : (f : ℕ) → 1 ≤ f → good-length (16 + 8 * f) ≡ true → Inv [] (fresh f)
 fresh-inv f one g =
     record {
-      good = ap good-length (length-lay (first ∷ []) (blanks (8 * f)) ∙ ap (λ (n : ℕ). 16 + n) (length-replicate {A = ℕ} (8 * f) 255)) ∙ g;
+      good = ap good-length (length-lay (first ∷ []) (blanks (8 * f)) ∙ ap (λ (n : ℕ). 16 + n) (length-replicate {A = ℕ} (8 * f) 0xFF)) ∙ g;
       kind =
-          quiet 0 (8 * f) (laid-straight f (fresh-straight f) refl refl refl (length-replicate {A = ℕ} (8 * f) 255) (quiet-blanks f))
+          quiet 0 (8 * f) (laid-straight f (fresh-straight f) refl refl refl (length-replicate {A = ℕ} (8 * f) 0xFF) (markless-blanks f))
           (tail-clear (blanks (8 * f - 8)) (blank-split 8 (8 * f - 8) (8 * f) (omega arith)) refl refl) (refl, tt) fresh-ok;
     }
 
 -- ---- the call
 
-good-parts : (N : ℕ) → good-length N ≡ true → (N % 4096 ≡ 0) × (8192 ≤ N)
-unfolding good-length
-good-parts N g =
-    let a : (eqb (N % 4096) 0 && leb 8192 N) ≡ true = and-left (eqb (N % 4096) 0 && leb 8192 N) (leb N 16777216) g in
-    (eqb-true (N % 4096) 0 (and-left (eqb (N % 4096) 0) (leb 8192 N) a), leb-true 8192 N (and-right (eqb (N % 4096) 0) (leb 8192 N) a))
-
 whole-inv : (raw : Image) → good-length (length raw) ≡ true → Inv [] (run raw (format-steps (length raw)))
 whole-inv raw g =
     let N : ℕ = length raw in
-    let p : (N % 4096 ≡ 0) × (8192 ≤ N) = good-parts (length raw) g in
+    let p : (N % 4096 ≡ 0) × (8192 ≤ N) × (N ≤ 16777216) = good-is (length raw) g in
     let f : ℕ = (length raw - 16) / 8 in
     let e : length raw ≡ 4096 * (length raw / 4096) = omega (arith, p .0) in
     let h : length raw ≡ 16 + 8 * f = omega (arith, p .0, p .1) in

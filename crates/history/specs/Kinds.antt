@@ -10,12 +10,15 @@
 --   vacated   the head is Y, CLEAN; sectors of X are erased or still hold remains without a mark. Mount erases them and makes Y START.
 -- In each kind the live files are those of the ledger. A step of any call leads from one of these images to another with the same files, but for
 -- a put's commit and a remove's one step, which change the files as the ledger does. And each of them is read, judged legal and mended.
+--
+-- In the definitions: im is the image and l the ledger; h is the head, and t whether the records have turned; T and u are the tail and the turn
+-- as document 01 reads them (Tail says when they differ from S and t); seg is what is unfinished at S; B bytes of FF stand below the head's
+-- sector before the turn, and F behind S.
 use Prim.Native.Nat.{ℕ, _*_, _≤_, _<_}
 use mathlib.Core.Path.{_≡_}
 use mathlib.Core.Bool.{Bool, true, false}
 use mathlib.Core.List.{List, [], _∷_, _++_}
 use lib.ListN.{length}
-use Rattle.spec.specs.declared.Place.{Place}
 use Rattle.spec.specs.Step.{Image}
 use Rattle.spec.specs.Basics.{Each}
 use Rattle.spec.specs.Geometry.{good-length, floor}
@@ -24,17 +27,18 @@ use Rattle.spec.specs.declared.Ending.{Ending}
 use Rattle.spec.specs.Chain.{Reading, read}
 use Rattle.spec.specs.Reading.{tail-blank}
 use Rattle.spec.specs.History.{Ledger}
-use Rattle.history.specs.Lay.{blanks, entries-of}
+use Rattle.history.specs.Blanks.{blanks}
+use Rattle.history.specs.Store.{alive, Unique, Well-named, Unmarked}
+use Rattle.history.specs.Ledger.{Matches}
+use Rattle.history.specs.Shadow.{Shadowed}
+use Rattle.history.specs.Lay.{entries-of}
 use Rattle.history.specs.Last.{Begun, torn-wrap}
+use Rattle.history.specs.Markless.{Cleaned}
 use Rattle.history.specs.Seg.{Seg, seg-none}
 use Rattle.history.specs.Straight.{Straight}
-use Rattle.history.specs.StraightErase.{Cleaned}
-use Rattle.history.specs.Laid.{Laid, Tail}
-use Rattle.history.specs.Store.{alive, Unique, Well-named, Unmarked}
-use Rattle.history.specs.Shadow.{Shadowed}
-use Rattle.history.specs.Ledger.{Matches}
+use Rattle.history.specs.Laid.{Laid, Tail, place}
 
--- each is a byte
+-- each of them is a byte
 abbrev pub Bytes : List ℕ → Type 0
 Bytes c = Each (λ b. b < 256) c
 
@@ -54,42 +58,48 @@ abbrev pub Starts : List Entry → Type 0
 Starts [] = ⊥
 Starts (x ∷ es) = (x .it .low ≡ 0) × Each Unmarked es
 
--- head, tail, turn and length as a place
-abbrev pub place : Image → ℕ → ℕ → Bool → Place
-place im h T t = record { head = h; tail = T; turned = t; length = length im }
-
 -- the six kinds
 pub data Kind (im : Image) (l : Ledger) : Type 0 where
+  -- seg may be nothing; else it is document 01's torn or reserved record
   quiet :
-      {h S T : ℕ} (B F : ℕ) {t u : Bool} {es : List Entry} {seg : Seg} → Laid im h S t es seg (blanks B) (blanks F)
-          → Tail h S t seg (blanks B) (blanks F) T u →
+      {h S T : ℕ} (B F : ℕ) {t u : Bool} {es : List Entry} {seg : Seg} →
+      Laid im h S t es seg (blanks B) (blanks F) → Tail h S t seg (blanks B) (blanks F) T u →
       Starts es → Ok es l → Kind im l
+  -- document 01's torn wrap, with c its second byte; a sectors stand below the head's
   half :
-      (a m c k : ℕ) {h : ℕ} {lost : List ℕ} {x : Rec} {ys : List Rec} → Straight im a m (blanks (4096 * a)) lost h (x ∷ ys) seg-none (torn-wrap c k)
-          → Begun c → 1 ≤ a →
+      (a m c k : ℕ) {h : ℕ} {lost : List ℕ} {x : Rec} {ys : List Rec} →
+      Straight im a m (blanks (4096 * a)) lost h (x ∷ ys) seg-none (torn-wrap c k) → Begun c → 1 ≤ a →
       Starts (entries-of h (x ∷ ys)) → Ok (entries-of h (x ∷ ys)) l → Kind im l
+  -- o is the F8 record; the files are those of the others
   shadow :
-      {h S T : ℕ} (B F : ℕ) {t u : Bool} (xs ys : List Entry) (o : Entry) → Laid im h S t (xs ++ (o ∷ ys)) seg-none (blanks B) (blanks F) →
-      Tail h S t seg-none (blanks B) (blanks F) T u → Starts (xs ++ (o ∷ ys)) → Shadowed xs ys o → Ok (xs ++ ys) l → Kind im l
+      {h S T : ℕ} (B F : ℕ) {t u : Bool} (xs ys : List Entry) (o : Entry) →
+      Laid im h S t (xs ++ (o ∷ ys)) seg-none (blanks B) (blanks F) → Tail h S t seg-none (blanks B) (blanks F) T u →
+      Starts (xs ++ (o ∷ ys)) → Shadowed xs ys o → Ok (xs ++ ys) l → Kind im l
+  -- x is X and y is Y; X's data is anything
   clean :
-      {h S T : ℕ} (B F : ℕ) {t u : Bool} {x y : Entry} {es : List Entry} → Laid im h S t (x ∷ y ∷ es) seg-none (blanks B) (blanks F) →
-      Tail h S t seg-none (blanks B) (blanks F) T u → x .it .low ≡ 0 → alive x ≡ false → y .it .low ≡ 160 → Each Unmarked es → Ok (x ∷ y ∷ es) l
-          → Kind im l
-  both :
-      {h S T : ℕ} (B F : ℕ) {t u : Bool} {x y : Entry} {es : List Entry} → Laid im h S t (x ∷ y ∷ es) seg-none (blanks B) (blanks F) →
-      Tail h S t seg-none (blanks B) (blanks F) T u → x .it .low ≡ 0 → alive x ≡ false → Cleaned (x .it) → y .it .low ≡ 0 → floor (y .at) ≡ floor h
-          → Each Unmarked es →
+      {h S T : ℕ} (B F : ℕ) {t u : Bool} {x y : Entry} {es : List Entry} →
+      Laid im h S t (x ∷ y ∷ es) seg-none (blanks B) (blanks F) → Tail h S t seg-none (blanks B) (blanks F) T u →
+      x .it .low ≡ 0x00 → alive x ≡ false → y .it .low ≡ 0xA0 → Each Unmarked es →
       Ok (x ∷ y ∷ es) l → Kind im l
+  -- X's data has no mark, and Y stands in X's sector
+  both :
+      {h S T : ℕ} (B F : ℕ) {t u : Bool} {x y : Entry} {es : List Entry} →
+      Laid im h S t (x ∷ y ∷ es) seg-none (blanks B) (blanks F) → Tail h S t seg-none (blanks B) (blanks F) T u →
+      x .it .low ≡ 0x00 → alive x ≡ false → Cleaned (x .it) → y .it .low ≡ 0x00 → floor (y .at) ≡ floor h → Each Unmarked es →
+      Ok (x ∷ y ∷ es) l → Kind im l
+  -- x is Y, the head now; the free run need not be FF, but has no mark (Laid), and T's own sector is FF
   vacated :
-      {h S T : ℕ} {t u : Bool} {x : Entry} {es : List Entry} {below free : List ℕ} → Laid im h S t (x ∷ es) seg-none below free →
-      Tail h S t seg-none below free T u → tail-blank im (place im h T u) ≡ true → x .it .low ≡ 160 → Each Unmarked es → Ok (x ∷ es) l → Kind im l
+      {h S T : ℕ} {t u : Bool} {x : Entry} {es : List Entry} {below free : List ℕ} →
+      Laid im h S t (x ∷ es) seg-none below free → Tail h S t seg-none below free T u → tail-blank im (place im h T u) ≡ true →
+      x .it .low ≡ 0xA0 → Each Unmarked es →
+      Ok (x ∷ es) l → Kind im l
 
--- the invariant
+-- the invariant: a good length, and one of the kinds
 pub record Inv (l : Ledger) (im : Image) : Type 0 where
   pub good : good-length (length im) ≡ true
   pub kind : Kind im l
 
--- A quiet image with nothing at S, and what is read of it: the images between two calls that are not cut.
+-- A quiet image with nothing at S, and r, what is read of it: the image between two calls that were not cut, document 01's settled image.
 pub record Rested (l : Ledger) (im : Image) (r : Reading) : Type 0 where
   pub good : good-length (length im) ≡ true
   pub h : ℕ

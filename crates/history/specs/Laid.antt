@@ -1,5 +1,8 @@
--- Where the bytes of an image are, whether its chain has turned or not: the one description that every kind of image goes by.
+-- Where the bytes of an image are, whether its chain has turned or not (Laid): the one description that every kind of image goes by.
+-- What may be replaced in it (Hole, Inside), and what tail is read of it (Tail).
 use Prim.Native.Nat.{ℕ, _+_, _*_, _≤_, _-_}
+use native.Mathlib.Omega.{arith}
+use native.Mathlib.Nat.{add-zero}
 use mathlib.Core.Path.{_≡_, refl, sym}
 use mathlib.Core.Bool.{Bool, true, false}
 use mathlib.Core.List.{List, [], _∷_, _++_}
@@ -8,24 +11,29 @@ use Rattle.spec.specs.declared.Next.{Next}
 use Rattle.spec.specs.Step.{Image}
 use Rattle.spec.specs.Geometry.{floor}
 use Rattle.spec.specs.Record.{Rec, Entry}
-use native.Mathlib.Omega.{arith}
-use native.Mathlib.Nat.{add-zero}
-use Rattle.history.specs.Lay.{blanks, onto, rsize, sizes, entries-of, Fine}
-use Rattle.history.specs.Walk.{Quiet}
+use Rattle.spec.specs.declared.Place.{Place}
+use Rattle.history.specs.Blanks.{blanks, blank-split}
+use Rattle.history.specs.Lay.{onto, rsize, sizes, entries-of, Fine}
+use Rattle.history.specs.Markless.{Markless}
 use Rattle.history.specs.Seg.{Seg, seg-none, seg-onto, seg-size}
 use Rattle.history.specs.Straight.{Straight}
 use Rattle.history.specs.Turned.{Turned, End, Opens}
-use Rattle.history.specs.Quiet.{blank-split}
+
+-- head, tail, turn and length as a place
+abbrev pub place : Image → ℕ → ℕ → Bool → Place
+place im h T t = record { head = h; tail = T; turned = t; length = length im }
 
 -- An image with head h. es are its finished records in chain order; the next thing stands at S: seg, what is unfinished there, and behind it
--- free, up to N before the turn (t false) and up to floor(h) after it. below are the bytes of [0, floor(h)) before the turn.
+-- free, up to N before the turn (t false) and up to floor(h) after it. below are the bytes of [0, floor(h)) before the turn. So below and free
+-- are document 01's free run.
 pub data Laid (im : Image) (h S : ℕ) (t : Bool) (es : List Entry) (seg : Seg) (below free : List ℕ) : Type 0 where
   laid-straight :
       {a l : ℕ} {lost : List ℕ} {x : Rec} {ys : List Rec} (f : ℕ) → Straight im a l below lost h (x ∷ ys) seg free → t ≡ false
           → S ≡ h + sizes (x ∷ ys) →
-      es ≡ entries-of h (x ∷ ys) → length free ≡ 8 * f → Quiet f free → Laid im h S t es seg below free
+      es ≡ entries-of h (x ∷ ys) → length free ≡ 8 * f → Markless f free → Laid im h S t es seg below free
   laid-turned :
-      {a l f : ℕ} {lost : List ℕ} {low : List Rec} {x : Rec} {ys : List Rec} {end : End} → Turned im a l lost h low seg f free (x ∷ ys) end → t ≡ true
+      {a l f : ℕ} {lost : List ℕ} {low : List Rec} {x : Rec} {ys : List Rec} {end : End} → Turned im a l lost h low seg f free (x ∷ ys) end
+          → t ≡ true
           → S ≡ sizes low →
       es ≡ entries-of h (x ∷ ys) ++ entries-of 0 low → below ≡ [] → Laid im h S t es seg below free
 
@@ -38,11 +46,11 @@ pub record Hole (im : Image) (h S : ℕ) (t : Bool) (es : List Entry) (seg : Seg
   pub is : im ≡ pre ++ seg-onto seg (free ++ post)
   pub at : length pre ≡ S
   pub plug :
-      (g : Seg) (f : ℕ) (new : List ℕ) (x : Next) → length new ≡ 8 * f → Quiet f new → Opens new x
+      (g : Seg) (f : ℕ) (new : List ℕ) (x : Next) → length new ≡ 8 * f → Markless f new → Opens new x
           → seg-size g + length new ≡ seg-size seg + length free →
       Laid (pre ++ seg-onto g (new ++ post)) h S t es g below new
   pub grow :
-      (r : Rec) (f : ℕ) (new : List ℕ) (x : Next) → Fine r → r .low ≡ 165 → length new ≡ 8 * f → Quiet f new → Opens new x
+      (r : Rec) (f : ℕ) (new : List ℕ) (x : Next) → Fine r → r .low ≡ 0xA5 → length new ≡ 8 * f → Markless f new → Opens new x
           → rsize r + length new ≡ seg-size seg + length free →
       Laid (pre ++ onto r (new ++ post)) h (S + rsize r) t (es ++ (record { at = S; it = r } ∷ [])) seg-none below new
 
@@ -52,7 +60,7 @@ pub record Hole (im : Image) (h S : ℕ) (t : Bool) (es : List Entry) (seg : Seg
 pub data Lowered (h : ℕ) (e : Entry) (b : ℕ) : Type 0 where
   low-same : b ≡ e .it .low → Lowered h e b
   low-high : h ≤ e .at → Lowered h e b
-  low-zero : e .at ≡ 0 → b ≡ 160 → Lowered h e b
+  low-zero : e .at ≡ 0 → b ≡ 0xA0 → Lowered h e b
 
 -- A record e among the others may be replaced by one of the same size.
 pub record Inside (im : Image) (h S : ℕ) (t : Bool) (xs : List Entry) (e : Entry) (ys : List Entry) (seg : Seg) (below free : List ℕ) : Type 0 where

@@ -1,4 +1,4 @@
--- Step (c) of a move, cut anywhere: X's data keeps its place and length, and at the end X has no mark behind its first word.
+-- Step (c) of a move on a laid image, cut anywhere: X's data keeps its place and length, and at the end X has no mark behind its first word.
 use Prim.Native.Nat.{ℕ, zero, suc, _+_, _-_, _/_, _≤_, _<_}
 use native.Mathlib.Omega.{arith}
 use native.Mathlib.Nat.{suc-add}
@@ -15,20 +15,19 @@ use Rattle.spec.specs.Record.{Rec, Entry, name-of, content-of, size-of, data-at
 use Rattle.spec.specs.Files.{named}
 use Rattle.spec.specs.Move.{mark-here, mark-steps, clean-steps}
 use Rattle.spec.specs.History.{Ledger}
-use Rattle.history.specs.Lay.{blanks, pad, lens, body, onto, rsize, Plain}
-use Rattle.history.specs.Walk.{Quiet}
-use Rattle.history.specs.Quiet.{quiet-body}
-use Rattle.history.specs.Seg.{Seg, seg-none}
-use Rattle.history.specs.Steps.{set-past}
-use Rattle.history.specs.Clean.{Clean-now, clean-done, mark-long}
-use Rattle.history.specs.StraightErase.{Cleaned}
-use Rattle.history.specs.Safe.{Safe, safe-map, safe-end}
+use Rattle.history.specs.Blanks.{blanks}
 use Rattle.history.specs.Store.{alive, Unmarked}
-use Rattle.history.specs.Laid.{Laid, Inside, Tail, low-same}
-use Rattle.history.specs.Kinds.{Ok, clean, Inv}
-use Rattle.history.specs.LaidEdit.{inside-of}
-use Rattle.history.specs.OkLaws.{ok-dead}
+use Rattle.history.specs.Lay.{pad, lens, body, onto, rsize, Printable}
+use Rattle.history.specs.Steps.{set-past}
+use Rattle.history.specs.Safe.{Safe, safe-map, safe-end}
+use Rattle.history.specs.Markless.{markless-body, Markless, Cleaned}
+use Rattle.history.specs.Seg.{Seg, seg-none}
 use Rattle.history.specs.StraightEdit.{recontent}
+use Rattle.history.specs.Laid.{Laid, Inside, Tail, low-same}
+use Rattle.history.specs.LaidEdit.{inside-of}
+use Rattle.history.specs.Kinds.{Ok, clean, Inv}
+use Rattle.history.specs.OkLaws.{ok-dead}
+use Rattle.history.specs.Clean.{Clean-now, clean-done, mark-long}
 
 -- ---- the steps: each programs 00 in the data, d bytes from a on
 
@@ -102,8 +101,8 @@ mid-length P Q u v e =
 mark-pad : (s : List ℕ) (p : ℕ) → mark-here s ≡ false → mark-here (s ++ blanks p) ≡ false
 unfolding is-high
 mark-pad [] zero e = e
-mark-pad [] (suc zero) e = and-false (is-start 255 || is-clean 255 || is-record 255)
-mark-pad [] (suc (suc p)) e = and-false (is-start 255 || is-clean 255 || is-record 255)
+mark-pad [] (suc zero) e = and-false (is-start 0xFF || is-clean 0xFF || is-record 0xFF)
+mark-pad [] (suc (suc p)) e = and-false (is-start 0xFF || is-clean 0xFF || is-record 0xFF)
 mark-pad (x ∷ []) zero e = e
 mark-pad (x ∷ []) (suc p) e = and-false (is-start x || is-clean x || is-record x)
 mark-pad (x ∷ y ∷ s) p e = e
@@ -116,32 +115,34 @@ drop-pad (suc n) [] (suc p) =
     (r .0, r .1 ∙ ap (λ (l : List ℕ). l ++ blanks (r .0)) (drop-nil n))
 drop-pad (suc n) (x ∷ s) p = drop-pad n s p
 
-quiet-pad : (k : ℕ) (s : List ℕ) (p : ℕ) → Quiet k s → Quiet k (s ++ blanks p)
-quiet-pad zero s p q = tt
-quiet-pad (suc k) s p q =
+markless-pad : (k : ℕ) (s : List ℕ) (p : ℕ) → Markless k s → Markless k (s ++ blanks p)
+markless-pad zero s p q = tt
+markless-pad (suc k) s p q =
     let r : (j : ℕ) × (drop 8 (s ++ blanks p) ≡ drop 8 s ++ blanks j) = drop-pad 8 s p in
-    (mark-pad s p (q .0), subst (λ (l : List ℕ). Quiet k l) (sym (r .1)) (quiet-pad k (drop 8 s) (r .0) (q .1)))
+    (mark-pad s p (q .0), subst (λ (l : List ℕ). Markless k l) (sym (r .1)) (markless-pad k (drop 8 s) (r .0) (q .1)))
 
-quiet-fewer : (j k : ℕ) (s : List ℕ) → Quiet (j + k) s → Quiet j s
-quiet-fewer zero k s q = tt
-quiet-fewer (suc j) k s q =
-    let r : Quiet (suc (j + k)) s = subst (λ (n : ℕ). Quiet n s) (suc-add j k) q in
-    (r .0, quiet-fewer j k (drop 8 s) (r .1))
+markless-fewer : (j k : ℕ) (s : List ℕ) → Markless (j + k) s → Markless j s
+markless-fewer zero k s q = tt
+markless-fewer (suc j) k s q =
+    let r : Markless (suc (j + k)) s = subst (λ (n : ℕ). Markless n s) (suc-add j k) q in
+    (r .0, markless-fewer j k (drop 8 s) (r .1))
 
-cleaned-by : (x : Rec) → Plain (x .name) → Quiet (length (x .content)) (x .content) → Cleaned x
+cleaned-by : (x : Rec) → Printable (x .name) → Markless (length (x .content)) (x .content) → Cleaned x
 cleaned-by x p q =
     let d : ℕ = length (x .content) in
     let n : d ≡ up8 d / 8 + (d - up8 d / 8) = omega arith in
-    let r : Quiet (up8 d / 8) (x .content) = quiet-fewer (up8 d / 8) (d - up8 d / 8) (x .content) (subst (λ (m : ℕ). Quiet m (x .content)) n q) in
+    let r : Markless (up8 d / 8) (x .content) =
+        markless-fewer (up8 d / 8) (d - up8 d / 8) (x .content) (subst (λ (m : ℕ). Markless m (x .content)) n q) in
     let w : up8 (length (x .name) + 1) / 8 + up8 d / 8 ≡ rsize x / 8 - 1 = omega arith in
-    subst (λ (m : ℕ). Quiet m (body (x .name) (x .content) [])) w
-    (quiet-body (x .name) (x .content) p
-    (subst (λ (s : List ℕ). Quiet (up8 d / 8) (x .content ++ s)) (sym (append-nil (blanks (pad d)))) (quiet-pad (up8 d / 8) (x .content) (pad d) r)))
+    subst (λ (m : ℕ). Markless m (body (x .name) (x .content) [])) w
+    (markless-body (x .name) (x .content) p
+    (subst (λ (s : List ℕ). Markless (up8 d / 8) (x .content ++ s)) (sym (append-nil (blanks (pad d))))
+        (markless-pad (up8 d / 8) (x .content) (pad d) r)))
 
 -- ---- a record up to its data
 
 data-front : Rec → ℕ → List ℕ
-data-front x d = x .low ∷ 90 ∷ x .status ∷ 255 ∷ lens d (x .name ++ (0 ∷ blanks (pad (length (x .name) + 1))))
+data-front x d = x .low ∷ 0x5A ∷ x .status ∷ 0xFF ∷ lens d (x .name ++ (0 ∷ blanks (pad (length (x .name) + 1))))
 
 front-length : (x : Rec) (d : ℕ) → length (data-front x d) ≡ 8 + up8 (length (x .name) + 1)
 unfolding data-front
@@ -195,7 +196,7 @@ module _ {im : Image} {h S : ℕ} {t : Bool} {x : Entry} {ys : List Entry} {seg 
       (record {
         low-ok = I .fine .low-ok;
         status-ok = I .fine .status-ok;
-        fit = record { short = I .fine .fit .short; plain = I .fine .fit .plain; small = rw (c .sized) (I .fine .fit .small) };
+        fit = record { short = I .fine .fit .short; printable = I .fine .fit .printable; small = rw (c .sized) (I .fine .fit .small) };
       }) (low-same refl))
 
   resized : (i : Image) → Data P Q d i → length i ≡ length im
@@ -212,12 +213,13 @@ module _ {im : Image} {h S : ℕ} {t : Bool} {x : Entry} {ys : List Entry} {seg 
       subst (λ (i : Image). Clean-now d P (content-of x) Q (run i steps)) (sym start)
           (clean-done d (data-at x) P (content-of x) Q P-length (omega arith)) in
       let same : done .now ≡ c .now = same-mid P Q (done .now) (c .now) (sym (done .is) ∙ c .is) (done .same-length ∙ sym (c .sized)) in
-      cleaned-by (recontent (c .now) (x .it)) (I .fine .fit .plain) (subst₂ (λ (n : ℕ) (s : List ℕ). Quiet n s) (sym (c .sized)) same (done .quiet))
+      cleaned-by (recontent (c .now) (x .it)) (I .fine .fit .printable)
+          (subst₂ (λ (n : ℕ) (s : List ℕ). Markless n s) (sym (c .sized)) same (done .markless))
 
 -- ---- step (c) on a laid image
 
 -- what (c) leaves, cut anywhere and at the end
-pub record Swept (l : Ledger) (im : Image) (ss : List Step) (h S B F : ℕ) (t : Bool) (x y : Entry) (es : List Entry) : Type 0 where
+pub record Cleans (l : Ledger) (im : Image) (ss : List Step) (h S B F : ℕ) (t : Bool) (x y : Entry) (es : List Entry) : Type 0 where
   pub safe : Safe (Inv l) im ss
   pub same : length (run im ss) ≡ length im
   pub now : List ℕ
@@ -227,18 +229,18 @@ pub record Swept (l : Ledger) (im : Image) (ss : List Step) (h S B F : ℕ) (t :
   pub ok : Ok (anew x now ∷ y ∷ es) l
 
 -- step (c) on a laid image
-pub sweep-data :
+pub clean-data :
     {l : Ledger} {im : Image} {h S : ℕ} (B F : ℕ) {t : Bool} {x y : Entry} {es : List Entry} → good-length (length im) ≡ true →
     Laid im h S t (x ∷ y ∷ es) seg-none (blanks B) (blanks F) → Tail h S t seg-none (blanks B) (blanks F) S t → x .it .low ≡ 0 → alive x ≡ false
-        → y .it .low ≡ 160 → Each Unmarked es →
-    Ok (x ∷ y ∷ es) l → Swept l im (clean-steps (length (content-of x)) (data-at x) (content-of x)) h S B F t x y es
-sweep-data {l} {im} {h} {S} B F {t} {x} {y} {es} g ld tl lx dead ly un ok = go (inside-of ld [] (y ∷ es) x refl)
+        → y .it .low ≡ 0xA0 → Each Unmarked es →
+    Ok (x ∷ y ∷ es) l → Cleans l im (clean-steps (length (content-of x)) (data-at x) (content-of x)) h S B F t x y es
+clean-data {l} {im} {h} {S} B F {t} {x} {y} {es} g ld tl lx dead ly un ok = go (inside-of ld [] (y ∷ es) x refl)
   where
     oks : (c : List ℕ) → Ok (anew x c ∷ y ∷ es) l
-    oks c = ok-dead [] (y ∷ es) x (anew x c) l ok dead (anew-alive x c ∙ dead)
+    oks c = ok-dead [] (y ∷ es) x l ok (anew x c) dead (anew-alive x c ∙ dead)
 
     go : Inside im h S t [] x (y ∷ es) seg-none (blanks B) (blanks F)
-        → Swept l im (clean-steps (length (content-of x)) (data-at x) (content-of x)) h S B F t x y es
+        → Cleans l im (clean-steps (length (content-of x)) (data-at x) (content-of x)) h S B F t x y es
     go I =
         let all : Safe (Data (P I) (Q I) (d I)) im (steps I) = all-zeros I in
         let c : Data (P I) (Q I) (d I) (run im (steps I)) = safe-end (Data (P I) (Q I) (d I)) im (steps I) all in

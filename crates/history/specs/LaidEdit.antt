@@ -1,4 +1,4 @@
--- Steps on a laid image: what stands at S is replaced, one record is replaced by another of its size, the chain turns.
+-- Any laid image, turned or not: its measures, what stands at S replaced, one byte of a record set, the chain turned.
 use Prim.Native.Nat.{ℕ, _+_, _*_, _≤_}
 use native.Mathlib.Omega.{arith}
 use native.Mathlib.Nat.{add-zero}
@@ -13,26 +13,27 @@ use Rattle.spec.specs.Geometry.{floor}
 use Rattle.spec.specs.Record.{Rec, Entry}
 use Rattle.spec.specs.Reading.{limit}
 use Rattle.spec.specs.Write.{marker-steps}
-use Rattle.history.specs.Lay.{blanks, onto, rsize, sizes, entries-of, length-lay, Fine, Low, Stat}
-use Rattle.history.specs.Seg.{Seg, seg-none, seg-size}
+use Rattle.history.specs.Lists.{not-both}
+use Rattle.history.specs.Blanks.{blanks}
+use Rattle.history.specs.Lay.{onto, rsize, sizes, entries-of, length-lay, Fine, Low, Stat}
 use Rattle.history.specs.Steps.{set-past}
+use Rattle.history.specs.Markless.{Markless}
+use Rattle.history.specs.Seg.{Seg, seg-none, seg-size}
 use Rattle.history.specs.Straight.{bottom}
 use Rattle.history.specs.StraightEdit.{restatus, relow, straight-length}
+use Rattle.history.specs.Turned.{opens-blanks}
 use Rattle.history.specs.Marker.{turned-by, turned-exact}
+use Rattle.history.specs.Laid.{Laid, laid-straight, laid-turned, Hole, Inside, Lowered, low-same, place}
 use Rattle.history.specs.Entries.{entries-fine, Found, in-first, in-second, find, among}
-use Rattle.history.specs.Laid.{Laid, laid-straight, laid-turned, Hole, Inside, Lowered, low-same}
 use Rattle.history.specs.StraightLaid.{straight-hole, straight-inside}
 use Rattle.history.specs.TurnedLaid.{turned-hole, high-inside, low-inside, turned-length}
-use Rattle.history.specs.Kinds.{place}
-use Rattle.history.specs.Lists.{not-both}
-use Rattle.history.specs.Walk.{Quiet}
 
 -- ---- measures
 
 -- where the stretch of S ends: each case of the turn on its own
-limit-is : (im : Image) (h S n : ℕ) (t : Bool) → (t ≡ true → floor h ≡ n) → (t ≡ false → length im ≡ n) → limit (place im h S t) ≡ n
-limit-is im h S n true p q = p refl
-limit-is im h S n false p q = q refl
+limit-by : (im : Image) (h S n : ℕ) (t : Bool) → (t ≡ true → floor h ≡ n) → (t ≡ false → length im ≡ n) → limit (place im h S t) ≡ n
+limit-by im h S n true p q = p refl
+limit-by im h S n false p q = q refl
 
 module _ {im : Image} {h S : ℕ} {t : Bool} {es : List Entry} {seg : Seg} {below free : List ℕ} (d : Laid im h S t es seg below free) where
   -- there is a first record, and it stands at the head
@@ -61,9 +62,9 @@ module _ {im : Image} {h S : ℕ} {t : Bool} {es : List Entry} {seg : Seg} {belo
     where
       go : Laid im h S t es seg below free → limit (place im h (S + seg-size seg) t) ≡ S + seg-size seg + length free
       go (laid-straight f s p q r m n) =
-          limit-is im h (S + seg-size seg) (S + seg-size seg + length free) t (λ u. absurd (not-both t p u)) (λ u. straight-length s ∙ omega arith)
+          limit-by im h (S + seg-size seg) (S + seg-size seg + length free) t (λ u. absurd (not-both t p u)) (λ u. straight-length s ∙ omega arith)
       go (laid-turned s p q r b) =
-          limit-is im h (S + seg-size seg) (S + seg-size seg + length free) t (λ u. omega (arith, s .at, s .lost-small, s .below, s .free-length))
+          limit-by im h (S + seg-size seg) (S + seg-size seg + length free) t (λ u. omega (arith, s .at, s .lost-small, s .below, s .free-length))
               (λ u. absurd (not-both t u p))
 
   -- before the turn: the bytes below the head's sector
@@ -175,24 +176,24 @@ module _ {im : Image} {h S : ℕ} {t : Bool} {seg : Seg} {below free : List ℕ}
 -- by a marker
 pub turn-laid : {im : Image} {h S B F : ℕ} {es : List Entry} → Laid im h S false es seg-none (blanks B) (blanks F) → 8 ≤ F → 1 ≤ B →
     Laid (run im (moved S marker-steps)) h 0 true es seg-none [] (blanks B)
-turn-laid {im} {h} {S} {B} {F} {es} (laid-straight {a = a} {lost = lost} {x = x} {ys = ys} g s p q r m n) f b =
-    let k : B ≡ 4096 * a = sym (length-replicate {A = ℕ} B 255) ∙ s .gap-length in
+turn-laid {im} {h} {S} {B} {F} {es} (laid-straight {a = a} {x = x} {ys = ys} g s p q r m n) f b =
+    let k : B ≡ 4096 * a = sym (length-replicate {A = ℕ} B 0xFF) ∙ s .gap-length in
     subst (λ (i : ℕ). Laid (run im (moved i marker-steps)) h 0 true es seg-none [] (blanks B)) (sym q)
-    (subst (λ (i : ℕ). Laid (run im (moved (h + sizes (x ∷ ys)) marker-steps)) h 0 true es seg-none [] (blanks i)) (sym k)
-    (laid-turned {low = []} (turned-by s f (ap blanks k) (omega arith)) refl refl (r ∙ sym (append-nil (entries-of h (x ∷ ys)))) refl))
+    (laid-turned {low = []} (turned-by s f (opens-blanks B (omega arith)) (omega arith)) refl refl (r ∙ sym (append-nil (entries-of h (x ∷ ys))))
+        refl)
 turn-laid (laid-turned s p q r e) f b = absurd (not-both false refl p)
 
 -- at N exactly
 pub turn-exact : {im : Image} {h S B : ℕ} {es : List Entry} → Laid im h S false es seg-none (blanks B) [] → 1 ≤ B
     → Laid im h 0 true es seg-none [] (blanks B)
-turn-exact {im} {h} {S} {B} {es} (laid-straight {a = a} {lost = lost} {x = x} {ys = ys} g s p q r m n) b =
-    let k : B ≡ 4096 * a = sym (length-replicate {A = ℕ} B 255) ∙ s .gap-length in
-    subst (λ (i : ℕ). Laid im h 0 true es seg-none [] (blanks i)) (sym k)
-    (laid-turned {low = []} (turned-exact s (ap blanks k) (omega arith)) refl refl (r ∙ sym (append-nil (entries-of h (x ∷ ys)))) refl)
+turn-exact {B = B} (laid-straight {a = a} {x = x} {ys = ys} g s p q r m n) b =
+    let k : B ≡ 4096 * a = sym (length-replicate {A = ℕ} B 0xFF) ∙ s .gap-length in
+    laid-turned {low = []} (turned-exact s (opens-blanks B (omega arith)) (omega arith)) refl refl (r ∙ sym (append-nil (entries-of _ (x ∷ ys))))
+        refl
 turn-exact (laid-turned s p q r e) b = absurd (not-both false refl p)
 
 -- the free run is words and has no mark
-pub free-quiet : {im : Image} {h S : ℕ} {t : Bool} {es : List Entry} {seg : Seg} {below free : List ℕ} → Laid im h S t es seg below free → (f : ℕ)
-    × (length free ≡ 8 * f) × Quiet f free
-free-quiet (laid-straight f s t₁ S₁ e₁ lf qf) = (f, lf, qf)
-free-quiet (laid-turned {f = f} s t₁ S₁ e₁ b) = (f, s .free-length, s .free-quiet)
+pub free-markless : {im : Image} {h S : ℕ} {t : Bool} {es : List Entry} {seg : Seg} {below free : List ℕ} → Laid im h S t es seg below free → (f : ℕ)
+    × (length free ≡ 8 * f) × Markless f free
+free-markless (laid-straight f s t₁ S₁ e₁ lf qf) = (f, lf, qf)
+free-markless (laid-turned {f = f} s t₁ S₁ e₁ b) = (f, s .free-length, s .free-markless)

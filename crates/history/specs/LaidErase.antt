@@ -1,35 +1,34 @@
--- Step (d) of a move on a laid image, cut anywhere: after the first erase the head is Y and the image is vacant; at the end it is bare.
+-- Step (d) of a move on any laid image, cut anywhere (Leaves): with X and Y in one sector nothing is erased; otherwise after the first
+-- erase the head is Y and the image is vacant, and at the end it is bare.
 use Prim.Native.Nat.{ℕ, zero, suc, _+_, _-_, _*_, _/_, _%_, _≤_, _<_}
 use native.Mathlib.Omega.{arith}
 use mathlib.Core.Path.{_≡_, refl, sym, ap, _∙_, subst}
 use mathlib.Core.Bool.{Bool, true, false}
 use mathlib.Core.List.{List, [], _∷_, _++_, append-assoc, append-nil, map}
-use lib.ListN.{length, take, drop, length-append, length-replicate, length-drop, replicate-append-replicate}
-use lib.Seq.{length-take-le}
+use lib.ListN.{length, take, drop, length-append, length-replicate, replicate-append-replicate}
 use lib.Dec.{ltb}
 use borrow.Author.Tests.{ne-eqb, eq-eqb, ltb-true, ltb-false}
-use Rattle.spec.specs.declared.Next.{Next}
-use Rattle.spec.specs.Step.{Image, Step, erase, sector, apply, run}
-use Rattle.spec.specs.Demand.{Steps-sound}
+use Rattle.spec.specs.Step.{Image, Step, erase, run}
 use Rattle.spec.specs.Geometry.{good-length, floor, sectors}
 use Rattle.spec.specs.Record.{Rec, Entry}
 use Rattle.spec.specs.Move.{vacated-end, vacated}
 use Rattle.spec.specs.Bytes.{is-start, is-clean, is-record, is-high}
-use Rattle.history.specs.Lay.{blanks, body, onto, rsize, sizes, entries-of, length-lay, length-body}
-use Rattle.history.specs.Walk.{Quiet}
-use Rattle.history.specs.Quiet.{quiet-append, quiet-blanks}
+use Rattle.history.specs.Blanks.{blanks, split-front}
+use Rattle.history.specs.Lay.{body, onto, rsize, sizes, entries-of, length-lay, length-body, rsize-words}
+use Rattle.history.specs.Markless.{markless-append, markless-blanks, Markless, Cleaned}
+use Rattle.history.specs.Erase.{erases, sectors-are, half-erased, half-erased-length, all-erased, take-erases, good-is, no-map, old-head}
 use Rattle.history.specs.Seg.{seg-none}
-use Rattle.history.specs.Erase.{erases, length-sector, sectors-are, half-erased, half-erased-length, all-erased, take-erases}
 use Rattle.history.specs.Straight.{Straight}
 use Rattle.history.specs.StraightEdit.{straight-length}
-use Rattle.history.specs.StraightErase.{Cleaned, rsize-words, old-head, to-m3, vacated-are, done}
-use Rattle.history.specs.Turned.{Turned, End, exact, marker, end-bytes, Opens, open-ff, opens-blanks}
-use Rattle.history.specs.TurnedErase.{turned-m3, last-head, zero-m3, zero-quiet}
+use Rattle.history.specs.Turned.{Turned, End, exact, marker, end-bytes, open-ff, opens-blanks}
+use Rattle.history.specs.Marker.{turned-exact}
 use Rattle.history.specs.Laid.{Laid, laid-straight, laid-turned, Tail, tail-clear, tail-floor, tail-N, tail-turn, Bare, clear-ff}
-use Rattle.history.specs.Vacant.{Vacant, vacant-at, good-mod}
 use Rattle.history.specs.TurnedLaid.{turned-length}
+use Rattle.history.specs.Vacant.{Vacant, vacant-at}
+use Rattle.history.specs.StraightErase.{straight-erased, vacated-are, straight-all-erased}
+use Rattle.history.specs.TurnedErase.{turned-erased, zero-erased, zero-markless}
 
--- X is left behind: with no erase, or with k + 1 of them
+-- how step (d) leaves X behind: with no erase, X and Y being in one sector (near), or with k + 1 erases (far)
 pub data Leaves (im : Image) (x y : Entry) (es : List Entry) : Type 0 where
   near : vacated (length im) x y ≡ [] → floor (y .at) ≡ floor (x .at) → x .at ≤ y .at → Leaves im x y es
   far :
@@ -38,33 +37,6 @@ pub data Leaves (im : Image) (x y : Entry) (es : List Entry) : Type 0 where
           → Leaves im x y es
 
 -- ---- the sectors
-
--- an erase inside the image
-pub erase-length : (im : Image) (a : ℕ) → a + 4096 ≤ length im → length (apply im (erase a)) ≡ length im
-erase-length im a h =
-    length-append (take a im) (sector ++ drop 4096 (drop a im))
-        ∙ ap (λ (n : ℕ). length (take a im) + n) (length-append sector (drop 4096 (drop a im)))
-    ∙ omega (arith, length-take-le a im (omega arith), length-sector, length-drop 4096 (drop a im), length-drop a im)
-
--- erases keep the length
-pub erases-length : (j a k : ℕ) (im : Image) → a + 4096 * k ≤ length im → length (run im (take j (erases a k))) ≡ length im
-erases-length zero a k im h = refl
-erases-length (suc j) a zero im h = refl
-erases-length (suc j) a (suc k) im h =
-    let e : length (apply im (erase a)) ≡ length im = erase-length im a (omega arith) in
-    erases-length j (a + 4096) k (apply im (erase a)) (omega arith) ∙ e
-
--- erases of whole sectors are sound
-pub erases-sound : (a k : ℕ) (im : Image) → a % 4096 ≡ 0 → a + 4096 * k ≤ length im → Steps-sound im (erases a k)
-erases-sound a zero im z h = tt
-erases-sound a (suc k) im z h =
-    let e : length (apply im (erase a)) ≡ length im = erase-length im a (omega arith) in
-    ((z, omega arith), erases-sound (a + 4096) k (apply im (erase a)) (omega arith) (omega arith))
-
--- no erase: no sector
-pub no-map : (zs : List ℕ) → map erase zs ≡ [] → zs ≡ []
-no-map [] e = refl
-no-map (z ∷ zs) e = let n : _≡_ {A = ℕ} 0 1 = cc in absurd (omega arith)
 
 -- w words: less than a sector, or some sectors and r words more
 by-sectors : {A : Type 0} (w : ℕ) → (w < 512 → A) → ((k r : ℕ) → 512 * suc k + r ≡ w → r < 512 → A) → A
@@ -86,34 +58,6 @@ unfolding vacated-end
 vacated-all N x y a k z e n =
     rw (vacated-end, eq-eqb (y .at) 0 z) (ap (λ (b : ℕ). map erase (sectors b N)) e ∙ sectors-are (suc k) (4096 * a) N (omega arith))
 
--- ---- FF in front
-
--- FF, and FF with remains behind
-pub join-ff : (B n : ℕ) (s : List ℕ) → blanks B ++ (blanks n ++ s) ≡ blanks (B + n) ++ s
-join-ff B n s = sym (append-assoc (blanks B) (blanks n) s) ∙ ap (λ (l : List ℕ). l ++ s) (replicate-append-replicate B n 255)
-
--- a chain that ends at N has turned once there are sectors below the head
-turn-open : {im : List ℕ} {a l : ℕ} {gap lost : List ℕ} {h : ℕ} {high : List Rec} → Straight im a l gap lost h high seg-none [] → Opens gap Next.Clear
-    → 1 ≤ a →
-    Turned im a l lost h [] seg-none (512 * a) gap high exact
-turn-open s o b =
-    record {
-      is = s .is;
-      at = s .at;
-      some-below = b;
-      below = omega arith;
-      free-length = s .gap-length ∙ omega arith;
-      free-quiet = s .gap-quiet;
-      opened = Next.Clear;
-      opens = o;
-      lost-length = s .lost-length;
-      lost-small = s .lost-small;
-      lost-quiet = s .lost-quiet;
-      fine-low = tt;
-      walked = tt;
-      fine-high = s .fine;
-    }
-
 -- ---- not turned
 
 module _ {im : Image} {a l : ℕ} {lost : List ℕ} {h : ℕ} {x y : Rec} {ys : List Rec} (B F : ℕ)
@@ -128,13 +72,14 @@ module _ {im : Image} {a l : ℕ} {lost : List ℕ} {h : ℕ} {x y : Rec} {ys : 
   abbrev E : List Entry
   E = entries-of (h + rsize x + rsize y) ys
 
-  module _ (k r : ℕ) (all : 512 * suc k + r ≡ l + rsize x / 8) (short : r < 512) (f : ℕ) (lf : length (blanks F) ≡ 8 * f) (qf : Quiet f (blanks F))
+  module _ (k r : ℕ) (all : 512 * suc k + r ≡ l + rsize x / 8) (short : r < 512) (f : ℕ) (lf : length (blanks F) ≡ 8 * f)
+      (qf : Markless f (blanks F))
       where
     abbrev A : ℕ
     A = 4096 * a
 
     abbrev q : List ℕ
-    q = old-head lost x
+    q = old-head lost x []
 
     abbrev rest : ℕ → List ℕ
     rest i = take (4096 * (suc k - suc i)) (drop (4096 * suc i) q)
@@ -147,14 +92,14 @@ module _ {im : Image} {a l : ℕ} {lost : List ℕ} {h : ℕ} {x y : Rec} {ys : 
     all-ff =
         subst (λ (g : List ℕ). Straight (run im (erases A (suc k))) (a + suc k) r g (drop (4096 * suc k) q) (h + rsize x) (y ∷ ys) seg-none
             (blanks F))
-        (replicate-append-replicate B (4096 * suc k) 255) (done s c k r all short)
+        (replicate-append-replicate B (4096 * suc k) 0xFF) (straight-all-erased s c k r all short)
 
     -- something is free behind the records
     straight-clear : (S : ℕ) → S ≡ h + sizes (x ∷ y ∷ ys) → 8 ≤ F → Leaves im X Y E
     straight-clear S e h₈ =
         far A k S false (vacated-are (length im) h x y a l k r (s .at) (s .lost-small) all short) (omega arith) sectors-in
-        (λ i p. vacant-at (laid-straight f (to-m3 s c k r all short i p) refl (omega arith) refl lf qf) F [] (sym (append-nil (blanks F)))
-        (omega (arith, good-mod (length im) g, straight-length s, length-replicate {A = ℕ} F 255)))
+        (λ i p. vacant-at (laid-straight f (straight-erased s c k r all short i p) refl (omega arith) refl lf qf) F [] (sym (append-nil (blanks F)))
+        (omega (arith, good-is (length im) g .0, straight-length s, length-replicate {A = ℕ} F 0xFF)))
         (record { S = S; B = B + 4096 * suc k; F = F; t = false; laid = laid-straight f all-ff refl (omega arith) refl lf qf; tail = clear-ff F h₈ })
 
     -- the records end at N: the chain turns
@@ -162,21 +107,22 @@ module _ {im : Image} {a l : ℕ} {lost : List ℕ} {h : ℕ} {x y : Rec} {ys : 
     straight-full z =
         let u : Turned (run im (erases A (suc k))) (a + suc k) r (drop (4096 * suc k) q) (h + rsize x) [] seg-none (512 * (a + suc k))
             (blanks (B + 4096 * suc k)) (y ∷ ys) exact =
-        turn-open (subst (λ (m : List ℕ). Straight (run im (erases A (suc k))) (a + suc k) r (blanks (B + 4096 * suc k)) (drop (4096 * suc k) q)
+        turned-exact (subst (λ (m : List ℕ). Straight (run im (erases A (suc k))) (a + suc k) r (blanks (B + 4096 * suc k)) (drop (4096 * suc k) q)
             (h + rsize x) (y ∷ ys) seg-none m) z all-ff)
         (opens-blanks (B + 4096 * suc k) (omega arith)) (omega arith) in
         let v : (i : ℕ) → i ≤ k →
         Turned (run im (take (suc i) (erases A (suc k)))) (a + suc k) r (drop (4096 * suc k) q) (h + rsize x) [] seg-none (512 * (a + suc k))
             (blanks B ++ half-erased (suc i) (suc k) q)
         (y ∷ ys) exact =
-        λ i p. turn-open (subst (λ (m : List ℕ). Straight (run im (take (suc i) (erases A (suc k)))) (a + suc k) r
+        λ i p. turned-exact (subst (λ (m : List ℕ). Straight (run im (take (suc i) (erases A (suc k)))) (a + suc k) r
             (blanks B ++ half-erased (suc i) (suc k) q) (drop (4096 * suc k) q)
-        (h + rsize x) (y ∷ ys) seg-none m) z (to-m3 s c k r all short i p))
-        (open-ff (B + 4096 * suc i) (rest i) (blanks B ++ half-erased (suc i) (suc k) q) (join-ff B (4096 * suc i) (rest i)) (omega arith))
+        (h + rsize x) (y ∷ ys) seg-none m) z (straight-erased s c k r all short i p))
+        (open-ff (B + 4096 * suc i) (rest i) (blanks B ++ half-erased (suc i) (suc k) q)
+            (sym (split-front B (4096 * suc i) (B + (4096 * suc i)) (rest i) refl)) (omega arith))
             (omega arith) in
         far A k 0 true (vacated-are (length im) h x y a l k r (s .at) (s .lost-small) all short) (omega arith) sectors-in
         (λ i p. vacant-at (laid-turned (v i p) refl refl (sym (append-nil (entries-of (h + rsize x) (y ∷ ys)))) refl) (B + 4096 * suc i) (rest i)
-            (join-ff B (4096 * suc i) (rest i)) (omega arith))
+            (sym (split-front B (4096 * suc i) (B + (4096 * suc i)) (rest i) refl)) (omega arith))
         (record {
           S = 0;
           B = 0;
@@ -188,12 +134,12 @@ module _ {im : Image} {a l : ℕ} {lost : List ℕ} {h : ℕ} {x y : Rec} {ys : 
 
     straight-far : (S : ℕ) → S ≡ h + sizes (x ∷ y ∷ ys) → Tail h S false seg-none (blanks B) (blanks F) S false → Leaves im X Y E
     straight-far S e (tail-clear s₈ p i j) =
-        straight-clear S e (omega (arith, ap length p, length-append (blanks 8) s₈, length-replicate {A = ℕ} F 255))
+        straight-clear S e (omega (arith, ap length p, length-append (blanks 8) s₈, length-replicate {A = ℕ} F 0xFF))
     straight-far S e (tail-floor p i j m) = let z : _≡_ {A = ℕ} 0 1 = cc in absurd (omega arith)
     straight-far S e (tail-N p i j m n) = straight-full p
     straight-far S e (tail-turn s₈ p i j m n o) = absurd (j refl)
 
-  straight-leaves : (f : ℕ) → length (blanks F) ≡ 8 * f → Quiet f (blanks F) → (S : ℕ) → S ≡ h + sizes (x ∷ y ∷ ys)
+  straight-leaves : (f : ℕ) → length (blanks F) ≡ 8 * f → Markless f (blanks F) → (S : ℕ) → S ≡ h + sizes (x ∷ y ∷ ys)
       → Tail h S false seg-none (blanks B) (blanks F) S false → Leaves im X Y E
   straight-leaves f lf qf S e t =
       by-sectors (l + rsize x / 8)
@@ -216,25 +162,25 @@ module _ {im : Image} {a l : ℕ} {lost : List ℕ} {h : ℕ} {low : List Rec} {
   E₁ = entries-of (h + rsize x + rsize y) ys ++ entries-of 0 low
 
   F-is : F ≡ 8 * f
-  F-is = sym (length-replicate {A = ℕ} F 255) ∙ s .free-length
+  F-is = sym (length-replicate {A = ℕ} F 0xFF) ∙ s .free-length
 
   turned-far : (k r : ℕ) → 512 * suc k + r ≡ l + rsize x / 8 → r < 512 → Leaves im X₁ Y₁ E₁
   turned-far k r all short =
       let A : ℕ = 4096 * a in
-      let q : List ℕ = old-head lost x in
+      let q : List ℕ = old-head lost x [] in
       let rest : ℕ → List ℕ = λ i. take (4096 * (suc k - suc i)) (drop (4096 * suc i) q) in
       let last : Turned (run im (erases A (suc k))) (a + suc k) r (drop (4096 * suc k) q) (h + rsize x) low seg-none (f + 512 * suc k)
           (blanks (F + 4096 * suc k)) (y ∷ ys) end =
       subst (λ (m : List ℕ). Turned (run im (erases A (suc k))) (a + suc k) r (drop (4096 * suc k) q) (h + rsize x) low seg-none (f + 512 * suc k) m
           (y ∷ ys) end)
-      (ap (λ (m : List ℕ). blanks F ++ m) (all-erased (suc k) q) ∙ replicate-append-replicate F (4096 * suc k) 255)
+      (ap (λ (m : List ℕ). blanks F ++ m) (all-erased (suc k) q) ∙ replicate-append-replicate F (4096 * suc k) 0xFF)
       (subst (λ (ss : List Step). Turned (run im ss) (a + suc k) r (drop (4096 * suc k) q) (h + rsize x) low seg-none (f + 512 * suc k)
           (blanks F ++ half-erased (suc k) (suc k) q) (y ∷ ys) end)
-      (take-erases (suc k) (suc k) A (omega arith)) (turned-m3 s c k r all short k (omega arith))) in
+      (take-erases (suc k) (suc k) A (omega arith)) (turned-erased s c k r all short k (omega arith))) in
       far A k (sizes low) true (vacated-are (length im) h x y a l k r (s .at) (s .lost-small) all short) (omega arith)
           (omega (arith, s .at, rsize-words x, turned-length s))
-      (λ i e. vacant-at (laid-turned (turned-m3 s c k r all short i e) refl refl refl refl) (F + 4096 * suc i) (rest i)
-          (join-ff F (4096 * suc i) (rest i)) (omega (arith, s .below, F-is)))
+      (λ i e. vacant-at (laid-turned (turned-erased s c k r all short i e) refl refl refl refl) (F + 4096 * suc i) (rest i)
+          (sym (split-front F (4096 * suc i) (F + (4096 * suc i)) (rest i) refl)) (omega (arith, s .below, F-is)))
       (record {
         S = sizes low;
         B = 0;
@@ -255,13 +201,13 @@ module _ {im : Image} {a l : ℕ} {lost : List ℕ} {h : ℕ} {low : List Rec} {
 -- ---- turned, Y at 0
 
 -- what ends the records has no mark
-end-quiet : (end : End) (e : ℕ) → length (end-bytes end) ≡ 8 * e → Quiet e (end-bytes end)
+end-markless : (end : End) (e : ℕ) → length (end-bytes end) ≡ 8 * e → Markless e (end-bytes end)
 unfolding is-start is-clean is-record is-high
-end-quiet exact zero p = tt
-end-quiet exact (suc e) p = absurd (omega arith)
-end-quiet (marker k) zero p = absurd (omega arith)
-end-quiet (marker k) (suc e) p =
-    let n : 8 * e ≡ k = omega (arith, length-replicate {A = ℕ} k 255) in (refl, subst (λ (m : ℕ). Quiet e (blanks m)) n (quiet-blanks e))
+end-markless exact zero p = tt
+end-markless exact (suc e) p = absurd (omega arith)
+end-markless (marker k) zero p = absurd (omega arith)
+end-markless (marker k) (suc e) p =
+    let n : 8 * e ≡ k = omega (arith, length-replicate {A = ℕ} k 0xFF) in (refl, subst (λ (m : ℕ). Markless e (blanks m)) n (markless-blanks e))
 
 body-is : (n c t : List ℕ) → body n c t ≡ body n c [] ++ t
 body-is n c t = simp append-assoc
@@ -280,38 +226,39 @@ module _ {im : Image} {a l : ℕ} {lost : List ℕ} {h : ℕ} {y : Rec} {low : L
   E₂ = entries-of (0 + rsize y) low
 
   F₂ : F ≡ 8 * f
-  F₂ = sym (length-replicate {A = ℕ} F 255) ∙ s .free-length
+  F₂ = sym (length-replicate {A = ℕ} F 0xFF) ∙ s .free-length
 
-  behind-quiet : (k : ℕ) → length im ≡ 4096 * (a + suc k) → Quiet (511 - l + 512 * k) (body (x .name) (x .content) (end-bytes end))
-  behind-quiet k n =
+  behind-markless : (k : ℕ) → length im ≡ 4096 * (a + suc k) → Markless (511 - l + 512 * k) (body (x .name) (x .content) (end-bytes end))
+  behind-markless k n =
       let e : ℕ = length (end-bytes end) / 8 in
       let m : length (end-bytes end) ≡ 8 * e = omega (arith, turned-length s, s .at, rsize-words x) in
       let w : rsize x / 8 - 1 + e ≡ 511 - l + 512 * k = omega (arith, turned-length s, s .at, s .lost-small, rsize-words x) in
       rw (body-is (x .name) (x .content) (end-bytes end))
-      (subst (λ (j : ℕ). Quiet j (body (x .name) (x .content) [] ++ end-bytes end)) w
-      (quiet-append (rsize x / 8 - 1) e (body (x .name) (x .content) []) (end-bytes end)
-          (omega (arith, length-body (x .name) (x .content) [], rsize-words x)) c (end-quiet end e m)))
+      (subst (λ (j : ℕ). Markless j (body (x .name) (x .content) [] ++ end-bytes end)) w
+      (markless-append (rsize x / 8 - 1) e (body (x .name) (x .content) []) (end-bytes end)
+          (omega (arith, length-body (x .name) (x .content) [], rsize-words x)) c (end-markless end e m)))
 
-  behind-length : (k : ℕ) → length im ≡ 4096 * (a + suc k) → length (last-head lost x end) ≡ 4096 * suc k
-  unfolding last-head
+  behind-length : (k : ℕ) → length im ≡ 4096 * (a + suc k) → length (old-head lost x (end-bytes end)) ≡ 4096 * suc k
+  unfolding old-head
   behind-length k n =
       length-append lost (onto x (end-bytes end)) ∙ omega (arith, s .lost-length, length-lay (x ∷ []) (end-bytes end), turned-length s, s .at)
 
   zero-far : (k : ℕ) → length im ≡ 4096 * (a + suc k) → Leaves im X₂ Y₂ E₂
   zero-far k n =
       let A : ℕ = 4096 * a in
-      let q : List ℕ = last-head lost x end in
-      let b : Quiet (511 - l + 512 * k) (body (x .name) (x .content) (end-bytes end)) = behind-quiet k n in
+      let q : List ℕ = old-head lost x (end-bytes end) in
+      let b : Markless (511 - l + 512 * k) (body (x .name) (x .content) (end-bytes end)) = behind-markless k n in
       let S : ℕ = 0 + sizes (y ∷ low) in
       let rest : ℕ → List ℕ = λ i. take (4096 * (suc k - suc i)) (drop (4096 * suc i) q) in
       let long : (i : ℕ) → i ≤ k → length (blanks F ++ half-erased (suc i) (suc k) q) ≡ 8 * (f + 512 * suc k) =
       λ i p. length-append (blanks F) (half-erased (suc i) (suc k) q)
-      ∙ omega (arith, half-erased-length (suc i) (suc k) q (omega arith) (omega (arith, behind-length k n)), length-replicate {A = ℕ} F 255, F₂) in
+      ∙ omega (arith, half-erased-length (suc i) (suc k) q (omega arith) (omega (arith, behind-length k n)), length-replicate {A = ℕ} F 0xFF, F₂) in
       let laid : (i : ℕ) → i ≤ k
           → Laid (run im (take (suc i) (erases A (suc k)))) 0 S false (Y₂ ∷ E₂) seg-none [] (blanks F ++ half-erased (suc i) (suc k) q) =
-      λ i p. laid-straight (f + 512 * suc k) (zero-m3 s k n b i p) refl refl refl (long i p) (zero-quiet s k n b i p) in
+      λ i p. laid-straight (f + 512 * suc k) (zero-erased s k n b i p) refl refl refl (long i p) (zero-markless s k n b i p) in
       far A k S false (vacated-all (length im) X₂ Y₂ a k refl (omega (arith, s .at, s .lost-small)) n) (omega arith) (omega arith)
-      (λ i p. vacant-at (laid i p) (F + 4096 * suc i) (rest i) (join-ff F (4096 * suc i) (rest i)) (omega (arith, s .below, F₂)))
+      (λ i p. vacant-at (laid i p) (F + 4096 * suc i) (rest i) (sym (split-front F (4096 * suc i) (F + (4096 * suc i)) (rest i) refl))
+          (omega (arith, s .below, F₂)))
       (record {
         S = S;
         B = 0;
@@ -319,7 +266,7 @@ module _ {im : Image} {a l : ℕ} {lost : List ℕ} {h : ℕ} {y : Rec} {low : L
         t = false;
         laid =
             subst (λ (m : List ℕ). Laid (run im (erases A (suc k))) 0 S false (Y₂ ∷ E₂) seg-none [] m)
-            (ap (λ (m : List ℕ). blanks F ++ m) (all-erased (suc k) q) ∙ replicate-append-replicate F (4096 * suc k) 255)
+            (ap (λ (m : List ℕ). blanks F ++ m) (all-erased (suc k) q) ∙ replicate-append-replicate F (4096 * suc k) 0xFF)
             (subst (λ (ss : List Step). Laid (run im ss) 0 S false (Y₂ ∷ E₂) seg-none [] (blanks F ++ half-erased (suc k) (suc k) q))
                 (take-erases (suc k) (suc k) A (omega arith))
             (laid k (omega arith)));
@@ -327,7 +274,7 @@ module _ {im : Image} {a l : ℕ} {lost : List ℕ} {h : ℕ} {y : Rec} {low : L
       })
 
   zero-leaves : Leaves im X₂ Y₂ E₂
-  zero-leaves = zero-far (length im / 4096 - a - 1) (omega (arith, good-mod (length im) g, turned-length s, s .at))
+  zero-leaves = zero-far (length im / 4096 - a - 1) (omega (arith, good-is (length im) g .0, turned-length s, s .at))
 
 -- ---- any laid image
 

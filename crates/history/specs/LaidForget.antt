@@ -1,6 +1,7 @@
--- Step (f) of a move on a laid image: X is forgotten in its own sector, and the head is Y.
+-- Step (f) of a move on a laid image: X and Y stand in one sector, X loses its magic, and the head is Y.
 use Prim.Native.Nat.{ℕ, _+_, _*_, _/_, _<_, suc, _-_}
 use native.Mathlib.Omega.{arith}
+use native.Mathlib.Nat.{add-zero}
 use mathlib.Core.Path.{_≡_, refl, sym, ap, _∙_, subst}
 use mathlib.Core.Bool.{Bool}
 use mathlib.Core.List.{List, [], _∷_, _++_, append-assoc}
@@ -8,26 +9,32 @@ use lib.ListN.{length, set, length-append, drop, getD}
 use Rattle.spec.specs.Step.{Image}
 use Rattle.spec.specs.Geometry.{floor}
 use Rattle.spec.specs.Record.{Rec, Entry}
-use native.Mathlib.Nat.{add-zero}
-use Rattle.history.specs.Lay.{onto, lay, rsize, sizes, entries-of, lay-is, length-body, body, lens}
-use Rattle.history.specs.Quiet.{quiet-append, mark-second}
+use Rattle.history.specs.Lay.{onto, lay, rsize, sizes, entries-of, lay-is, length-body, body, lens, rsize-words}
 use Rattle.history.specs.Steps.{set-past}
+use Rattle.history.specs.Markless.{markless-append, mark-second, Markless, Cleaned}
 use Rattle.history.specs.Seg.{Seg, seg-onto}
 use Rattle.history.specs.Straight.{Straight}
-use Rattle.history.specs.StraightErase.{Cleaned, rsize-words}
 use Rattle.history.specs.Turned.{Turned, End, end-bytes}
 use Rattle.history.specs.Laid.{Laid, laid-straight, laid-turned}
-use Rattle.history.specs.Walk.{Quiet}
 use Rattle.history.specs.TurnedLaid.{high-front, high-front-is, high-front-length}
 
 -- X with its second byte 00
 abbrev forgotten : Rec → List ℕ
-forgotten x = x .low ∷ 0 ∷ x .status ∷ 255 ∷ lens (length (x .content)) (body (x .name) (x .content) [])
+forgotten x = x .low ∷ 0 ∷ x .status ∷ 0xFF ∷ lens (length (x .content)) (body (x .name) (x .content) [])
 
-forgotten-quiet : (x : Rec) → Cleaned x → Quiet (rsize x / 8) (forgotten x)
-forgotten-quiet x c =
+forgotten-markless : (x : Rec) → Cleaned x → Markless (rsize x / 8) (forgotten x)
+forgotten-markless x c =
     let n : suc (rsize x / 8 - 1) ≡ rsize x / 8 = omega arith in
-    subst (λ (m : ℕ). Quiet m (forgotten x)) n (mark-second (x .low) (drop 2 (forgotten x)), c)
+    subst (λ (m : ℕ). Markless m (forgotten x)) n (mark-second (x .low) (drop 2 (forgotten x)), c)
+
+forgotten-length : (x : Rec) → length (forgotten x) ≡ 8 * (rsize x / 8)
+forgotten-length x = omega (arith, length-body (x .name) (x .content) [], rsize-words x)
+
+-- X behind G and before R
+forget-bytes : (G R : List ℕ) (x : Rec) (h : ℕ) → length G ≡ h → set (G ++ onto x R) (h + 1) 0 ≡ G ++ (forgotten x ++ R)
+forget-bytes G R x h e =
+    ap (λ (n : ℕ). set (G ++ onto x R) (n + 1) 0) (sym e) ∙ set-past G (onto x R) 1 0
+    ∙ ap (λ (l : List ℕ). G ++ set l 1 0) (lay-is (x ∷ []) R)
 
 -- (f): the head's second byte to 00, Y in the head's sector
 module _ {im : List ℕ} {a l : ℕ} {gap lost : List ℕ} {h : ℕ} {x y : Rec} {ys : List Rec} {seg : Seg} {free : List ℕ}
@@ -39,26 +46,21 @@ module _ {im : List ℕ} {a l : ℕ} {gap lost : List ℕ} {h : ℕ} {x y : Rec}
       let G : List ℕ = gap ++ lost in
       let lg : length G ≡ h = length-append gap lost ∙ omega (arith, s .gap-length, s .lost-length, s .at) in
       let e₁ : im ≡ G ++ onto x R = s .is ∙ sym (append-assoc gap lost (onto x R)) in
-      let e₂ : set (G ++ onto x R) (h + 1) 0 ≡ G ++ set (onto x R) 1 0 = ap (λ (n : ℕ). set (G ++ onto x R) (n + 1) 0) (sym lg)
-          ∙ set-past G (onto x R) 1 0 in
-      
-      let e₃ : set (onto x R) 1 0 ≡ forgotten x ++ R = ap (λ (l : List ℕ). set l 1 0) (lay-is (x ∷ []) R) in
-      let lf : length (forgotten x) ≡ 8 * (rsize x / 8) = omega (arith, length-body (x .name) (x .content) [], rsize-words x) in
       record {
-        is = ap (λ (l : List ℕ). set l (h + 1) 0) e₁ ∙ e₂ ∙ ap (λ (l : List ℕ). G ++ l) e₃ ∙ append-assoc gap lost (forgotten x ++ R)
+        is = ap (λ (l : List ℕ). set l (h + 1) 0) e₁ ∙ forget-bytes G R x h lg ∙ append-assoc gap lost (forgotten x ++ R)
             ∙ ap (λ (l : List ℕ). gap ++ l) (sym (append-assoc lost (forgotten x) R));
         at = omega (arith, s .at, rsize-words x);
         gap-length = s .gap-length;
-        gap-quiet = s .gap-quiet;
-        lost-length = length-append lost (forgotten x) ∙ omega (arith, s .lost-length, lf);
+        gap-markless = s .gap-markless;
+        lost-length = length-append lost (forgotten x) ∙ omega (arith, s .lost-length, forgotten-length x);
         lost-small = near;
-        lost-quiet = quiet-append l (rsize x / 8) lost (forgotten x) (s .lost-length) (s .lost-quiet) (forgotten-quiet x c);
+        lost-markless = markless-append l (rsize x / 8) lost (forgotten x) (s .lost-length) (s .lost-markless) (forgotten-markless x c);
         front = fronted gap lost a l (s .gap-length) (s .lost-length) (s .front);
         fine = s .fine .1;
       }
     where
-      fronted : (gap lost : List ℕ) (a l : ℕ) → length gap ≡ 4096 * a → length lost ≡ 8 * l → (getD (gap ++ lost) 1 0 ≡ 90 → ⊥)
-          → getD (gap ++ (lost ++ forgotten x)) 1 0 ≡ 90 → ⊥
+      fronted : (gap lost : List ℕ) (a l : ℕ) → length gap ≡ 4096 * a → length lost ≡ 8 * l → (getD (gap ++ lost) 1 0 ≡ 0x5A → ⊥)
+          → getD (gap ++ (lost ++ forgotten x)) 1 0 ≡ 0x5A → ⊥
       fronted [] [] a l p q f = f
       fronted [] (u ∷ []) a l p q f = absurd (omega arith)
       fronted [] (u ∷ v ∷ w) a l p q f = f
@@ -74,24 +76,19 @@ module _ {im : List ℕ} {a l : ℕ} {lost : List ℕ} {h : ℕ} {low : List Rec
       let G : List ℕ = high-front s [] in
       let lg : length G ≡ h = high-front-length s [] ∙ add-zero h in
       let e₁ : im ≡ G ++ onto x R = s .is ∙ sym (high-front-is s [] (onto x R)) in
-      let e₂ : set (G ++ onto x R) (h + 1) 0 ≡ G ++ set (onto x R) 1 0 = ap (λ (n : ℕ). set (G ++ onto x R) (n + 1) 0) (sym lg)
-          ∙ set-past G (onto x R) 1 0 in
-      
-      let e₃ : set (onto x R) 1 0 ≡ forgotten x ++ R = ap (λ (l : List ℕ). set l 1 0) (lay-is (x ∷ []) R) in
-      let lf : length (forgotten x) ≡ 8 * (rsize x / 8) = omega (arith, length-body (x .name) (x .content) [], rsize-words x) in
       record {
-        is = ap (λ (l : List ℕ). set l (h + 1) 0) e₁ ∙ e₂ ∙ ap (λ (l : List ℕ). G ++ l) e₃ ∙ high-front-is s [] (forgotten x ++ R)
+        is = ap (λ (l : List ℕ). set l (h + 1) 0) e₁ ∙ forget-bytes G R x h lg ∙ high-front-is s [] (forgotten x ++ R)
             ∙ ap (λ (l : List ℕ). lay low (seg-onto seg (free ++ l))) (sym (append-assoc lost (forgotten x) R));
         at = omega (arith, s .at, rsize-words x);
         some-below = s .some-below;
         below = s .below;
         free-length = s .free-length;
-        free-quiet = s .free-quiet;
+        free-markless = s .free-markless;
         opened = s .opened;
         opens = s .opens;
-        lost-length = length-append lost (forgotten x) ∙ omega (arith, s .lost-length, lf);
+        lost-length = length-append lost (forgotten x) ∙ omega (arith, s .lost-length, forgotten-length x);
         lost-small = near;
-        lost-quiet = quiet-append l (rsize x / 8) lost (forgotten x) (s .lost-length) (s .lost-quiet) (forgotten-quiet x c);
+        lost-markless = markless-append l (rsize x / 8) lost (forgotten x) (s .lost-length) (s .lost-markless) (forgotten-markless x c);
         fine-low = s .fine-low;
         walked = s .walked;
         fine-high = s .fine-high .1;

@@ -1,11 +1,10 @@
--- Repair 1 on a laid image: cut anywhere it is vacant, and at the end it is bare.
+-- Repair 1 on a laid image whose head is CLEAN: cut anywhere it is of that kind still, and at the end it is bare (Repaired).
 use Prim.Native.Nat.{ℕ, zero, suc, _+_, _-_, _*_, _/_, _%_, _≤_}
 use native.Mathlib.Omega.{arith}
 use mathlib.Core.Path.{_≡_, refl, sym, ap, ap₂, _∙_, subst, subst₂}
 use mathlib.Core.Bool.{Bool, true, false}
 use mathlib.Core.List.{List, [], _∷_, _++_, append-assoc, map, map-append}
 use lib.ListN.{length, take, drop, getD, length-append, length-drop, length-replicate, take-append-drop}
-use lib.Seq.{take-take}
 use Rattle.spec.specs.declared.Next.{Next}
 use Rattle.spec.specs.Step.{Image, Step, erase, run}
 use Rattle.spec.specs.Basics.{keep}
@@ -13,26 +12,25 @@ use Rattle.spec.specs.Geometry.{good-length, floor, ceiling, sectors}
 use Rattle.spec.specs.Record.{Entry}
 use Rattle.spec.specs.Reading.{limit, tail-blank}
 use Rattle.spec.specs.Mount.{free-sectors, dirty, erase-steps}
-use Rattle.history.specs.Lay.{blanks, lay}
-use Rattle.history.specs.Walk.{Quiet}
-use Rattle.history.specs.Seg.{seg-none, seg-onto}
-use Rattle.history.specs.Erase.{sectors-are}
-use Rattle.history.specs.Steps.{run-append}
 use Rattle.history.specs.Lists.{keep-append, none-at}
-use Rattle.history.specs.Repair.{mend-steps, mend-done}
+use Rattle.history.specs.Blanks.{blanks, take-blanks, split-front}
+use Rattle.history.specs.Lay.{lay}
+use Rattle.history.specs.Steps.{run-append}
 use Rattle.history.specs.Safe.{Safe, safe-map}
-use Rattle.history.specs.Laid.{Laid, laid-straight, laid-turned, Hole, Tail, tail-clear, tail-floor, tail-N, tail-turn, Bare, clear-ff}
-use Rattle.history.specs.Kinds.{place}
-use Rattle.history.specs.LaidEdit.{laid-below, hole-of, free-quiet}
-use Rattle.history.specs.Vacant.{take-blanks, good-mod, limit-is, Vacant, vacant-long, vacant-of, vacant-tail, vacant-blank}
-use Rattle.history.specs.LaidErase.{no-map, join-ff}
-use Rattle.history.specs.EraseFree.{Mid, erase-safe}
-use Rattle.history.specs.Quiet.{quiet-ff}
+use Rattle.history.specs.Markless.{markless-ff, Markless}
+use Rattle.history.specs.Erase.{sectors-are, good-is, no-map}
+use Rattle.history.specs.Seg.{seg-none, seg-onto}
 use Rattle.history.specs.Turned.{opens-blanks}
+use Rattle.history.specs.Laid.{Laid, laid-straight, laid-turned, Hole, Tail, tail-clear, tail-floor, tail-N, tail-turn, Bare, clear-ff, place}
+use Rattle.history.specs.LaidEdit.{laid-below, hole-of, free-markless}
+use Rattle.history.specs.Vacant.{limit-is, Vacant, vacant-long, vacant-of, vacant-tail, vacant-blank, vacant-free}
+use Rattle.history.specs.Repair.{mend-steps, mend-done}
+use Rattle.history.specs.EraseFree.{Mid, erase-safe}
 
 -- ---- all the erases: FF
 
-front-ff : (B : ℕ) (below lost : List ℕ) → length below ≡ B → B % 8 ≡ 0 → (getD (below ++ lost) 1 0 ≡ 90 → ⊥) → getD (blanks B ++ lost) 1 0 ≡ 90 → ⊥
+front-ff : (B : ℕ) (below lost : List ℕ) → length below ≡ B → B % 8 ≡ 0 → (getD (below ++ lost) 1 0 ≡ 0x5A → ⊥)
+    → getD (blanks B ++ lost) 1 0 ≡ 0x5A → ⊥
 front-ff zero [] lost e z f = f
 front-ff zero (x ∷ below) lost e z f = absurd (omega arith)
 front-ff (suc zero) below lost e z f = absurd (omega arith)
@@ -52,11 +50,11 @@ low-done {im} {h} {S} {es} {below} {free} (laid-straight {a} {l} {lost} {x} {ys}
               ∙ mend-done a B 0 B [] [] below Z refl refl (s .gap-length) (omega arith) (omega arith) im (s .is)
           ∙ ap (λ (m : ℕ). blanks m ++ Z) (sym b);
       at = s .at;
-      gap-length = length-replicate {A = ℕ} B 255 ∙ b;
-      gap-quiet = quiet-ff (512 * a) (blanks B) (ap blanks w);
+      gap-length = length-replicate {A = ℕ} B 0xFF ∙ b;
+      gap-markless = markless-ff (512 * a) (blanks B) (ap blanks w);
       lost-length = s .lost-length;
       lost-small = s .lost-small;
-      lost-quiet = s .lost-quiet;
+      lost-markless = s .lost-markless;
       front = front-ff B below lost (s .gap-length ∙ sym b) (omega arith) (s .front);
       fine = s .fine;
     })
@@ -70,16 +68,16 @@ opened-up p post free c e =
         ∙ ap (λ (l : List ℕ). p ++ l) (append-assoc (blanks c) (drop c free) post)
     ∙ sym (append-assoc p (blanks c) (drop c free ++ post))
 
--- the sectors of the run at T
+-- the sectors behind T
 high-done : {im : Image} {h S : ℕ} {t : Bool} {es : List Entry} {below free : List ℕ} (d : Laid im h S t es seg-none below free) (im₀ : Image)
     (pre₀ : List ℕ) →
-    im₀ ≡ pre₀ ++ (free ++ hole-of d .post) → length pre₀ ≡ S → (c k lim : ℕ) → S + c ≡ ceiling S → c ≤ length free → take c free ≡ blanks c
+    im₀ ≡ pre₀ ++ (free ++ hole-of d .post) → length pre₀ ≡ S → (c k lim : ℕ) → S + c ≡ ceiling S → take c free ≡ blanks c
         → ceiling S + 4096 * k ≡ lim → S + length free ≡ lim →
     8 ≤ length free → Laid (run im (mend-steps im₀ lim (ceiling S) lim)) h S t es seg-none below (blanks (length free))
-high-done {im} {h} {S} {t} {es} {below} {free} d im₀ pre₀ i₀ l₀ c k lim sc cf cb kl fl e₈ =
+high-done {im} {h} {S} {t} {es} {below} {free} d im₀ pre₀ i₀ l₀ c k lim sc cb kl fl e₈ =
     let K : Hole im h S t es seg-none below free = hole-of d in
-    let f : (f : ℕ) × (length free ≡ 8 * f) × Quiet f free = free-quiet d in
-    let lc : length (blanks c) ≡ c = length-replicate {A = ℕ} c 255 in
+    let f : (f : ℕ) × (length free ≡ 8 * f) × Markless f free = free-markless d in
+    let lc : length (blanks c) ≡ c = length-replicate {A = ℕ} c 0xFF in
     let F : ℕ = length free in
     let n : c + 4096 * k ≡ F = omega arith in
     let e : run im (mend-steps im₀ lim (ceiling S) lim) ≡ K .pre ++ (blanks F ++ K .post) =
@@ -88,10 +86,11 @@ high-done {im} {h} {S} {t} {es} {below} {free} d im₀ pre₀ i₀ l₀ c k lim 
     (length-append (K .pre) (blanks c) ∙ omega (arith, K .at))
     (length-drop c free ∙ omega arith) kl (omega arith) im₀ (i₀ ∙ opened-up pre₀ (K .post) free c cb)
     ∙ append-assoc (K .pre) (blanks c) (blanks (4096 * k) ++ K .post)
-        ∙ ap (λ (l : List ℕ). K .pre ++ l) (join-ff c (4096 * k) (K .post) ∙ ap (λ (m : ℕ). blanks m ++ K .post) n) in
-    let lF : length (blanks F) ≡ F = length-replicate {A = ℕ} F 255 in
+        ∙ ap (λ (l : List ℕ). K .pre ++ l)
+            (sym (split-front c (4096 * k) (c + (4096 * k)) (K .post) refl) ∙ ap (λ (m : ℕ). blanks m ++ K .post) n) in
+    let lF : length (blanks F) ≡ F = length-replicate {A = ℕ} F 0xFF in
     subst (λ (i : Image). Laid i h S t es seg-none below (blanks F)) (sym e)
-    (K .plug seg-none (f .0) (blanks F) Next.Clear (lF ∙ f .1) (quiet-ff (f .0) (blanks F) (ap blanks (f .1))) (opens-blanks F e₈)
+    (K .plug seg-none (f .0) (blanks F) Next.Clear (lF ∙ f .1) (markless-ff (f .0) (blanks F) (ap blanks (f .1))) (opens-blanks F e₈)
         (ap (λ (m : ℕ). 0 + m) lF))
 
 turned-below : {im : Image} {h S : ℕ} {es : List Entry} {below free : List ℕ} → Laid im h S true es seg-none below free → below ≡ []
@@ -112,9 +111,8 @@ module _ {im : Image} {h S : ℕ} {es : List Entry} (g : length im % 4096 ≡ 0)
       let c : ℕ = ceiling S - S in
       let k : ℕ = (floor h - ceiling S) / 4096 in
       let K : Hole im h S true es seg-none (v .below) (v .free) = hole-of (v .laid) in
-      let e : take c (v .free) ≡ blanks c = sym (take-take c (v .m) (v .free) (omega (arith, v .own))) ∙ ap (take c) (v .ff)
-          ∙ take-blanks c (v .m) (omega (arith, v .own)) in
-      
+      let e : take c (v .free) ≡ blanks c = ap (take c) (vacant-free v)
+          ∙ take-blanks c (v .m) (drop (v .m) (v .free)) (omega (arith, v .own)) in
       record {
         S = S;
         B = 0;
@@ -123,7 +121,7 @@ module _ {im : Image} {h S : ℕ} {es : List Entry} (g : length im % 4096 ≡ 0)
         laid =
             subst (λ (b : List ℕ). Laid (run im (mend-steps im (floor h) (ceiling S) (floor h))) h S true es seg-none b (blanks (length (v .free))))
                 (turned-below (v .laid))
-            (high-done (v .laid) im (K .pre) (K .is) (K .at) c k (floor h) (omega arith) (omega (arith, v .own, v .whole)) e
+            (high-done (v .laid) im (K .pre) (K .is) (K .at) c k (floor h) (omega arith) e
                 (omega (arith, v .own, v .whole)) (sym L)
             (omega (arith, vacant-long v, v .whole)));
         tail = clear-ff (length (v .free)) (omega (arith, vacant-long v, v .whole));
@@ -134,15 +132,13 @@ module _ {im : Image} {h S : ℕ} {es : List Entry} (g : length im % 4096 ≡ 0)
       let c : ℕ = ceiling S - S in
       let k : ℕ = (N - ceiling S) / 4096 in
       let K : Hole im h S false es seg-none (v .below) (v .free) = hole-of (v .laid) in
-      let e : take c (v .free) ≡ blanks c = sym (take-take c (v .m) (v .free) (omega (arith, v .own))) ∙ ap (take c) (v .ff)
-          ∙ take-blanks c (v .m) (omega (arith, v .own)) in
-      
+      let e : take c (v .free) ≡ blanks c = ap (take c) (vacant-free v)
+          ∙ take-blanks c (v .m) (drop (v .m) (v .free)) (omega (arith, v .own)) in
       let low : List Step = mend-steps im (floor h) 0 (floor h) in
       let high : List Step = mend-steps im N (ceiling S) N in
       let d : Laid (run im low) h S false es seg-none (blanks (floor h)) (v .free) = low-done (v .laid) (floor h) refl in
       let is : im ≡ K .pre ++ (v .free ++ hole-of d .post) = K .is
           ∙ ap (λ (l : List ℕ). K .pre ++ (v .free ++ l)) (post-none (v .laid) ∙ sym (post-none d)) in
-      
       let ss : map erase (keep (dirty im) (sectors 0 (floor h) ++ sectors (ceiling S) N)) ≡ low ++ high =
       ap (map erase) (keep-append (dirty im) (sectors 0 (floor h)) (sectors (ceiling S) N))
           ∙ map-append erase (keep (dirty im) (sectors 0 (floor h))) (keep (dirty im) (sectors (ceiling S) N)) in
@@ -153,7 +149,7 @@ module _ {im : Image} {h S : ℕ} {es : List Entry} (g : length im % 4096 ≡ 0)
         F = length (v .free);
         t = false;
         laid =
-            high-done d im (K .pre) is (K .at) c k N (omega arith) (omega (arith, v .own, v .whole)) e (omega (arith, v .own, v .whole)) (sym L)
+            high-done d im (K .pre) is (K .at) c k N (omega arith) e (omega (arith, v .own, v .whole)) (sym L)
                 (omega (arith, vacant-long v, v .whole));
         tail = clear-ff (length (v .free)) (omega (arith, vacant-long v, v .whole));
       })
@@ -216,7 +212,7 @@ repair-laid {im} {h} {S} {t} {es} {below} {free} g d e b = go e
   where
     full : free ≡ [] → (t ≡ false → floor h ≡ 0) → Repaired im h S t es
     full f z =
-        let none : [] ≡ erase-steps im (place im h S t) = sym (full-steps t d f (good-mod (length im) g) z) in
+        let none : [] ≡ erase-steps im (place im h S t) = sym (full-steps t d f (good-is (length im) g .0) z) in
         record {
           safe =
               subst (λ (ss : List Step). Safe (Vacates (length im) h S t es) im ss) none (record {
@@ -245,8 +241,8 @@ repair-laid {im} {h} {S} {t} {es} {below} {free} g d e b = go e
                 blank = vacant-blank (w .vac);
               }) im
               (erase-steps im (place im h S t))
-              (erase-safe g (record { len = refl; vac = v; ends = sym (limit-is (v .laid)) }));
-          bare = vacant-bare (good-mod (length im) g) t v;
+              (erase-safe (record { len = refl; vac = v; ends = sym (limit-is (v .laid)) }));
+          bare = vacant-bare (good-is (length im) g .0) t v;
         }
     go (tail-floor f t₁ p q) = full f (λ u. let n : _≡_ {A = ℕ} 0 1 = cc in absurd (omega arith))
     go (tail-N f t₁ z p q) = full f (λ u. z)

@@ -1,4 +1,4 @@
--- Every laid image is read: the head is found, and the chain from it gives the records.
+-- Every laid image is read: the head is found, the chain from it gives the records, and the free run is as the rules ask.
 use Prim.Native.Nat.{ℕ, suc, _+_, _≤_}
 use native.Mathlib.Omega.{arith}
 use mathlib.Core.Path.{_≡_, refl, sym, ap, ap₂, _∙_, subst}
@@ -17,19 +17,19 @@ use Rattle.spec.specs.Record.{Rec, Entry, clean-here}
 use Rattle.spec.specs.Head.{head}
 use Rattle.spec.specs.Chain.{chain, read, reading-from}
 use Rattle.spec.specs.Reading.{blank-part, free-blank, tail-blank, free-ok, reading}
-use Rattle.history.specs.Lay.{blanks, lay, rsize, sizes, entries-of, Low, low-record, low-start, low-clean, All-fine}
-use Rattle.history.specs.Last.{Ends, stops-clear, stops-over, blank-blanks}
+use Rattle.history.specs.Lists.{each-right, not-both, cons-rest, cons-first}
+use Rattle.history.specs.Blanks.{blanks, blank-blanks}
+use Rattle.history.specs.Store.{Unmarked}
+use Rattle.history.specs.Lay.{lay, rsize, sizes, entries-of, Low, low-record, low-start, low-clean, All-fine, chain-of}
+use Rattle.history.specs.Last.{Ends, stops-clear, stops-over}
 use Rattle.history.specs.Walk.{Walks, walks-record, walks-clean, Walked}
-use Rattle.history.specs.Shape.{chain-of, shape-full, shape-last, low-clear}
 use Rattle.history.specs.Seg.{Seg, seg-none, seg-torn, seg-cut, seg-held, seg-onto, seg-size, seg-entries, seg-open, seg-ends}
+use Rattle.history.specs.Shape.{shape-full, shape-last, low-clear}
+use Rattle.history.specs.Legal.{Ruled, reading-by}
 use Rattle.history.specs.Straight.{Straight, bottom, straight-clean, straight-none, straight-reading}
 use Rattle.history.specs.Turned.{Opens, opens-ff, opens-none, turned-start, turned-clean, turned-reading}
-use Rattle.history.specs.Legal.{Ruled, reading-by}
-use Rattle.history.specs.Whole.{started, gap-part, free-part, free₁, below, here, is-clean-0, is-clean-A0}
-use Rattle.history.specs.Laid.{Laid, laid-straight, laid-turned, Tail, tail-clear, tail-floor, tail-N, tail-turn}
-use Rattle.history.specs.Lists.{each-right, not-both, cons-rest, cons-first}
-use Rattle.history.specs.Store.{Unmarked}
-use Rattle.history.specs.Kinds.{place}
+use Rattle.history.specs.Whole.{started, gap-part, free-part, turned-free-part, below, here, is-clean-0, is-clean-A0}
+use Rattle.history.specs.Laid.{Laid, laid-straight, laid-turned, Tail, tail-clear, tail-floor, tail-N, tail-turn, place}
 
 -- ---- small things
 
@@ -45,7 +45,7 @@ open-or (seg-cut d n f) m = refl
 open-or (seg-held n c f) m = refl
 
 -- a plain record's low byte
-pub low-plain : {b : ℕ} → Low b → (is-start b || is-clean b) ≡ false → b ≡ 165
+pub low-plain : {b : ℕ} → Low b → (is-start b || is-clean b) ≡ false → b ≡ 0xA5
 unfolding is-start is-clean
 low-plain low-record h = refl
 low-plain low-start h = absurd (let z : _≡_ {A = ℕ} 0 1 = cc in omega arith)
@@ -132,10 +132,10 @@ clean-first [] free rest x o n f m = go o n
 
 clean-found :
     {im : Image} {h S : ℕ} {t : Bool} {x : Entry} {es : List Entry} {under free : List ℕ} → Laid im h S t (x ∷ es) seg-none under free
-        → x .it .low ≡ 160 → Each Unmarked es → head im ≡ give h
+        → x .it .low ≡ 0xA0 → Each Unmarked es → head im ≡ give h
 clean-found {im = im} {h = h} (laid-straight {x = y} {ys = ys} f s et eS ee lf qf) l m = go (eqb h 0) refl
   where
-    low : y .low ≡ 160
+    low : y .low ≡ 0xA0
     low = first-low ee l
 
     go : (b : Bool) → eqb h 0 ≡ b → head im ≡ give h
@@ -197,7 +197,7 @@ free-is {im} {h} {S} {T} B F {t} {u} {es} {seg} (laid-straight {x = x} {ys = ys}
 free-is {im} {h} {S} {T} B F {t} {u} {es} {seg} (laid-turned {low = low} s et eS ee eb) e =
     let k = tail-turned et e in
     placed im h (k .0 ∙ ap (λ (n : ℕ). n + seg-size seg) eS) (k .1)
-    (round-blank im h (sizes low + seg-size seg) (blank-below F (part (sizes low + seg-size seg) (floor h) im) (free₁ s)))
+    (round-blank im h (sizes low + seg-size seg) (blank-below F (part (sizes low + seg-size seg) (floor h) im) (turned-free-part s)))
 
 -- head START, the free run FF
 pub start-reads :
@@ -212,7 +212,7 @@ start-reads {im} {h} {S} {T} B F {t} {u} {x} {es} {seg} d e l r =
 -- head CLEAN, T's own sector FF
 pub clean-reads :
     {im : Image} {h S T : ℕ} {t u : Bool} {x : Entry} {es : List Entry} {under free : List ℕ} → Laid im h S t (x ∷ es) seg-none under free →
-    Tail h S t seg-none under free T u → tail-blank im (place im h T u) ≡ true → x .it .low ≡ 160 → Each Unmarked es → Ruled (x ∷ es) →
+    Tail h S t seg-none under free T u → tail-blank im (place im h T u) ≡ true → x .it .low ≡ 0xA0 → Each Unmarked es → Ruled (x ∷ es) →
     reading im ≡ give (read (length im) h T u (x ∷ es) Ending.Tail)
 unfolding free-ok
 clean-reads {im} {h} {S} {T} {t} {u} {x} {es} d e b l m r =

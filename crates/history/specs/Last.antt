@@ -1,20 +1,22 @@
--- What can stand last in a chain: eight FF, the end of the stretch, a marker, a torn wrap, and the unfinished records.
-use Prim.Native.Nat.{ℕ, zero, suc, _+_, _≤_}
+-- Document 01's "Last thing in the chain", as bytes, and the chain over it: eight FF, the end of the stretch, a wrap marker, a torn wrap,
+-- and the unfinished records: torn, or reserved with its name cut or with its data cut.
+use Prim.Native.Nat.{ℕ, suc, _+_}
 use native.Mathlib.Omega.{arith}
-use native.Mathlib.Nat.{le-of-suc-le-suc, not-suc-le-zero}
 use mathlib.Core.Path.{_≡_, refl, sym, ap, _∙_}
 use mathlib.Core.Bool.{Bool, true, false}
 use mathlib.Core.List.{List, [], _∷_, _++_}
-use lib.ListN.{length, take, drop, replicate, length-append, length-replicate}
+use lib.ListN.{length, drop, length-append, length-replicate}
 use lib.Seq.{drop-drop, take-append-seam}
 use Rattle.spec.specs.declared.Next.{Next}
 use Rattle.spec.specs.Basics.{long, blank}
 use Rattle.spec.specs.Geometry.{up8}
-use Rattle.spec.specs.Bytes.{is-record, is-wrap, is-start, is-clean, is-high, is-high-begun, is-erased, is-reserved, is-wrapped, is-unfinished, is-spare, is-name-begun, ends-name}
+use Rattle.spec.specs.Bytes.{is-record, is-wrap, is-start, is-clean, is-high, is-high-begun, is-erased, is-reserved, is-wrapped, is-unfinished}
+use Rattle.spec.specs.Bytes.{is-spare, is-name-begun, ends-name}
 use Rattle.spec.specs.Record.{status-of, size-of, Rec, rec-of}
 use Rattle.spec.specs.Next.{kind, record-at, torn-at, torn-wrap-at, clear-at, next-at, next}
 use Rattle.spec.specs.Chain.{Chain, add, stop, chain}
-use Rattle.history.specs.Lay.{blanks, pad, lens, onto, Fit, record-at-laid, record-at-onto, drop-past, drop-fill, drop-onto, rec-of-onto, chain-record}
+use Rattle.history.specs.Blanks.{blanks, blank-blanks, drop-blanks, take-blanks}
+use Rattle.history.specs.Lay.{pad, lens, onto, Fit, record-at-laid, record-at-onto, drop-past, drop-onto, rec-of-onto, chain-record}
 
 -- ---- the ends
 
@@ -38,29 +40,23 @@ unfolding chain next long
 stops-over at true k = refl
 stops-over at false k = refl
 
--- a wrap marker
+-- a wrap marker: magic 5AFA, status F0
 abbrev pub wrap : List ℕ → List ℕ
-wrap s = 250 ∷ 90 ∷ 240 ∷ 255 ∷ 255 ∷ 255 ∷ 255 ∷ 255 ∷ s
+wrap s = 0xFA ∷ 0x5A ∷ 0xF0 ∷ 0xFF ∷ 0xFF ∷ 0xFF ∷ 0xFF ∷ 0xFF ∷ s
 
 -- the chain ends at a wrap marker
 pub ends-wrap : (at : ℕ) (s : List ℕ) → Ends at (wrap s) (stop false at Next.Wrap)
 unfolding chain next next-at long kind is-record is-wrap is-start is-clean is-high is-high-begun is-erased is-wrapped is-spare
 ends-wrap at s k = refl
 
--- FF is blank
-pub blank-blanks : (k : ℕ) → blank (blanks k) ≡ true
-unfolding blank
-blank-blanks zero = refl
-blank-blanks (suc k) = blank-blanks k
-
--- the second byte, before it is written and after
+-- the second byte of a magic, before it is written and after: "FF or 5A"
 pub data Begun : ℕ → Type 0 where
-  begun-ff : Begun 255
-  begun-5a : Begun 90
+  begun-ff : Begun 0xFF
+  begun-5a : Begun 0x5A
 
--- a wrap marker that was begun, c its second byte
+-- document 01's torn wrap: a wrap marker that was begun, c its second byte, then FF up to N
 abbrev pub torn-wrap : ℕ → ℕ → List ℕ
-torn-wrap c k = 250 ∷ c ∷ 255 ∷ 255 ∷ 255 ∷ 255 ∷ 255 ∷ 255 ∷ blanks k
+torn-wrap c k = 0xFA ∷ c ∷ 0xFF ∷ 0xFF ∷ 0xFF ∷ 0xFF ∷ 0xFF ∷ 0xFF ∷ blanks k
 
 torn-wrap-blank : (c k : ℕ) → torn-wrap-at (torn-wrap c k) ≡ Next.TornWrap
 unfolding torn-wrap-at blank
@@ -68,8 +64,8 @@ torn-wrap-blank c k = rw (blank-blanks k, torn-wrap-at)
 
 next-torn-wrap : {c : ℕ} (k : ℕ) → Begun c → next (torn-wrap c k) ≡ Next.TornWrap
 unfolding next next-at long kind is-record is-wrap is-start is-clean is-high is-high-begun is-erased is-wrapped is-spare
-next-torn-wrap k begun-ff = torn-wrap-blank 255 k
-next-torn-wrap k begun-5a = torn-wrap-blank 90 k
+next-torn-wrap k begun-ff = torn-wrap-blank 0xFF k
+next-torn-wrap k begun-5a = torn-wrap-blank 0x5A k
 
 chain-torn-wrap : (k at : ℕ) (s : List ℕ) → next s ≡ Next.TornWrap → chain (suc k) false at s ≡ stop false at Next.TornWrap
 unfolding chain
@@ -87,17 +83,18 @@ ends-held : {c : Chain} (at n d : ℕ) (s t : List ℕ) (r : Rec) → next s ≡
     ((k : ℕ) → chain (suc k) true (at + size-of n d) t ≡ c) → Ends at s (add (record { at = at; it = r }) c)
 ends-held at n d s t r e u f g h k = chain-record (suc k) at n d s e ∙ rw (u, f, g) (ap (add (record { at = at; it = r })) (h k))
 
--- torn: A5, then FF or 5A, any length bytes, 00 or FF
+-- byte 8 of a torn record: "FF or 00"
 pub data Name-begun : ℕ → Type 0 where
-  begun-none : Name-begun 255
+  begun-none : Name-begun 0xFF
   begun-end : Name-begun 0
 
+-- document 01's torn record: A5, the second byte c, status FF, the length bytes l, byte 8 t; it counts 16 bytes
 abbrev pub torn : ℕ → List ℕ → ℕ → List ℕ → List ℕ
-torn c l t s = 165 ∷ c ∷ 255 ∷ 255 ∷ (l ++ (t ∷ (blanks 7 ++ s)))
+torn c l t s = 0xA5 ∷ c ∷ 0xFF ∷ 0xFF ∷ (l ++ (t ∷ (blanks 7 ++ s)))
 
 -- as it is read
 abbrev pub torn-rec : Rec
-torn-rec = record { low = 165; status = 255; name = []; content = [] }
+torn-rec = record { low = 0xA5; status = 0xFF; name = []; content = [] }
 
 next-torn : {c t : ℕ} (x y z w : ℕ) (s : List ℕ) → Begun c → Name-begun t → next (torn c (x ∷ y ∷ z ∷ w ∷ []) t s) ≡ Next.Record 0 0
 unfolding next next-at long kind torn-at is-record is-wrap is-high is-high-begun is-erased is-name-begun is-spare
@@ -106,7 +103,7 @@ next-torn x y z w s begun-ff begun-end = refl
 next-torn x y z w s begun-5a begun-none = refl
 next-torn x y z w s begun-5a begun-end = refl
 
-unfinished-ff : is-unfinished 255 ≡ true
+unfinished-ff : is-unfinished 0xFF ≡ true
 unfolding is-unfinished is-erased
 unfinished-ff = refl
 
@@ -116,19 +113,19 @@ pub ends-torn : {c t : ℕ} {d : Chain} (at x y z w : ℕ) (s : List ℕ) → Be
 ends-torn {c} {t} at x y z w s b n e =
     ends-held at 0 0 (torn c (x ∷ y ∷ z ∷ w ∷ []) t s) s torn-rec (next-torn x y z w s b n) unfinished-ff refl refl e
 
--- reserved
+-- document 01's reserved record, status FE
 next-reserved : (x y z w : ℕ) (s : List ℕ)
-    → next (165 ∷ 90 ∷ 254 ∷ 255 ∷ x ∷ y ∷ z ∷ w ∷ s) ≡ record-at true (165 ∷ 90 ∷ 254 ∷ 255 ∷ x ∷ y ∷ z ∷ w ∷ s)
+    → next (0xA5 ∷ 0x5A ∷ 0xFE ∷ 0xFF ∷ x ∷ y ∷ z ∷ w ∷ s) ≡ record-at true (0xA5 ∷ 0x5A ∷ 0xFE ∷ 0xFF ∷ x ∷ y ∷ z ∷ w ∷ s)
 unfolding next long kind next-at is-record is-wrap is-start is-clean is-high is-erased is-reserved is-spare
 next-reserved x y z w s = refl
 
-unfinished-fe : is-unfinished 254 ≡ true
+unfinished-fe : is-unfinished 0xFE ≡ true
 unfolding is-unfinished is-erased is-reserved
 unfinished-fe = refl
 
 -- reserved, with the whole name and as much data as there is
 abbrev pub held : List ℕ → List ℕ → Rec
-held n c = record { low = 165; status = 254; name = n; content = c }
+held n c = record { low = 0xA5; status = 0xFE; name = n; content = c }
 
 -- the chain over a record that was not committed
 pub ends-whole : {d : Chain} (at : ℕ) (n c s : List ℕ) → Fit (length c) n → ((k : ℕ) → chain (suc k) true (at + size-of (length n) (length c)) s ≡ d)
@@ -141,45 +138,40 @@ ends-whole at n c s f e =
 
 -- reserved, with a cut name, and as many FF as make its size
 abbrev pub begun : ℕ → List ℕ → List ℕ → List ℕ
-begun d n s = 165 ∷ 90 ∷ 254 ∷ 255 ∷ lens d (n ++ (255 ∷ (blanks (pad (length n + 1)) ++ (blanks (up8 d) ++ s))))
+begun d n s = 0xA5 ∷ 0x5A ∷ 0xFE ∷ 0xFF ∷ lens d (n ++ (0xFF ∷ (blanks (pad (length n + 1)) ++ (blanks (up8 d) ++ s))))
 
-ends-ff : ends-name true 255 ≡ true
+ends-ff : ends-name true 0xFF ≡ true
 unfolding ends-name
 ends-ff = refl
 
 -- a record whose name was not ended, read as the last one
 pub record-at-begun : (d : ℕ) (n s : List ℕ) → Fit d n → record-at true (begun d n s) ≡ Next.Record (length n) d
 record-at-begun d n s f =
-    record-at-laid true 165 90 254 255 255 d n (blanks (pad (length n + 1)) ++ (blanks (up8 d) ++ s)) f ends-ff
+    record-at-laid true 0xA5 0x5A 0xFE 0xFF 0xFF d n (blanks (pad (length n + 1)) ++ (blanks (up8 d) ++ s)) f ends-ff
     (simp (length-append, length-replicate) (omega arith))
 
 -- as it is read
 abbrev pub cut-rec : ℕ → List ℕ → Rec
-cut-rec d n = record { low = 165; status = 254; name = n; content = blanks d }
+cut-rec d n = record { low = 0xA5; status = 0xFE; name = n; content = blanks d }
 
 -- what follows it
 pub drop-begun : (d : ℕ) (n s : List ℕ) → drop (size-of (length n) d) (begun d n s) ≡ s
 drop-begun d n s =
     sym (drop-drop (up8 d) (8 + up8 (length n + 1)) (begun d n s))
     ∙ ap (drop (up8 d)) (sym (drop-drop (up8 (length n + 1)) 8 (begun d n s)) ∙ cut-name d n s)
-    ∙ drop-fill (up8 d) 255 s
+    ∙ drop-blanks (up8 d) s
   where
     cut-name : (d : ℕ) (n s : List ℕ) → drop (up8 (length n + 1)) (drop 8 (begun d n s)) ≡ blanks (up8 d) ++ s
     cut-name d n s =
-        drop-past n _ (up8 (length n + 1)) (suc (pad (length n + 1))) (omega arith) ∙ drop-fill (pad (length n + 1)) 255 (blanks (up8 d) ++ s)
-
-take-fill : (k m b : ℕ) (s : List ℕ) → k ≤ m → take k (replicate m b ++ s) ≡ replicate k b
-take-fill zero m b s h = refl
-take-fill (suc k) zero b s h = absurd (not-suc-le-zero h)
-take-fill (suc k) (suc m) b s h = ap (λ (l : List ℕ). b ∷ l) (take-fill k m b s (le-of-suc-le-suc h))
+        drop-past n _ (up8 (length n + 1)) (suc (pad (length n + 1))) (omega arith) ∙ drop-blanks (pad (length n + 1)) (blanks (up8 d) ++ s)
 
 rec-of-begun : (d : ℕ) (n s : List ℕ) → rec-of (begun d n s) (length n) d ≡ cut-rec d n
 rec-of-begun d n s =
     rw (
-      drop-past n (255 ∷ (blanks (pad (length n + 1)) ++ (blanks (up8 d) ++ s))) (up8 (length n + 1)) (suc (pad (length n + 1))) (omega arith),
-      drop-fill (pad (length n + 1)) 255 (blanks (up8 d) ++ s),
+      drop-past n (0xFF ∷ (blanks (pad (length n + 1)) ++ (blanks (up8 d) ++ s))) (up8 (length n + 1)) (suc (pad (length n + 1))) (omega arith),
+      drop-blanks (pad (length n + 1)) (blanks (up8 d) ++ s),
       take-append-seam n,
-      take-fill d (up8 d) 255 s (omega arith),
+      take-blanks d (up8 d) s (omega arith),
     )
 
 -- the chain over it

@@ -1,8 +1,10 @@
 -- The live files of the entries are the files of the ledger, in some order (Matches), and what keeps it so.
-use Prim.Native.Nat.{ℕ}
+use Prim.Native.Nat.{ℕ, suc}
 use mathlib.Core.Path.{_≡_, refl, sym, ap, _∙_, subst}
 use mathlib.Core.Bool.{Bool, true, false, not}
 use mathlib.Core.List.{List, [], _∷_, _++_, map, List·Permᴰ, List·Permᴰ·nil, List·Permᴰ·cons, List·Permᴰ·swap, List·Permᴰ·trans, Permᴰ·refl}
+use mathlib.Core.List.{map-append}
+use lib.ListN.{length}
 use Rattle.spec.specs.Basics.{same, keep, Each}
 use Rattle.spec.specs.Record.{Entry, name-of, content-of}
 use Rattle.spec.specs.History.{File, Ledger, not-named, without}
@@ -52,6 +54,20 @@ module _ {A : Type 0} where
           (subst (λ (z : A). List·Permᴰ (keep p (x ∷ y ∷ l)) (keep p (y ∷ z ∷ l))) e (keep-swap p x y l))
   perm-keep p (List·Permᴰ·trans d e) = List·Permᴰ·trans (perm-keep p d) (perm-keep p e)
 
+  -- what holds of each, in another order
+  pub perm-each : (P : A → Type 0) {xs ys : List A} → List·Permᴰ xs ys → Each P xs → Each P ys
+  perm-each P List·Permᴰ·nil h = tt
+  perm-each P (List·Permᴰ·cons e d) h = (subst P e (h .0), perm-each P d (h .1))
+  perm-each P (List·Permᴰ·swap e f) h = (subst P f (h .1 .0), (subst P e (h .0), h .1 .1))
+  perm-each P (List·Permᴰ·trans d e) h = perm-each P e (perm-each P d h)
+
+  -- as many
+  pub perm-length : {xs ys : List A} → List·Permᴰ xs ys → length xs ≡ length ys
+  perm-length List·Permᴰ·nil = refl
+  perm-length (List·Permᴰ·cons e d) = ap suc (perm-length d)
+  perm-length (List·Permᴰ·swap e f) = refl
+  perm-length (List·Permᴰ·trans d e) = perm-length d ∙ perm-length e
+
 -- nothing to take away
 pub keep-contents : (n : List ℕ) (es : List Entry) → Absent n es → without n (contents es) ≡ contents es
 keep-contents n [] h = refl
@@ -63,13 +79,9 @@ keep-contents n (e ∷ es) h = go (alive e) refl (keep-contents n es (h .1))
         (keep-yes (not-named n) (as-file e) (contents es) (ap not (h .0 k)) ∙ ap (λ (l : List File). as-file e ∷ l) i)
     go false k i = rw (keep-no alive e es k) i
 
-map-append : (xs ys : List Entry) → map as-file (xs ++ ys) ≡ map as-file xs ++ map as-file ys
-map-append [] ys = refl
-map-append (x ∷ xs) ys = ap (λ (l : List File). as-file x ∷ l) (map-append xs ys)
-
 -- two lists of entries
 pub contents-append : (xs ys : List Entry) → contents (xs ++ ys) ≡ contents xs ++ contents ys
-contents-append xs ys = ap (map as-file) (keep-append alive xs ys) ∙ map-append (keep alive xs) (keep alive ys)
+contents-append xs ys = ap (map as-file) (keep-append alive xs ys) ∙ map-append as-file (keep alive xs) (keep alive ys)
 
 -- one live entry
 pub contents-one : (e : Entry) → alive e ≡ true → contents (e ∷ []) ≡ as-file e ∷ []

@@ -1,4 +1,4 @@
--- From a head and a chain to the reading: the rules on the entries as facts (Ruled), and the rule on the free run.
+-- From a head and a chain to the reading: document 01's rules on the entries as facts (Ruled), and its rule on the free run.
 use Prim.Native.Nat.{ℕ, _+_}
 use native.Mathlib.Omega.{arith}
 use native.Mathlib.Nat.{add-zero}

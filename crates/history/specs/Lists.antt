@@ -1,16 +1,17 @@
--- Lists and tests: any, all, keep and first-such over facts on each element (Each), on each pair (Pairwise), and with one element more.
+-- Laws of lists and tests that know nothing of flash: any, all, keep and first-such over facts on each element (Each),
+-- on each pair (Pairwise), and with one element more or less.
+use Prim.Native.Nat.{ℕ}
+use native.Mathlib.Omega.{arith}
 use mathlib.Core.Path.{_≡_, refl, sym, ap, _∙_}
 use mathlib.Core.Bool.{Bool, true, false, _&&_, _||_}
 use mathlib.Core.Option.{some}
 use mathlib.Core.List.{List, [], _∷_, _++_}
-use Rattle.spec.specs.Basics.{any, all, keep, first-such, Each}
-use Prim.Native.Nat.{ℕ}
-use native.Mathlib.Omega.{arith}
 use lib.ListN.{length}
+use Rattle.spec.specs.Basics.{any, all, keep, first-such, Each}
 
 -- ---- tests
 
--- a test does not come out both ways
+-- a test does not come out both ways; cc finds an equation of numbers from contradictory facts, hence 0 ≡ 1
 pub not-both : (b : Bool) → b ≡ false → b ≡ true → ⊥
 not-both b p q = let z : _≡_ {A = ℕ} 0 1 = cc in omega arith
 
@@ -110,7 +111,12 @@ module _ {A : Type 0} where
   pairwise-end S [] y p e = (tt, tt)
   pairwise-end S (x ∷ xs) y p e = (each-end (S x) xs y (p .0) (e .0), pairwise-end S xs y (p .1) (e .1))
 
-  -- two lists
+  -- from one relation to another
+  pub pairwise-map : (S R : A → A → Type 0) (xs : List A) → ((x y : A) → S x y → R x y) → Pairwise S xs → Pairwise R xs
+  pairwise-map S R [] f h = tt
+  pairwise-map S R (x ∷ xs) f h = (each-map xs (λ y s. f x y s) (h .0), pairwise-map S R xs f (h .1))
+
+  -- what is kept of two lists
   pub keep-append : (p : A → Bool) (xs ys : List A) → keep p (xs ++ ys) ≡ keep p xs ++ keep p ys
   keep-append p [] ys = refl
   keep-append p (x ∷ xs) ys = go (p x) refl (keep-append p xs ys)
@@ -140,6 +146,15 @@ module _ {A : Type 0} where
   pub keep-none : (p : A → Bool) (xs : List A) → Each (λ x. p x ≡ false) xs → keep p xs ≡ []
   keep-none p [] h = refl
   keep-none p (x ∷ xs) h = keep-no p x xs (h .0) ∙ keep-none p xs (h .1)
+
+  -- what holds of each that passes holds of those that are kept
+  pub each-keep : (P : A → Type 0) (p : A → Bool) (xs : List A) → Each (λ x. p x ≡ true → P x) xs → Each P (keep p xs)
+  each-keep P p [] h = tt
+  each-keep P p (x ∷ xs) h = go (p x) refl (each-keep P p xs (h .1))
+    where
+      go : (b : Bool) → p x ≡ b → Each P (keep p xs) → Each P (keep p (x ∷ xs))
+      go true e i = rw (keep-yes p x xs e) (h .0 e, i)
+      go false e i = rw (keep-no p x xs e) i
 
   -- what holds of all
   pub each-all : (P : A → Type 0) → ((x : A) → P x) → (xs : List A) → Each P xs
@@ -171,22 +186,22 @@ module _ {A : Type 0} where
   each-without P [] ys e h = h .1
   each-without P (x ∷ xs) ys e h = (h .0, each-without P xs ys e (h .1))
 
-  -- of one
+  -- what holds of each holds of the one
   pub each-at : (P : A → Type 0) (xs ys : List A) (e : A) → Each P (xs ++ (e ∷ ys)) → P e
   each-at P [] ys e h = h .0
   each-at P (x ∷ xs) ys e h = each-at P xs ys e (h .1)
 
-  -- of two lists
+  -- of each in two lists
   pub each-append : (P : A → Type 0) (xs ys : List A) → Each P xs → Each P ys → Each P (xs ++ ys)
   each-append P [] ys p q = q
   each-append P (x ∷ xs) ys p q = (p .0, each-append P xs ys (p .1) q)
 
-  -- of the first list
+  -- so of each in the first
   pub each-left : (P : A → Type 0) (xs ys : List A) → Each P (xs ++ ys) → Each P xs
   each-left P [] ys h = tt
   each-left P (x ∷ xs) ys h = (h .0, each-left P xs ys (h .1))
 
-  -- of the second
+  -- and of each in the second
   pub each-right : (P : A → Type 0) (xs ys : List A) → Each P (xs ++ ys) → Each P ys
   each-right P [] ys h = h
   each-right P (x ∷ xs) ys h = each-right P xs ys (h .1)
@@ -196,11 +211,12 @@ module _ {A : Type 0} where
   pairwise-without S [] ys e h = h .1
   pairwise-without S (x ∷ xs) ys e h = (each-without (S x) xs ys e (h .0), pairwise-without S xs ys e (h .1))
 
-  -- e against those before it, and against those behind it
+  -- each before e stands so to e
   pub pairwise-before : (S : A → A → Type 0) (xs ys : List A) (e : A) → Pairwise S (xs ++ (e ∷ ys)) → Each (λ x. S x e) xs
   pairwise-before S [] ys e h = tt
   pairwise-before S (x ∷ xs) ys e h = (each-at (S x) xs ys e (h .0), pairwise-before S xs ys e (h .1))
 
+  -- and e to each behind it
   pub pairwise-behind : (S : A → A → Type 0) (xs ys : List A) (e : A) → Pairwise S (xs ++ (e ∷ ys)) → Each (S e) ys
   pairwise-behind S [] ys e h = h .0
   pairwise-behind S (x ∷ xs) ys e h = pairwise-behind S xs ys e (h .1)
@@ -220,7 +236,7 @@ module _ {A : Type 0} where
       go true k i = rw (k, any)
       go false k i = any-no p x (xs ++ (e ∷ [])) k ∙ i
 
--- steps that are there
+-- a list with an element in it is not empty
 pub some-behind : {A : Type 0} (xs ys : List A) (y : A) → xs ++ (y ∷ ys) ≡ [] → ⊥
 some-behind [] ys y e = let z : _≡_ {A = ℕ} 0 1 = cc in omega arith
 some-behind (x ∷ xs) ys y e = let z : _≡_ {A = ℕ} 0 1 = cc in omega arith
@@ -230,7 +246,7 @@ pub some-append : {A : Type 0} (xs ys : List A) → (ys ≡ [] → ⊥) → xs +
 some-append [] ys n e = n e
 some-append (x ∷ xs) ys n e = let z : _≡_ {A = ℕ} 0 1 = cc in omega arith
 
--- no length, no element
+-- a list without length has no element
 pub none-at : (s : List ℕ) → length s ≡ 0 → s ≡ []
 none-at [] e = refl
 none-at (x ∷ s) e = absurd (omega arith)

@@ -1,4 +1,5 @@
--- Mount on every kind of image, cut anywhere; run to its end it leaves a rested image. And whether an image is settled.
+-- Mount on every kind of image, cut anywhere; run to its end it leaves a rested image. And every image is rested, or every call but mount
+-- refuses it as not settled.
 use mathlib.Core.Path.{_≡_, refl, ap}
 use mathlib.Core.Bool.{true, false}
 use mathlib.Core.List.{List, [], _∷_}
@@ -9,15 +10,15 @@ use Rattle.spec.specs.Reading.{reading}
 use Rattle.spec.specs.Mount.{mended, settled}
 use Rattle.spec.specs.Answers.{if-settled, settled-reading}
 use Rattle.spec.specs.History.{Ledger}
+use Rattle.history.specs.Lists.{not-both}
 use Rattle.history.specs.Seg.{Seg, seg-none, seg-torn, seg-cut, seg-held, seg-open}
 use Rattle.history.specs.Kinds.{Kind, quiet, half, shadow, clean, both, vacated, Inv, Rested}
-use Rattle.history.specs.Idle.{Needs, needs-none, needs-some, Mends}
 use Rattle.history.specs.Vacant.{tail-here, rested-of}
+use Rattle.history.specs.Mending.{Needs, needs-none, needs-some, Mends}
 use Rattle.history.specs.Resting.{mends-quiet, mends-clean, mends-both, mends-vacated}
 use Rattle.history.specs.Unshadow.{mends-shadow}
 use Rattle.history.specs.VoidMount.{mends-void}
 use Rattle.history.specs.HalfMount.{mends-half}
-use Rattle.history.specs.Lists.{not-both}
 
 open-some : (g : Seg) → seg-open g ≡ true → g ≡ seg-none → ⊥
 open-some g o e = not-both (seg-open g) (ap seg-open e) o

@@ -1,19 +1,22 @@
--- What a change of one record does to the live files, on lists of records alone.
+-- What a change of one record does to the live files (Ok): a file added, replaced, removed, or left as it is. On lists of records alone.
 use Prim.Native.Nat.{ℕ}
 use mathlib.Core.Path.{_≡_, refl, sym, ap, ap₂, _∙_, subst}
 use mathlib.Core.Bool.{Bool, true, false, not}
 use mathlib.Core.Option.{Option, none, some}
-use mathlib.Core.List.{List, [], _∷_, _++_, map, append-nil, append-assoc, List·Permᴰ, List·Permᴰ·cons, List·Permᴰ·trans, Permᴰ·symm, Permᴰ·middle, Permᴰ·append-nil}
+use mathlib.Core.List.{List, [], _∷_, _++_, map, append-nil, append-assoc, List·Permᴰ, List·Permᴰ·cons, List·Permᴰ·trans, Permᴰ·symm, Permᴰ·middle}
+use mathlib.Core.List.{Permᴰ·append-nil}
 use lib.Dec.{eqb}
 use borrow.Author.Tests.{eqb-true, eq-eqb}
 use Rattle.spec.specs.Basics.{same, keep, first-such}
 use Rattle.spec.specs.Record.{name-ok, Entry, name-of, content-of}
 use Rattle.spec.specs.Files.{named, named-as, has-named, has-name, file-named}
 use Rattle.spec.specs.History.{File, Ledger, not-named, without, with-file}
-use Rattle.history.specs.Lists.{keep-no, keep-yes, each-map, each-end, each-swap, each-insert, each-without, each-at, each-append, each-all, pairwise-end, pairwise-without, pairwise-before, pairwise-behind, pairwise-insert, any-last, first-yes, first-no, not-both}
+use Rattle.history.specs.Lists.{keep-no, keep-yes, each-map, each-end, each-swap, each-insert, each-without, each-at, each-append, each-all}
+use Rattle.history.specs.Lists.{pairwise-end, pairwise-without, pairwise-before, pairwise-behind, pairwise-insert, any-last, first-yes}
+use Rattle.history.specs.Lists.{first-no, not-both}
 use Rattle.history.specs.Store.{same-sym, alive, Apart, Unique, Well-named, fc-alive, f8-alive, dead-apart, dead-named, files-alive}
-use Rattle.history.specs.Shadow.{Shadowed}
 use Rattle.history.specs.Ledger.{as-file, contents, Matches, Absent, perm-keep, keep-contents, contents-append, contents-one, matches-dead}
+use Rattle.history.specs.Shadow.{Shadowed}
 use Rattle.history.specs.Kinds.{Ok, Bytes, Live-bytes}
 
 -- ---- names
@@ -65,7 +68,6 @@ without-mid xs ys e l u a m =
     let n : List ℕ = name-of e in
     let p : List·Permᴰ (without n (as-file e ∷ contents (xs ++ ys))) (without n l) = perm-keep (not-named n)
         (List·Permᴰ·trans (Permᴰ·symm (contents-front xs ys e a)) m) in
-    
     let q : without n (as-file e ∷ contents (xs ++ ys)) ≡ contents (xs ++ ys) =
     keep-no (not-named n) (as-file e) (contents (xs ++ ys)) (ap not (same-refl n)) ∙ keep-contents n (xs ++ ys) (absent-others xs ys e u a) in
     subst (λ (fs : List File). List·Permᴰ fs (without n l)) q p
@@ -105,42 +107,43 @@ module _ (xs ys : List Entry) (e f : Entry) (l : Ledger) (ok : Ok (xs ++ (e ∷ 
           }) ∙ sym (contents-mid xs ys f (a ∙ k))
       go false k = contents-dead xs ys e k ∙ sym (contents-dead xs ys f (a ∙ k))
 
-  unique-dead : alive f ≡ false → Unique (xs ++ (f ∷ ys))
-  unique-dead b =
-      pairwise-insert Apart xs ys f (pairwise-without Apart xs ys e (ok .unique)) (each-all (λ z. Apart z f) (dead-apart f b) xs)
-          (each-all (Apart f) (apart-dead f b) ys)
+-- a dead record more, anywhere: such is the shadowed record once it is deleted
+pub ok-insert : (xs ys : List Entry) (o : Entry) (l : Ledger) → Ok (xs ++ ys) l → alive o ≡ false → Ok (xs ++ (o ∷ ys)) l
+ok-insert xs ys o l ok a =
+    record {
+      unique = pairwise-insert Apart xs ys o (ok .unique) (each-all (λ z. Apart z o) (dead-apart o a) xs) (each-all (Apart o) (apart-dead o a) ys);
+      well-named = each-insert Well-named xs ys o (ok .well-named) (dead-named o a);
+      bytes = each-insert Live-bytes xs ys o (ok .bytes) (dead-bytes o a);
+      matches = matches-dead xs ys o l a (ok .matches);
+    }
+
+module _ (xs ys : List Entry) (e : Entry) (l : Ledger) (ok : Ok (xs ++ (e ∷ ys)) l) where
+  -- a record less
+  ok-less : (k : Ledger) → Matches (xs ++ ys) k → Ok (xs ++ ys) k
+  ok-less k m =
+      record {
+        unique = pairwise-without Apart xs ys e (ok .unique);
+        well-named = each-without Well-named xs ys e (ok .well-named);
+        bytes = each-without Live-bytes xs ys e (ok .bytes);
+        matches = m;
+      }
+
+  -- a dead record less
+  ok-bury : alive e ≡ false → Ok (xs ++ ys) l
+  ok-bury a = ok-less l (subst (λ (fs : List File). List·Permᴰ fs l) (contents-dead xs ys e a) (ok .matches))
 
   -- a dead record stays dead
-  pub ok-dead : alive e ≡ false → alive f ≡ false → Ok (xs ++ (f ∷ ys)) l
-  ok-dead a b =
-      record {
-        unique = unique-dead b;
-        well-named = each-swap Well-named xs ys e f (ok .well-named) (dead-named f b);
-        bytes = each-swap Live-bytes xs ys e f (ok .bytes) (dead-bytes f b);
-        matches = subst (λ (fs : List File). List·Permᴰ fs l) (contents-dead xs ys e a ∙ sym (contents-dead xs ys f b)) (ok .matches);
-      }
+  pub ok-dead : (f : Entry) → alive e ≡ false → alive f ≡ false → Ok (xs ++ (f ∷ ys)) l
+  ok-dead f a b = ok-insert xs ys f l (ok-bury a) b
 
   -- a file is removed
-  pub ok-delete : alive e ≡ true → alive f ≡ false → Ok (xs ++ (f ∷ ys)) (without (name-of e) l)
-  ok-delete a b =
-      record {
-        unique = unique-dead b;
-        well-named = each-swap Well-named xs ys e f (ok .well-named) (dead-named f b);
-        bytes = each-swap Live-bytes xs ys e f (ok .bytes) (dead-bytes f b);
-        matches =
-            subst (λ (fs : List File). List·Permᴰ fs (without (name-of e) l)) (sym (contents-dead xs ys f b))
-                (without-mid xs ys e l (ok .unique) a (ok .matches));
-      }
+  pub ok-delete : (f : Entry) → alive e ≡ true → alive f ≡ false → Ok (xs ++ (f ∷ ys)) (without (name-of e) l)
+  ok-delete f a b = ok-insert xs ys f (without (name-of e) l)
+      (ok-less (without (name-of e) l) (without-mid xs ys e l (ok .unique) a (ok .matches))) b
 
--- a record more, dead
+-- a dead record more, at the end
 pub ok-add : (es : List Entry) (u : Entry) (l : Ledger) → Ok es l → alive u ≡ false → Ok (es ++ (u ∷ [])) l
-ok-add es u l ok a =
-    record {
-      unique = pairwise-end Apart es u (ok .unique) (each-all (λ z. Apart z u) (dead-apart u a) es);
-      well-named = each-end Well-named es u (ok .well-named) (dead-named u a);
-      bytes = each-end Live-bytes es u (ok .bytes) (dead-bytes u a);
-      matches = matches-dead es [] u l a (subst (λ (m : List Entry). Matches m l) (sym (append-nil es)) (ok .matches));
-    }
+ok-add es u l ok a = ok-insert es [] u l (subst (λ (fs : List Entry). Ok fs l) (sym (append-nil es)) ok) a
 
 -- a file more
 pub ok-new :
@@ -196,25 +199,9 @@ ok-over xs ys o e l ok p q n b = (
                   (without-mid xs ys o l (ok .unique) (f8-alive o p) (ok .matches)));
         }
 
--- the shadowed record is deleted
-pub ok-unshadow : (xs ys : List Entry) (o : Entry) (l : Ledger) → Ok (xs ++ ys) l → alive o ≡ false → Ok (xs ++ (o ∷ ys)) l
-ok-unshadow xs ys o l ok a =
-    record {
-      unique = pairwise-insert Apart xs ys o (ok .unique) (each-all (λ z. Apart z o) (dead-apart o a) xs) (each-all (Apart o) (apart-dead o a) ys);
-      well-named = each-insert Well-named xs ys o (ok .well-named) (dead-named o a);
-      bytes = each-insert Live-bytes xs ys o (ok .bytes) (dead-bytes o a);
-      matches = matches-dead xs ys o l a (ok .matches);
-    }
-
 -- the dead head is left behind
 pub ok-behead : (x : Entry) (es : List Entry) (l : Ledger) → Ok (x ∷ es) l → alive x ≡ false → Ok es l
-ok-behead x es l ok a =
-    record {
-      unique = ok .unique .1;
-      well-named = ok .well-named .1;
-      bytes = ok .bytes .1;
-      matches = subst (λ (fs : List File). List·Permᴰ fs l) (contents-dead [] es x a) (ok .matches);
-    }
+ok-behead x es l ok a = ok-bury [] es x l ok a
 
 -- the ledger in another order
 pub ok-perm : (es : List Entry) (k l : Ledger) → List·Permᴰ k l → Ok es k → Ok es l
@@ -252,7 +239,8 @@ old-first n (e ∷ es) = go (alive e) (same (name-of e) n) refl refl (old-first 
         subst (Old n (e ∷ es)) (sym (ap (first-such (has-name n)) (keep-yes alive e es x) ∙ first-no (has-name n) e (keep alive es) y))
             (old-cons n e es (λ k. y) ih)
     go false b x y ih =
-        subst (Old n (e ∷ es)) (sym (ap (first-such (has-name n)) (keep-no alive e es x))) (old-cons n e es (λ k. absurd (not-both (alive e) x k)) ih)
+        subst (Old n (e ∷ es)) (sym (ap (first-such (has-name n)) (keep-no alive e es x)))
+            (old-cons n e es (λ k. absurd (not-both (alive e) x k)) ih)
 
 -- what the search for a name gives
 pub old-file : (n : List ℕ) (es : List Entry) (l : Ledger) → Ok es l → Old n es (file-named n es)

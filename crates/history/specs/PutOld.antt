@@ -1,4 +1,4 @@
--- The file that put replaces: FC to F8 before the new record is written, and 00 behind its commit.
+-- The file that put replaces: FC to F8 before the new record is written (Migrated), and 00 behind its commit.
 use Prim.Native.Nat.{ℕ, _+_}
 use native.Mathlib.Omega.{arith}
 use mathlib.Core.Path.{_≡_, refl, sym, ap, ap₂, _∙_, subst}
@@ -17,17 +17,18 @@ use Rattle.spec.specs.Files.{named}
 use Rattle.spec.specs.Chain.{Reading, read}
 use Rattle.spec.specs.Demand.{Sound}
 use Rattle.spec.specs.History.{Ledger, with-file}
-use Rattle.history.specs.Lay.{blanks, st-f8, st-00}
-use Rattle.history.specs.Seg.{Seg, seg-none}
 use Rattle.history.specs.Lists.{each-end, each-at, each-swap}
+use Rattle.history.specs.Blanks.{blanks}
 use Rattle.history.specs.Store.{alive, Unmarked, f8-alive}
-use Rattle.history.specs.Put.{file}
+use Rattle.history.specs.Lay.{st-f8, st-00}
 use Rattle.history.specs.Safe.{Safe}
+use Rattle.history.specs.Seg.{Seg, seg-none}
 use Rattle.history.specs.StraightEdit.{restatus}
 use Rattle.history.specs.Laid.{Laid, Tail, Bare}
-use Rattle.history.specs.Kinds.{Bytes, Starts, Ok, quiet, shadow, Inv, Rested}
 use Rattle.history.specs.LaidEdit.{restatus-laid, status-at, entry-inside}
-use Rattle.history.specs.OkLaws.{ok-same, ok-over, ok-unshadow}
+use Rattle.history.specs.Kinds.{Bytes, Starts, Ok, quiet, shadow, Inv, Rested}
+use Rattle.history.specs.OkLaws.{ok-same, ok-over, ok-insert}
+use Rattle.history.specs.Put.{file}
 
 -- ---- the first record is START, the others are plain
 
@@ -63,9 +64,9 @@ f8-by : (e : Entry) → is-committed (e .it .status) ≡ false → alive e ≡ t
 unfolding is-committed alive named
 f8-by e c a = or-other (named 0xFC e) (named 0xF8 e) (ap (λ (b : Bool). b && not (empty (name-of e))) c) a
 
-fc-by : (e : Entry) → is-committed (e .it .status) ≡ true → e .it .status ≡ 252
+fc-by : (e : Entry) → is-committed (e .it .status) ≡ true → e .it .status ≡ 0xFC
 unfolding is-committed
-fc-by e c = eqb-true (e .it .status) 252 c
+fc-by e c = eqb-true (e .it .status) 0xFC c
 
 -- a record deleted
 abbrev pub gone : Entry → Entry
@@ -83,7 +84,7 @@ pub status-sound : {im : Image} {h S : ℕ} {t : Bool} {seg : Seg} {below free :
     Sound im (program (e .at + 2) b)
 status-sound xs ys e d b k = (omega (arith, entry-inside xs ys e d), subst (λ (z : ℕ). bitAnd b z ≡ b) (sym (status-at xs ys e d)) k)
 
--- ---- a quiet image
+-- ---- a bare image whose head is START
 
 -- it is of the invariant
 pub bare-inv : {im : Image} {h : ℕ} {es : List Entry} {l : Ledger} → good-length (length im) ≡ true → Bare h es im → Starts es → Ok es l → Inv l im
@@ -99,10 +100,10 @@ unfolding bare-read
 bare-head r = refl
 
 -- it is rested
-pub bare-quiet : {im : Image} {h : ℕ} {es : List Entry} {l : Ledger} → good-length (length im) ≡ true → (r : Bare h es im) → Starts es → Ok es l
+pub bare-rested : {im : Image} {h : ℕ} {es : List Entry} {l : Ledger} → good-length (length im) ≡ true → (r : Bare h es im) → Starts es → Ok es l
     → Rested l im (bare-read r)
 unfolding bare-read
-bare-quiet {im} {h} {es} g r st ok =
+bare-rested {im} {h} {es} g r st ok =
     record { good = g; h = h; S = r .S; B = r .B; F = r .F; t = r .t; es = es; laid = r .laid; tail = r .tail; starts = st; ok = ok; is = refl }
 
 -- ---- FC to F8
@@ -131,17 +132,17 @@ module _ {im : Image} {h S : ℕ} {t : Bool} (B F : ℕ) (xs ys : List Entry) (e
 
   -- it was FC: one step
   pub migrates : is-committed (e .it .status) ≡ true → empty (name-of e) ≡ false →
-      Migrated l im h S t B F xs ys e (record { at = e .at; it = restatus 248 (e .it) }) (program (e .at + 2) 248 ∷ [])
+      Migrated l im h S t B F xs ys e (record { at = e .at; it = restatus 0xF8 (e .it) }) (program (e .at + 2) 0xF8 ∷ [])
   migrates c n =
-      let o : Entry = record { at = e .at; it = restatus 248 (e .it) } in
-      let laid : Laid (set im (e .at + 2) 248) h S t (xs ++ (o ∷ ys)) seg-none (blanks B) (blanks F) = restatus-laid xs ys e d 248 st-f8 in
-      let f8 : named 0xF8 o ≡ true = named-by 248 o refl n in
+      let o : Entry = record { at = e .at; it = restatus 0xF8 (e .it) } in
+      let laid : Laid (set im (e .at + 2) 0xF8) h S t (xs ++ (o ∷ ys)) seg-none (blanks B) (blanks F) = restatus-laid xs ys e d 0xF8 st-f8 in
+      let f8 : named 0xF8 o ≡ true = named-by 0xF8 o refl n in
       let starts : Starts (xs ++ (o ∷ ys)) = starts-swap xs ys e o refl st in
       let oks : Ok (xs ++ (o ∷ ys)) l = ok-same xs ys e o l ok (f8-alive o f8 ∙ sym a) refl refl in
-      let same : length (set im (e .at + 2) 248) ≡ length im = length-set im (e .at + 2) 248 in
-      let bits : bitAnd 248 (e .it .status) ≡ 248 = subst (λ (z : ℕ). bitAnd 248 z ≡ 248) (sym (fc-by e c)) refl in
+      let same : length (set im (e .at + 2) 0xF8) ≡ length im = length-set im (e .at + 2) 0xF8 in
+      let bits : bitAnd 0xF8 (e .it .status) ≡ 0xF8 = subst (λ (z : ℕ). bitAnd 0xF8 z ≡ 0xF8) (sym (fc-by e c)) refl in
       record {
-        safe = (here, status-sound xs ys e d 248 bits, record { good = ap good-length same ∙ good; kind = quiet B F laid tl starts oks });
+        safe = (here, status-sound xs ys e d 0xF8 bits, record { good = ap good-length same ∙ good; kind = quiet B F laid tl starts oks });
         laid = laid;
         starts = starts;
         ok = oks;
@@ -180,7 +181,7 @@ module _ {im : Image} {h : ℕ} (xs ys : List Entry) (o e : Entry) (l : Ledger) 
   gone-starts = starts-swap xs (ys ++ (e ∷ [])) o (gone o) refl starts
 
   gone-ok : Ok (xs ++ (gone o ∷ (ys ++ (e ∷ [])))) new
-  gone-ok = ok-unshadow xs (ys ++ (e ∷ [])) (gone o) new (ok-over xs ys o e l ok f8 fc same b .0) (gone-dead o)
+  gone-ok = ok-insert xs (ys ++ (e ∷ [])) (gone o) new (ok-over xs ys o e l ok f8 fc same b .0) (gone-dead o)
 
   -- before it the image is of kind shadow, after it quiet
   pub delete-safe : Safe (Inv new) im (program (o .at + 2) 0 ∷ [])
@@ -197,4 +198,4 @@ module _ {im : Image} {h : ℕ} (xs ys : List Entry) (o e : Entry) (l : Ledger) 
 
   -- and rested
   pub delete-rested : Rested new (set im (o .at + 2) 0) (bare-read deleted)
-  delete-rested = bare-quiet still-good deleted gone-starts gone-ok
+  delete-rested = bare-rested still-good deleted gone-starts gone-ok

@@ -1,4 +1,4 @@
--- The steps of a new record, on FF: each only clears bits; and what a file name gives.
+-- The steps of a new record on FF only clear bits; and what document 01's name rule gives.
 use Prim.Native.Nat.{ℕ, _+_, _-_, _/_, _%_, _≤_, _<_}
 use native.Mathlib.Omega.{arith}
 use mathlib.Core.Path.{_≡_, refl, sym, ap, _∙_, subst}
@@ -14,25 +14,25 @@ use Rattle.spec.specs.Bytes.{is-printable}
 use Rattle.spec.specs.Record.{size-of, name-ok, ends-in-slash}
 use Rattle.spec.specs.Write.{header-steps, name-steps, data-steps, commit-steps, record-steps}
 use Rattle.spec.specs.Demand.{Steps-sound}
-use Rattle.history.specs.Lay.{blanks, pad, Plain, Fit, header}
 use Rattle.history.specs.Lists.{and-left, and-right}
-use Rattle.history.specs.Quiet.{blank-split}
-use Rattle.history.specs.Put.{open-steps, bytes-append}
-use Rattle.history.specs.Steps.{write-over}
+use Rattle.history.specs.Blanks.{blanks, blank-split, split-front}
+use Rattle.history.specs.Lay.{pad, Printable, Fit, header}
+use Rattle.history.specs.Steps.{write-over, bytes-append}
 use Rattle.history.specs.Safe.{sound-append, sound-bytes, on-blank}
 use Rattle.history.specs.Kinds.{Bytes}
+use Rattle.history.specs.Put.{open-steps}
 
 -- ---- a file name
 
-printable : (x : ℕ) → is-printable x ≡ true → (33 ≤ x) × (x ≤ 126)
+printable : (x : ℕ) → is-printable x ≡ true → (0x21 ≤ x) × (x ≤ 0x7E)
 unfolding is-printable
-printable x h = (leb-true 33 x (and-left (leb 33 x) (leb x 126) h), leb-true x 126 (and-right (leb 33 x) (leb x 126) h))
+printable x h = (leb-true 0x21 x (and-left (leb 0x21 x) (leb x 0x7E) h), leb-true x 0x7E (and-right (leb 0x21 x) (leb x 0x7E) h))
 
-plain-of : (n : List ℕ) → all is-printable n ≡ true → Plain n
-plain-of [] h = tt
-plain-of (x ∷ n) h = go (is-printable x) refl (plain-of n)
+printable-of : (n : List ℕ) → all is-printable n ≡ true → Printable n
+printable-of [] h = tt
+printable-of (x ∷ n) h = go (is-printable x) refl (printable-of n)
   where
-    go : (b : Bool) → is-printable x ≡ b → (all is-printable n ≡ true → Plain n) → Plain (x ∷ n)
+    go : (b : Bool) → is-printable x ≡ b → (all is-printable n ≡ true → Printable n) → Printable (x ∷ n)
     go true e i = (printable x e, i (rw (e, all) at h))
     go false e i = let y : false ≡ true = rw (e, all) at h in let z : _≡_ {A = ℕ} 0 1 = cc in absurd (omega arith)
 
@@ -42,11 +42,10 @@ unfolding name-ok
 name-fit n d h l =
     let three : (leb 1 (length n) && leb (length n) 63 && all is-printable n) ≡ true = and-left
         (leb 1 (length n) && leb (length n) 63 && all is-printable n) (not (ends-in-slash n)) h in
-    
     let two : (leb 1 (length n) && leb (length n) 63) ≡ true = and-left (leb 1 (length n) && leb (length n) 63) (all is-printable n) three in
     record {
       short = omega (arith, leb-true (length n) 63 (and-right (leb 1 (length n)) (leb (length n) 63) two));
-      plain = plain-of n (and-right (leb 1 (length n) && leb (length n) 63) (all is-printable n) three);
+      printable = printable-of n (and-right (leb 1 (length n) && leb (length n) 63) (all is-printable n) three);
       small = l;
     }
 
@@ -58,9 +57,9 @@ name-some (x ∷ n) h = refl
 
 -- ---- the steps
 
-plain-bytes : (n : List ℕ) → Plain n → Each (λ b. b < 256) (n ++ (0 ∷ []))
-plain-bytes [] p = (omega arith, tt)
-plain-bytes (x ∷ n) p = (omega (arith, p .0 .1), plain-bytes n (p .1))
+printable-bytes : (n : List ℕ) → Printable n → Each (λ b. b < 256) (n ++ (0 ∷ []))
+printable-bytes [] p = (omega arith, tt)
+printable-bytes (x ∷ n) p = (omega (arith, p .0 .1), printable-bytes n (p .1))
 
 header-sound : (d : ℕ) (s : List ℕ) → Steps-sound (blanks 8 ++ s) (header-steps d)
 header-sound d s = (
@@ -93,11 +92,11 @@ body-sound n c s f g b h =
     let names : name-steps n ≡ bytes-at 8 w = sym (bytes-append 8 n (0 ∷ [])) in
     let after : run (header d [] ++ (blanks (f - 8) ++ s)) (name-steps n) ≡ (header d [] ++ (w ++ blanks p)) ++ (blanks m ++ s) =
     ap (λ (z : List Step). run (header d [] ++ (blanks (f - 8) ++ s)) z) names ∙ ap (λ (z : List ℕ). run (header d [] ++ z) (bytes-at 8 w)) split
-    ∙ write-over (header d []) (blanks k) w (blanks p ++ (blanks m ++ s)) 8 refl (length-replicate k 255 ∙ sym lw) ∙ simp append-assoc in
+    ∙ write-over (header d []) (blanks k) w (blanks p ++ (blanks m ++ s)) 8 refl (length-replicate k 0xFF ∙ sym lw) ∙ simp append-assoc in
     let a : length (header d [] ++ (w ++ blanks p)) ≡ 8 + up8 (length n + 1) = simp (length-append, length-replicate) (omega arith) in
     sound-append (header d [] ++ (blanks (f - 8) ++ s)) (name-steps n) (data-steps (length n) c)
     (subst (λ (z : List Step). Steps-sound (header d [] ++ (blanks (f - 8) ++ s)) z) (sym names)
-        (sound-bytes (header d []) w s 8 (f - 8) (f - 8 - k) refl (omega arith) (plain-bytes n (g .plain))))
+        (sound-bytes (header d []) w s 8 (f - 8) (f - 8 - k) refl (omega arith) (printable-bytes n (g .printable))))
     (subst (λ (z : List ℕ). Steps-sound z (data-steps (length n) c)) (sym after)
         (sound-bytes (header d [] ++ (w ++ blanks p)) c s (8 + up8 (length n + 1)) m (m - d) a (omega arith) b))
 
@@ -105,9 +104,7 @@ body-sound n c s f g b h =
 pub open-sound : (n c s : List ℕ) (f : ℕ) → Fit (length c) n → Bytes c → size-of (length n) (length c) ≤ f
     → Steps-sound (blanks f ++ s) (open-steps n c)
 open-sound n c s f g b h =
-    let e : blanks f ++ s ≡ blanks 8 ++ (blanks (f - 8) ++ s) = ap (λ (z : List ℕ). z ++ s) (blank-split 8 (f - 8) f (omega arith))
-        ∙ append-assoc (blanks 8) (blanks (f - 8)) s in
-    
+    let e : blanks f ++ s ≡ blanks 8 ++ (blanks (f - 8) ++ s) = split-front 8 (f - 8) f s (omega arith) in
     subst (λ (z : List ℕ). Steps-sound z (open-steps n c)) (sym e)
     (sound-append (blanks 8 ++ (blanks (f - 8) ++ s)) (header-steps (length c)) (name-steps n ++ data-steps (length n) c)
         (header-sound (length c) (blanks (f - 8) ++ s)) (body-sound n c s f g b h))

@@ -1,4 +1,4 @@
--- Where the chain turns by a marker: each of its three steps; and the place that a size that fits is given.
+-- The wrap marker that put and a copy write where a record goes to 0: each of its three steps; and the place that a size that fits is given.
 use Prim.Native.Nat.{ℕ, zero, suc, _+_, _-_, _*_, _≤_}
 use native.Mathlib.Omega.{arith}
 use native.Mathlib.Nat.{add-zero}
@@ -17,47 +17,50 @@ use Rattle.spec.specs.Place.{fits-at-tail, fits, address, with-marker}
 use Rattle.spec.specs.Write.{marker-steps}
 use Rattle.spec.specs.Demand.{Steps-sound}
 use Rattle.spec.specs.History.{Ledger}
-use Rattle.history.specs.Lay.{blanks, sizes, entries-of}
+use Rattle.history.specs.Lists.{and-left, and-right}
+use Rattle.history.specs.Blanks.{blanks, blank-eight}
+use Rattle.history.specs.Lay.{sizes, entries-of}
 use Rattle.history.specs.Last.{begun-ff, begun-5a, torn-wrap}
-use Rattle.history.specs.Seg.{seg-none}
-use Rattle.history.specs.Straight.{Straight}
-use Rattle.history.specs.Marker.{torn-1, torn-2}
 use Rattle.history.specs.Steps.{take-programs}
 use Rattle.history.specs.Safe.{Safe, safe-from, sound-past}
-use Rattle.history.specs.Laid.{Laid, laid-straight, laid-turned, Tail, tail-clear, tail-floor, tail-N, tail-turn}
-use Rattle.history.specs.Kinds.{Starts, Ok, Kind, quiet, half, Inv, place}
+use Rattle.history.specs.Seg.{seg-none}
+use Rattle.history.specs.Straight.{Straight}
+use Rattle.history.specs.Marker.{marker-cut-1, marker-cut-2}
+use Rattle.history.specs.Laid.{Laid, laid-straight, laid-turned, Tail, tail-clear, tail-floor, tail-N, tail-turn, place}
 use Rattle.history.specs.LaidEdit.{laid-below, laid-limit, hole-of, turn-laid}
-use Rattle.history.specs.PutWrite.{blank-eight, good-run}
-use Rattle.history.specs.Lists.{and-left, and-right}
+use Rattle.history.specs.Kinds.{Starts, Ok, Kind, quiet, half, Inv}
+use Rattle.history.specs.PutWrite.{good-run}
 
 -- ---- the marker
 
 module _ {im : Image} {h S : ℕ} {es : List Entry} (B F : ℕ) (d : Laid im h S false es seg-none (blanks B) (blanks F)) (l : Ledger) (st : Starts es)
     (ok : Ok es l) (eight : 8 ≤ F) (below : 8 ≤ B) where
   -- cut after its first byte, and after its second
-  torn-kinds : Kind (set im (S + 0) 250) l × Kind (set (set im (S + 0) 250) (S + 1) 90) l
+  torn-kinds : Kind (set im (S + 0) 0xFA) l × Kind (set (set im (S + 0) 0xFA) (S + 1) 0x5A) l
   torn-kinds = go d
     where
-      go : Laid im h S false es seg-none (blanks B) (blanks F) → Kind (set im (S + 0) 250) l × Kind (set (set im (S + 0) 250) (S + 1) 90) l
+      go : Laid im h S false es seg-none (blanks B) (blanks F) → Kind (set im (S + 0) 0xFA) l × Kind (set (set im (S + 0) 0xFA) (S + 1) 0x5A) l
       go (laid-straight {a = a} {l = m} {lost = lost} {x = x} {ys = ys} f s e i j k q) =
-          let b : B ≡ 4096 * a = sym (length-replicate {A = ℕ} B 255) ∙ s .gap-length in
-          let one : Straight (set im (S + 0) 250) a m (blanks (4096 * a)) lost h (x ∷ ys) seg-none (torn-wrap 255 (F - 8)) =
-          subst (λ (n : ℕ). Straight (set im (n + 0) 250) a m (blanks (4096 * a)) lost h (x ∷ ys) seg-none (torn-wrap 255 (F - 8))) (sym i)
-          (subst (λ (n : ℕ). Straight (set im (h + sizes (x ∷ ys) + 0) 250) a m (blanks n) lost h (x ∷ ys) seg-none (torn-wrap 255 (F - 8))) b
-              (torn-1 s eight)) in
-          let two : Straight (set (set im (S + 0) 250) (S + 1) 90) a m (blanks (4096 * a)) lost h (x ∷ ys) seg-none (torn-wrap 90 (F - 8)) =
-          subst (λ (n : ℕ). Straight (set (set im (n + 0) 250) (n + 1) 90) a m (blanks (4096 * a)) lost h (x ∷ ys) seg-none (torn-wrap 90 (F - 8)))
+          let b : B ≡ 4096 * a = sym (length-replicate {A = ℕ} B 0xFF) ∙ s .gap-length in
+          let one : Straight (set im (S + 0) 0xFA) a m (blanks (4096 * a)) lost h (x ∷ ys) seg-none (torn-wrap 0xFF (F - 8)) =
+          subst (λ (n : ℕ). Straight (set im (n + 0) 0xFA) a m (blanks (4096 * a)) lost h (x ∷ ys) seg-none (torn-wrap 0xFF (F - 8))) (sym i)
+          (subst (λ (n : ℕ). Straight (set im (h + sizes (x ∷ ys) + 0) 0xFA) a m (blanks n) lost h (x ∷ ys) seg-none (torn-wrap 0xFF (F - 8))) b
+              (marker-cut-1 s eight)) in
+          let two : Straight (set (set im (S + 0) 0xFA) (S + 1) 0x5A) a m (blanks (4096 * a)) lost h (x ∷ ys) seg-none (torn-wrap 0x5A (F - 8)) =
+          subst (λ (n : ℕ). Straight (set (set im (n + 0) 0xFA) (n + 1) 0x5A) a m (blanks (4096 * a)) lost h (x ∷ ys) seg-none
+              (torn-wrap 0x5A (F - 8)))
               (sym i)
-          (subst (λ (n : ℕ). Straight (set (set im (h + sizes (x ∷ ys) + 0) 250) (h + sizes (x ∷ ys) + 1) 90) a m (blanks n) lost h (x ∷ ys) seg-none
-              (torn-wrap 90 (F - 8))) b (torn-2 s eight)) in
+          (subst (λ (n : ℕ). Straight (set (set im (h + sizes (x ∷ ys) + 0) 0xFA) (h + sizes (x ∷ ys) + 1) 0x5A) a m (blanks n) lost h (x ∷ ys)
+              seg-none
+              (torn-wrap 0x5A (F - 8))) b (marker-cut-2 s eight)) in
           let some : 1 ≤ a = omega arith in
           let st′ : Starts (entries-of h (x ∷ ys)) = subst Starts j st in
           let ok′ : Ok (entries-of h (x ∷ ys)) l = subst (λ (z : List Entry). Ok z l) j ok in
-          (half a m 255 (F - 8) one begun-ff some st′ ok′, half a m 90 (F - 8) two begun-5a some st′ ok′)
+          (half a m 0xFF (F - 8) one begun-ff some st′ ok′, half a m 0x5A (F - 8) two begun-5a some st′ ok′)
       go (laid-turned s e i j k) = let z : _≡_ {A = ℕ} 0 1 = cc in absurd (omega arith)
 
   -- after the marker: turned, and S is 0
-  pub turned-by-marker : Laid (run im (moved S marker-steps)) h 0 true es seg-none [] (blanks B)
+  turned-by-marker : Laid (run im (moved S marker-steps)) h 0 true es seg-none [] (blanks B)
   turned-by-marker = let one : 1 ≤ B = omega arith in turn-laid d eight one
 
   marker-kind : (k : ℕ) → k ≤ 3 → Kind (run im (take k (moved S marker-steps))) l
@@ -106,10 +109,10 @@ given {im} {h} {S} {t} B F s d tl some f = go (fits-at-tail p s) refl
     ends : limit p ≡ S + F
     ends =
         subst (λ (n : ℕ). limit (place im h n t) ≡ n + length (blanks F)) (add-zero S) (laid-limit d)
-            ∙ ap (λ (n : ℕ). S + n) (length-replicate {A = ℕ} F 255)
+            ∙ ap (λ (n : ℕ). S + n) (length-replicate {A = ℕ} F 0xFF)
 
     clear : t ≡ false → s ≤ floor h → Tail h S t seg-none (blanks B) (blanks F) S t → 8 ≤ F
-    clear e k (tail-clear z q i j) = omega (arith, length-replicate {A = ℕ} F 255, ap length q)
+    clear e k (tail-clear z q i j) = omega (arith, length-replicate {A = ℕ} F 0xFF, ap length q)
     clear e k (tail-floor q i j u) = let z : _≡_ {A = ℕ} 0 1 = cc in absurd (omega arith)
     clear e k (tail-N q i j u v) = absurd (omega arith)
     clear e k (tail-turn z q i j u v w) = absurd (j refl)
@@ -118,7 +121,7 @@ given {im} {h} {S} {t} B F s d tl some f = go (fits-at-tail p s) refl
     zeroed e u k =
         let c : 8 ≤ F = clear u k tl in
         let N : length im ≡ S + F = sym (ap (λ (b : Bool). limit (place im h S b)) u) ∙ ends in
-        given-zero u (omega (arith, length-replicate {A = ℕ} B 255, laid-below d u)) c (rw (address, e))
+        given-zero u (omega (arith, length-replicate {A = ℕ} B 0xFF, laid-below d u)) c (rw (address, e))
             (rw (with-marker, e) (lt-ltb S (length im) (omega arith)))
 
     go : (b : Bool) → fits-at-tail p s ≡ b → Given t S B F s p

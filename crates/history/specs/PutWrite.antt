@@ -5,37 +5,28 @@ use native.Mathlib.Nat.{add-zero}
 use mathlib.Core.Path.{_≡_, refl, sym, ap, _∙_, subst}
 use mathlib.Core.Bool.{Bool, true, false}
 use mathlib.Core.List.{List, [], _∷_, _++_}
-use lib.ListN.{length, take, set, length-append, length-replicate, length-set}
-use Rattle.spec.specs.Step.{Image, Step, program, erase, apply, run, moved}
+use lib.ListN.{length, take, set, length-append, length-replicate}
+use Rattle.spec.specs.Step.{Image, Step, program, apply, run, moved}
 use Rattle.spec.specs.Geometry.{floor, good-length}
 use Rattle.spec.specs.Record.{size-of, Entry}
 use Rattle.spec.specs.Write.{commit-steps}
 use Rattle.spec.specs.Demand.{Sound, Steps-sound}
 use Rattle.spec.specs.History.{Ledger}
-use Rattle.history.specs.Lay.{blanks, onto, Fit, low-record, st-fc}
+use Rattle.history.specs.Blanks.{blanks, blank-eight}
+use Rattle.history.specs.Lay.{onto, Fit, low-record, st-fc}
 use Rattle.history.specs.Last.{held}
-use Rattle.history.specs.Quiet.{blank-split, quiet-ff}
-use Rattle.history.specs.Turned.{opens-words}
-use Rattle.history.specs.Seg.{Seg, seg-none, seg-torn, seg-cut, seg-held, seg-size}
-use Rattle.history.specs.Steps.{Programs, take-moved, take-programs, run-past, length-moved}
-use Rattle.history.specs.Put.{Opened, open-steps, open-cut, open-done, file, length-record, record-programs}
+use Rattle.history.specs.Steps.{Programs, take-moved, take-programs, run-past, length-moved, length-run, programs-moved, programs-left}
 use Rattle.history.specs.Safe.{Safe, safe-from, sound-past}
+use Rattle.history.specs.Markless.{markless-ff}
+use Rattle.history.specs.Seg.{Seg, seg-none, seg-torn, seg-cut, seg-held, seg-size}
+use Rattle.history.specs.Turned.{opens-words}
 use Rattle.history.specs.Laid.{Laid, Hole, Tail, tail-clear, tail-floor, tail-N, tail-turn, Bare, clear-ff}
+use Rattle.history.specs.LaidEdit.{laid-below, hole-of, turn-exact, free-markless}
 use Rattle.history.specs.Kinds.{Bytes, Starts, Ok, Kind, quiet, Inv}
-use Rattle.history.specs.LaidEdit.{laid-below, hole-of, turn-exact, free-quiet}
+use Rattle.history.specs.Put.{Opened, open-steps, open-cut, open-done, file, length-record, record-programs}
 use Rattle.history.specs.PutSound.{open-sound, commit-last}
 
 -- ---- lengths
-
-length-run : (im : Image) (ss : List Step) → Programs ss → length (run im ss) ≡ length im
-length-run im [] p = refl
-length-run im (program a b ∷ ss) p = length-run (set im a b) ss p ∙ length-set im a b
-length-run im (erase a ∷ ss) p = absurd p
-
-programs-moved : (a : ℕ) (ss : List Step) → Programs ss → Programs (moved a ss)
-programs-moved a [] p = tt
-programs-moved a (program i b ∷ ss) p = programs-moved a ss p
-programs-moved a (erase i ∷ ss) p = absurd p
 
 -- programming keeps the length
 pub good-run : (im : Image) (ss : List Step) → Programs ss → good-length (length im) ≡ true → good-length (length (run im ss)) ≡ true
@@ -49,7 +40,7 @@ seg-words (seg-held n c f) = (1 + (length n + 1 + 7) / 8 + (length c + 7) / 8, o
 
 blank-words : {im : Image} {h S : ℕ} {t : Bool} {es : List Entry} {seg : Seg} {below : List ℕ} (F : ℕ) → Laid im h S t es seg below (blanks F)
     → (f : ℕ) × (F ≡ 8 * f)
-blank-words F d = let w = free-quiet d in (w .0, sym (length-replicate {A = ℕ} F 255) ∙ w .1)
+blank-words F d = let w = free-markless d in (w .0, sym (length-replicate {A = ℕ} F 0xFF) ∙ w .1)
 
 -- ---- the tail
 
@@ -65,7 +56,7 @@ left-of {h = h} {t = t} B F d = words (blank-words F d .0) (blank-words F d .1)
   where
     unturned : (k : ℕ) → floor h ≡ k → F ≡ 0 → t ≡ false → Left h t B F
     unturned zero f z e = left-N z e f
-    unturned (suc k) f z e = left-turn z e (omega (arith, length-replicate {A = ℕ} B 255, laid-below d e))
+    unturned (suc k) f z e = left-turn z e (omega (arith, length-replicate {A = ℕ} B 0xFF, laid-below d e))
 
     turned : (b : Bool) → t ≡ b → F ≡ 0 → Left h t B F
     turned true e z = left-floor z e
@@ -74,10 +65,6 @@ left-of {h = h} {t = t} B F d = words (blank-words F d .0) (blank-words F d .1)
     words : (k : ℕ) → F ≡ 8 * k → Left h t B F
     words (suc k) e = left-some (omega arith)
     words zero e = turned t refl (omega arith)
-
--- eight FF first
-pub blank-eight : (k : ℕ) → 8 ≤ k → blanks k ≡ blanks 8 ++ blanks (k - 8)
-blank-eight k h = blank-split 8 (k - 8) k (omega arith)
 
 -- T where something unfinished stands, or something is free
 tail-of : {h : ℕ} {t : Bool} {B F : ℕ} (S : ℕ) (seg : Seg) → Left h t B F → (seg ≡ seg-none → 1 ≤ F) → (T : ℕ) × (u : Bool)
@@ -108,11 +95,6 @@ bare-of {im} {h} {S} {t} {es} B F d = go (left-of B F d)
 
 -- ---- the record
 
-programs-left : (ss ts : List Step) → Programs (ss ++ ts) → Programs ss
-programs-left [] ts p = tt
-programs-left (program i b ∷ ss) ts p = programs-left ss ts p
-programs-left (erase i ∷ ss) ts p = p
-
 open-programs : (n c : List ℕ) → Programs (open-steps n c)
 open-programs n c = programs-left (open-steps n c) commit-steps (subst Programs (commit-last n c) (record-programs n c))
 
@@ -121,7 +103,7 @@ pub length-open : (n c : List ℕ) → length (open-steps n c) ≡ 8 + length n 
 length-open n c = omega (arith, length-record n c, ap length (commit-last n c), length-append (open-steps n c) commit-steps)
 
 module _ {im : Image} {h S : ℕ} {t : Bool} {es : List Entry} (B F : ℕ) (d : Laid im h S t es seg-none (blanks B) (blanks F)) (n c : List ℕ)
-    (g : Fit (length c) n) (b : Bytes c)
+    (g : Fit (length c) n)
     (room : size-of (length n) (length c) ≤ F) where
   at-hole : (H : Hole im h S t es seg-none (blanks B) (blanks F)) (ss : List Step) → Programs ss
       → run im (moved S ss) ≡ H .pre ++ run (blanks F ++ H .post) ss
@@ -136,8 +118,9 @@ module _ {im : Image} {h S : ℕ} {t : Bool} {es : List Entry} (B F : ℕ) (d : 
       let x = opens-words m (o .left) w in
       let laid : Laid im′ h S t es (o .seg) (blanks B) (blanks (o .left)) =
       subst (λ (z : Image). Laid z h S t es (o .seg) (blanks B) (blanks (o .left))) (ap (λ (z : List ℕ). H .pre ++ z) (sym (o .is)) ∙ sym e)
-      (H .plug (o .seg) m (blanks (o .left)) (x .0) (length-replicate {A = ℕ} (o .left) 255 ∙ w) (quiet-ff m (blanks (o .left)) (ap blanks w)) (x .1)
-      (omega (arith, o .sum, length-replicate {A = ℕ} (o .left) 255, length-replicate {A = ℕ} F 255))) in
+      (H .plug (o .seg) m (blanks (o .left)) (x .0) (length-replicate {A = ℕ} (o .left) 0xFF ∙ w) (markless-ff m (blanks (o .left)) (ap blanks w))
+          (x .1)
+      (omega (arith, o .sum, length-replicate {A = ℕ} (o .left) 0xFF, length-replicate {A = ℕ} F 0xFF))) in
       quiet-of B (o .left) laid (tail-of S (o .seg) (left-of B (o .left) laid) (λ i. omega (arith, ap seg-size i, o .sum))) st ok
 
   open-kind : (l : Ledger) → Starts es → Ok es l → (k : ℕ) → k ≤ 8 + length n + length c → Kind (run im (take k (moved S (open-steps n c)))) l
@@ -148,8 +131,8 @@ module _ {im : Image} {h S : ℕ} {t : Bool} {es : List Entry} (B F : ℕ) (d : 
           ∙ at-hole (hole-of d) (take k (open-steps n c)) (take-programs k (open-steps n c) (open-programs n c)))
 
   -- before the commit, cut anywhere
-  pub open-safe : (l : Ledger) → good-length (length im) ≡ true → Starts es → Ok es l → Safe (Inv l) im (moved S (open-steps n c))
-  open-safe l good st ok =
+  pub open-safe : Bytes c → (l : Ledger) → good-length (length im) ≡ true → Starts es → Ok es l → Safe (Inv l) im (moved S (open-steps n c))
+  open-safe b l good st ok =
       safe-from (Inv l) im (moved S (open-steps n c))
       (λ k i. record {
         good =
@@ -166,15 +149,15 @@ module _ {im : Image} {h S : ℕ} {t : Bool} {es : List Entry} (B F : ℕ) (d : 
       at-hole (hole-of d) (open-steps n c) (open-programs n c) ∙ ap (λ (z : List ℕ). hole-of d .pre ++ z) (open-done n c (hole-of d .post) F room)
 
   -- the commit only clears bits
-  pub commit-sound : Sound (run im (moved S (open-steps n c))) (program (S + 2) 252)
+  pub commit-sound : Sound (run im (moved S (open-steps n c))) (program (S + 2) 0xFC)
   commit-sound =
-      subst (λ (z : Image). Sound z (program (S + 2) 252)) (sym open-is)
-      (sound-past (hole-of d .pre) (onto (held n c) (blanks (F - size-of (length n) (length c)) ++ hole-of d .post)) (program 2 252 ∷ []) S
+      subst (λ (z : Image). Sound z (program (S + 2) 0xFC)) (sym open-is)
+      (sound-past (hole-of d .pre) (onto (held n c) (blanks (F - size-of (length n) (length c)) ++ hole-of d .post)) (program 2 0xFC ∷ []) S
           (hole-of d .at) tt ((omega arith, refl), tt) .0)
 
   -- and adds the record
   pub committed :
-      Laid (apply (run im (moved S (open-steps n c))) (program (S + 2) 252)) h (S + size-of (length n) (length c)) t
+      Laid (apply (run im (moved S (open-steps n c))) (program (S + 2) 0xFC)) h (S + size-of (length n) (length c)) t
           (es ++ (record { at = S; it = file n c } ∷ [])) seg-none (blanks B)
       (blanks (F - size-of (length n) (length c)))
   committed =
@@ -183,14 +166,14 @@ module _ {im : Image} {h S : ℕ} {t : Bool} {es : List Entry} (B F : ℕ) (d : 
       let m : ℕ = blank-words F d .0 - (1 + (length n + 1 + 7) / 8 + (length c + 7) / 8) in
       let w : left ≡ 8 * m = omega (arith, blank-words F d .1) in
       let x = opens-words m left w in
-      let e : apply (run im (moved S (open-steps n c))) (program (S + 2) 252) ≡ hole-of d .pre ++ onto (file n c) (blanks left ++ hole-of d .post) =
-      ap (λ (y : Image). set y (S + 2) 252) open-is
-          ∙ run-past (hole-of d .pre) (onto (held n c) (blanks left ++ hole-of d .post)) (program 2 252 ∷ []) S (hole-of d .at) tt in
+      let e : apply (run im (moved S (open-steps n c))) (program (S + 2) 0xFC) ≡ hole-of d .pre ++ onto (file n c) (blanks left ++ hole-of d .post) =
+      ap (λ (y : Image). set y (S + 2) 0xFC) open-is
+          ∙ run-past (hole-of d .pre) (onto (held n c) (blanks left ++ hole-of d .post)) (program 2 0xFC ∷ []) S (hole-of d .at) tt in
       subst (λ (y : Image). Laid y h (S + z) t (es ++ (record { at = S; it = file n c } ∷ [])) seg-none (blanks B) (blanks left)) (sym e)
       (hole-of d .grow (file n c) m (blanks left) (x .0) (record {
         low-ok = low-record;
         status-ok = st-fc;
         fit = g;
-      }) refl (length-replicate {A = ℕ} left 255 ∙ w)
-      (quiet-ff m (blanks left) (ap blanks w)) (x .1)
-      (omega (arith, length-replicate {A = ℕ} left 255, length-replicate {A = ℕ} F 255)))
+      }) refl (length-replicate {A = ℕ} left 0xFF ∙ w)
+      (markless-ff m (blanks left) (ap blanks w)) (x .1)
+      (omega (arith, length-replicate {A = ℕ} left 0xFF, length-replicate {A = ℕ} F 0xFF)))

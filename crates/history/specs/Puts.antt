@@ -1,4 +1,5 @@
--- Put, and the copy of a move, on a rested image, cut anywhere: before the commit the old ledger's files stand, from it on the new one's.
+-- Put, and the copy of a move, on a rested image, cut anywhere: before the commit the old ledger's files stand, from it on the new one's
+-- (Commits). The commit has the place in the step list that document 01 gives it.
 use Prim.Native.Nat.{ℕ, _+_}
 use native.Mathlib.Omega.{arith}
 use mathlib.Core.Path.{_≡_, refl, sym, ap, _∙_, subst}
@@ -9,7 +10,7 @@ use lib.ListN.{length, length-append, length-set}
 use Rattle.spec.specs.declared.Place.{Place}
 use Rattle.spec.specs.Geometry.{good-length}
 use Rattle.spec.specs.Files.{named}
-use Rattle.spec.specs.Step.{Image, Step, program, erase, apply, run, moved}
+use Rattle.spec.specs.Step.{Image, Step, program, apply, run, moved}
 use Rattle.spec.specs.Basics.{empty}
 use Rattle.spec.specs.Bytes.{is-committed}
 use Rattle.spec.specs.Record.{name-ok, size-of, Entry, name-of}
@@ -18,20 +19,21 @@ use Rattle.spec.specs.Place.{fits, address, with-marker}
 use Rattle.spec.specs.Write.{turn-steps, commit-steps, record-steps, put-steps}
 use Rattle.spec.specs.History.{Ledger, with-file, one-if-fc, three-if}
 use Rattle.spec.specs.Demand.{Sound}
-use Rattle.history.specs.Lay.{blanks}
-use Rattle.history.specs.Seg.{seg-none}
-use Rattle.history.specs.Steps.{run-append}
-use Rattle.history.specs.Put.{open-steps, file}
-use Rattle.history.specs.Safe.{Safe, safe-append, safe-here, safe-end}
+use Rattle.history.specs.Blanks.{blanks}
 use Rattle.history.specs.Store.{alive, fc-alive}
 use Rattle.history.specs.Ledger.{Absent}
-use Rattle.history.specs.OkLaws.{ok-new, Old, old-none, old-some}
+use Rattle.history.specs.Steps.{run-append, moved-append}
+use Rattle.history.specs.Safe.{Safe, safe-append, safe-here, safe-end}
+use Rattle.history.specs.Seg.{seg-none}
 use Rattle.history.specs.StraightEdit.{restatus}
-use Rattle.history.specs.Laid.{Laid}
-use Rattle.history.specs.Kinds.{Inv, Bytes, Rested, Starts, Ok, place}
+use Rattle.history.specs.Laid.{Laid, place}
+use Rattle.history.specs.Kinds.{Inv, Bytes, Rested, Starts, Ok}
+use Rattle.history.specs.OkLaws.{ok-new, Old, old-none, old-some}
+use Rattle.history.specs.Put.{open-steps, file}
 use Rattle.history.specs.PutSound.{name-some, commit-last}
 use Rattle.history.specs.PutPhases.{Written, written}
-use Rattle.history.specs.PutOld.{starts-end, plain-file, named-by, bare-inv, bare-read, bare-head, bare-quiet, Migrated, stays, migrates, deleted, delete-safe, delete-rested}
+use Rattle.history.specs.PutOld.{starts-end, plain-file, named-by, bare-inv, bare-read, bare-head, bare-rested, Migrated, stays, migrates}
+use Rattle.history.specs.PutOld.{deleted, delete-safe, delete-rested}
 
 -- steps that lead from the ledger k to the ledger l, by their step number `at`; the head stays at h
 pub record Commits (k l : Ledger) (im : Image) (ss : List Step) (at h : ℕ) : Type 0 where
@@ -49,11 +51,6 @@ pub record Commits (k l : Ledger) (im : Image) (ss : List Step) (at h : ℕ) : T
 
 -- ---- the pieces put together
 
-moved-two : (a : ℕ) (ss ts : List Step) → moved a (ss ++ ts) ≡ moved a ss ++ moved a ts
-moved-two a [] ts = refl
-moved-two a (program i b ∷ ss) ts = ap (λ (z : List Step). program (a + i) b ∷ z) (moved-two a ss ts)
-moved-two a (erase i ∷ ss) ts = ap (λ (z : List Step). erase (a + i) ∷ z) (moved-two a ss ts)
-
 regroup : (v w x y z : List Step) → v ++ (w ++ ((x ++ y) ++ z)) ≡ (v ++ (w ++ x)) ++ (y ++ z)
 regroup v w x y z = simp append-assoc
 
@@ -66,34 +63,34 @@ module _ (k l : Ledger) (im : Image) (h : ℕ) (es : List Entry) (n c : List ℕ
   at-commit : run im (mig ++ opened) ≡ run (run im mig) opened
   at-commit = run-append im mig opened
 
-  split : mig ++ (turn ++ (moved a (record-steps n c) ++ del)) ≡ (mig ++ opened) ++ (program (a + 2) 252 ∷ del)
+  split : mig ++ (turn ++ (moved a (record-steps n c) ++ del)) ≡ (mig ++ opened) ++ (program (a + 2) 0xFC ∷ del)
   split =
-      ap (λ (z : List Step). mig ++ (turn ++ (z ++ del))) (ap (moved a) (commit-last n c) ∙ moved-two a (open-steps n c) commit-steps)
+      ap (λ (z : List Step). mig ++ (turn ++ (z ++ del))) (ap (moved a) (commit-last n c) ∙ moved-append a (open-steps n c) commit-steps)
       ∙ regroup mig turn (moved a (open-steps n c)) (moved a commit-steps) del
 
-  together : (left : Reading) → Safe (Inv l) (apply (run (run im mig) opened) (program (a + 2) 252)) del
-      → Rested l (run (apply (run (run im mig) opened) (program (a + 2) 252)) del) left →
+  together : (left : Reading) → Safe (Inv l) (apply (run (run im mig) opened) (program (a + 2) 0xFC)) del
+      → Rested l (run (apply (run (run im mig) opened) (program (a + 2) 0xFC)) del) left →
       left .place .head ≡ h →
       Commits k l im (mig ++ (turn ++ (moved a (record-steps n c) ++ del))) (length mig + (8 + length n + length c + m) + 1) h
   together left t r hd =
       record {
         before = mig ++ opened;
-        commit = program (a + 2) 252;
+        commit = program (a + 2) 0xFC;
         behind = del;
         is = split;
         place = ap (λ (i : ℕ). i + 1) (length-append mig opened ∙ ap (λ (i : ℕ). length mig + i) (w .count));
         safe-before = safe-append (Inv k) im mig opened s (w .safe);
-        sound = subst (λ (z : Image). Sound z (program (a + 2) 252)) (sym at-commit) (w .sound);
-        safe-behind = subst (λ (z : Image). Safe (Inv l) (apply z (program (a + 2) 252)) del) (sym at-commit) t;
+        sound = subst (λ (z : Image). Sound z (program (a + 2) 0xFC)) (sym at-commit) (w .sound);
+        safe-behind = subst (λ (z : Image). Safe (Inv l) (apply z (program (a + 2) 0xFC)) del) (sym at-commit) t;
         left = left;
         rested = subst (λ (z : Image). Rested l z left) (sym at-end) r;
         head = hd;
       }
     where
-      at-end : run im (mig ++ (turn ++ (moved a (record-steps n c) ++ del))) ≡ run (apply (run (run im mig) opened) (program (a + 2) 252)) del
+      at-end : run im (mig ++ (turn ++ (moved a (record-steps n c) ++ del))) ≡ run (apply (run (run im mig) opened) (program (a + 2) 0xFC)) del
       at-end =
-          ap (run im) split ∙ run-append im (mig ++ opened) (program (a + 2) 252 ∷ del)
-              ∙ ap (λ (z : Image). run (apply z (program (a + 2) 252)) del) at-commit
+          ap (run im) split ∙ run-append im (mig ++ opened) (program (a + 2) 0xFC ∷ del)
+              ∙ ap (λ (z : Image). run (apply z (program (a + 2) 0xFC)) del) at-commit
 
 -- the same number, written otherwise
 recount : {k l : Ledger} {im : Image} {ss : List Step} {at at′ h : ℕ} → at ≡ at′ → Commits k l im ss at h → Commits k l im ss at′ h
@@ -101,9 +98,9 @@ recount {k} {l} {im} {ss} {h = h} e c = subst (λ (a : ℕ). Commits k l im ss a
 
 -- the image that the commit leaves has a good length
 committed-good : {k : Ledger} {im : Image} {h : ℕ} {es : List Entry} {n c : List ℕ} {turn : List Step} {a m : ℕ} → Written k im h es n c turn a m →
-    good-length (length (apply (run im (turn ++ moved a (open-steps n c))) (program (a + 2) 252))) ≡ true
+    good-length (length (apply (run im (turn ++ moved a (open-steps n c))) (program (a + 2) 0xFC))) ≡ true
 committed-good {k} {im} {n = n} {c} {turn} {a} w =
-    ap good-length (length-set (run im (turn ++ moved a (open-steps n c))) (a + 2) 252)
+    ap good-length (length-set (run im (turn ++ moved a (open-steps n c))) (a + 2) 0xFC)
         ∙ safe-end (Inv k) im (turn ++ moved a (open-steps n c)) (w .safe) .good
 
 -- a new name
@@ -118,14 +115,14 @@ fresh {l} {im} {r} q n c absent nice b f =
     let w : Written l im (q .h) (q .es) n c (turn-steps p z) (address p z) (three-if (with-marker p z)) =
     written (q .B) (q .F) (q .laid) l (q .good) (q .starts) (q .ok) n c nice b p (ap (λ (y : Reading). y .place) (q .is)) (q .tail) f in
     let e : Entry = record { at = address p z; it = file n c } in
-    let fc : named 0xFC e ≡ true = named-by 252 e refl (name-some n nice) in
+    let fc : named 0xFC e ≡ true = named-by 0xFC e refl (name-some n nice) in
     let st : Starts (q .es ++ (e ∷ [])) = starts-end (q .es) e (plain-file (address p z) n c) (q .starts) in
     let ok : Ok (q .es ++ (e ∷ [])) (with-file n c l) = ok-new (q .es) e l (q .ok) (fc-alive e fc) absent nice b in
     let g = committed-good w in
     recount (omega arith)
     (together l (with-file n c l) im (q .h) (q .es) n c [] (turn-steps p z) [] (address p z) (three-if (with-marker p z))
         (safe-here (Inv l) im (turn-steps p z ++ moved (address p z) (open-steps n c)) (w .safe)) w
-    (bare-read (w .rest)) (bare-inv g (w .rest) st ok) (bare-quiet g (w .rest) st ok) (bare-head (w .rest)))
+    (bare-read (w .rest)) (bare-inv g (w .rest) st ok) (bare-rested g (w .rest) st ok) (bare-head (w .rest)))
 
 -- a file replaced: o is the file once it is F8, x the new record
 module _ {l : Ledger} {im : Image} {r : Reading} (q : Rested l im r) (n c : List ℕ) (nice : name-ok n ≡ true) (b : Bytes c)
@@ -149,7 +146,7 @@ module _ {l : Ledger} {im : Image} {r : Reading} (q : Rested l im r) (n c : List
       let w : Written l (run im mig) (q .h) (xs ++ (o ∷ ys)) n c (turn-steps p z) (address p z) (three-if (with-marker p z)) =
       written (q .B) (q .F) (M .laid) l (ap good-length (M .same-length) ∙ q .good) (M .starts) (M .ok) n c nice b p at (q .tail) f in
       let x : Entry = record { at = address p z; it = file n c } in
-      let fc : named 0xFC x ≡ true = named-by 252 x refl (name-some n nice) in
+      let fc : named 0xFC x ≡ true = named-by 0xFC x refl (name-some n nice) in
       let name : n ≡ name-of o = sym (M .same-name ∙ same) in
       let g = committed-good w in
       let plain = plain-file (address p z) n c in
@@ -187,14 +184,14 @@ module _ {l : Ledger} {im : Image} {r : Reading} (q : Rested l im r) (n c : List
       P : Bool → Type 0
       P y =
           Commits l (with-file n c l) im
-          ((elim y as (λ x. List Step) [ true ↦ program (e .at + 2) 248 ∷ [] | false ↦ [] ]) ++
+          ((elim y as (λ x. List Step) [ true ↦ program (e .at + 2) 0xF8 ∷ [] | false ↦ [] ]) ++
               (turn-steps (r .place) z ++ (moved (address (r .place) z) (record-steps n c) ++ (program (e .at + 2) 0 ∷ []))))
           (length n + length c + 9 + (elim y as (λ x. ℕ) [ true ↦ 1 | false ↦ 0 ]) + three-if (with-marker (r .place) z)) (q .h)
 
       go : (y : Bool) → is-committed (e .it .status) ≡ y → P (is-committed (e .it .status))
       go true k =
           subst P (sym k)
-          (recount (omega arith) (over (record { at = e .at; it = restatus 248 (e .it) }) (program (e .at + 2) 248 ∷ [])
+          (recount (omega arith) (over (record { at = e .at; it = restatus 0xF8 (e .it) }) (program (e .at + 2) 0xF8 ∷ [])
               (migrates (q .B) (q .F) xs ys e d (q .tail) l (q .good) st ok a k named-so)))
       go false k = subst P (sym k) (recount (omega arith) (over e [] (stays (q .B) (q .F) xs ys e d (q .tail) l (q .good) st ok a k)))
 

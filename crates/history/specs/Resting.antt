@@ -1,14 +1,13 @@
--- Mount on a rested image, and on a move that was cut.
+-- Mount on a rested image, and on a move that was cut: the kinds clean, both and vacated.
 use Prim.Native.Nat.{ℕ, _+_}
-use mathlib.Core.Path.{_≡_, refl, sym, ap, _∙_, subst}
-use mathlib.Core.Bool.{Bool, true, false, _||_}
-use mathlib.Core.List.{List, [], _∷_, _++_, append-nil, map}
+use mathlib.Core.Path.{_≡_, sym, ap, _∙_}
+use mathlib.Core.Bool.{Bool, true, false, or-true}
+use mathlib.Core.List.{List, [], _∷_, _++_, map}
 use lib.ListN.{length}
-use lib.Dec.{eqb}
 use borrow.Author.Tests.{eq-eqb}
 use Rattle.spec.specs.declared.Ending.{Ending}
 use Rattle.spec.specs.Step.{Image, program, erase}
-use Rattle.spec.specs.Basics.{give, Each}
+use Rattle.spec.specs.Basics.{Each}
 use Rattle.spec.specs.Geometry.{good-length, floor}
 use Rattle.spec.specs.Bytes.{is-start, is-clean}
 use Rattle.spec.specs.Record.{Entry, content-of, data-at}
@@ -17,24 +16,22 @@ use Rattle.spec.specs.Reading.{tail-blank, head-clean, reading}
 use Rattle.spec.specs.Move.{Work, begin, after, vacated, clean-steps, vacate-steps, forget-steps, close-steps}
 use Rattle.spec.specs.Mount.{erase-steps, repair-1, repair-2}
 use Rattle.spec.specs.History.{Ledger}
-use Rattle.history.specs.Lay.{blanks}
-use Rattle.history.specs.Seg.{seg-none}
-use Rattle.history.specs.StraightErase.{Cleaned}
-use Rattle.history.specs.Laid.{Laid, Tail}
-use Rattle.history.specs.Vacant.{first-is, rested-inv}
-use Rattle.history.specs.LaidRead.{start-reads, clean-reads}
-use Rattle.history.specs.Settling.{rested-reads}
-use Rattle.history.specs.Store.{alive, Unmarked}
-use Rattle.history.specs.Settled.{one-none}
-use Rattle.history.specs.Whole.{is-clean-0, is-clean-A0}
-use Rattle.history.specs.Kinds.{Ok, Starts, place, Rested}
-use Rattle.history.specs.Legal.{Ruled}
-use Rattle.history.specs.Closes.{close-rests, both-rests, vacated-rests}
-use Rattle.history.specs.Rules.{second-ruled, plain-ruled}
-use Rattle.history.specs.Idle.{Mends, mends-none, mends-1, mends-2}
 use Rattle.history.specs.Lists.{some-behind, some-append}
+use Rattle.history.specs.Blanks.{blanks}
+use Rattle.history.specs.Store.{alive, Unmarked}
+use Rattle.history.specs.Markless.{Cleaned}
+use Rattle.history.specs.Seg.{seg-none}
+use Rattle.history.specs.Whole.{is-clean-0, is-clean-A0}
+use Rattle.history.specs.Laid.{Laid, Tail, place}
+use Rattle.history.specs.Kinds.{Ok, Rested}
+use Rattle.history.specs.Rules.{second-ruled, plain-ruled}
+use Rattle.history.specs.LaidRead.{clean-reads}
+use Rattle.history.specs.Settled.{one-none, rested-reads, start-read}
+use Rattle.history.specs.Vacant.{first-is, rested-inv}
+use Rattle.history.specs.Closes.{close-rests, both-rests, vacated-rests}
+use Rattle.history.specs.Mending.{Mends, mends-none, mends-1, mends-2}
 
--- ---- quiet, nothing at S
+-- ---- the kind quiet with nothing at S
 
 -- a rested image: mount has nothing to do
 pub mends-quiet : {l : Ledger} {im : Image} {r : Reading} → Rested l im r → Mends l im
@@ -48,7 +45,7 @@ close-some N x y e =
     some-append (clean-steps (length (content-of x)) (data-at x) (content-of x)) (vacate-steps x y (vacated N x y))
     (some-behind (map erase (vacated N x y)) (forget-steps x (vacated N x y)) (program (y .at) 0)) e
 
-second-clean : (w : Work) (x y : Entry) (es : List Entry) → y .it .low ≡ 160
+second-clean : (w : Work) (x y : Entry) (es : List Entry) → y .it .low ≡ 0xA0
     → repair-2 w (x ∷ y ∷ es) ≡ after w (close-steps (w .reading .place .length) x y) (y .at)
 unfolding repair-2
 second-clean w x y es e = rw (repair-2, is-clean-A0 (y .it .low) e)
@@ -61,41 +58,16 @@ second-start : (w : Work) (x y : Entry) (es : List Entry) → y .it .low ≡ 0 �
 unfolding repair-2
 second-start w x y es e = rw (repair-2, is-clean-0 (y .it .low) e, is-start-0 (y .it .low) e)
 
-or-first : (a b : Bool) → a ≡ true → (a || b) ≡ true
-or-first a b e = rw e
-
-or-second : (a b : Bool) → b ≡ true → (a || b) ≡ true
-or-second true b e = refl
-or-second false b e = e
-
--- the whole reading, with nothing at S
-start-is :
-    {im : Image} {h S T : ℕ} (B F : ℕ) {t u : Bool} {x : Entry} {es : List Entry} → Laid im h S t (x ∷ es) seg-none (blanks B) (blanks F)
-        → Tail h S t seg-none (blanks B) (blanks F) T u →
-    x .it .low ≡ 0 →
-    Ruled (x ∷ es) → reading im ≡ give (read (length im) h T u (x ∷ es) Ending.Tail)
-start-is {im} {h} {T = T} B F {u = u} {x} {es} d e a r =
-    let n : (x ∷ es) ++ [] ≡ x ∷ es = append-nil (x ∷ es) in
-    start-reads B F d e a (subst Ruled (sym n) r) ∙ ap (λ (fs : List Entry). give (read (length im) h T u fs Ending.Tail)) n
-
--- of any records that begin with START
-pub starts-read :
-    {im : Image} {h S T : ℕ} (B F : ℕ) {t u : Bool} (es : List Entry) → Laid im h S t es seg-none (blanks B) (blanks F)
-        → Tail h S t seg-none (blanks B) (blanks F) T u → Starts es → Ruled es →
-    reading im ≡ give (read (length im) h T u es Ending.Tail)
-starts-read B F [] d e s r = absurd s
-starts-read B F (x ∷ es) d e s r = start-is B F d e (s .0) r
-
 -- the kind clean: mount does the rest of the move
 pub mends-clean :
     {l : Ledger} {im : Image} {h S T : ℕ} (B F : ℕ) {t u : Bool} {x y : Entry} {es : List Entry} → good-length (length im) ≡ true →
     Laid im h S t (x ∷ y ∷ es) seg-none (blanks B) (blanks F) → Tail h S t seg-none (blanks B) (blanks F) T u → x .it .low ≡ 0 → alive x ≡ false
-        → y .it .low ≡ 160 → Each Unmarked es →
+        → y .it .low ≡ 0xA0 → Each Unmarked es →
     Ok (x ∷ y ∷ es) l → Mends l im
 mends-clean {l} {im} {h} {T = T} B F {u = u} {x} {y} {es} g d e a b c m o =
     let r : Reading = read (length im) h T u (x ∷ y ∷ es) Ending.Tail in
-    mends-2 {r = r} (start-is B F d e a
-        (second-ruled x y es l o b (or-first (is-clean (y .it .low)) (eqb (floor (y .at)) (floor (x .at))) (is-clean-A0 (y .it .low) c)) m))
+    mends-2 {r = r} (start-read B F d e a
+        (second-ruled x y es l o b (rw (is-clean-A0 (y .it .low) c)) m))
     (close-rests B F g d e a b c m o) (close-some (length im) x y)
     (one-none (begin im r) (is-clean-0 (x .it .low) a)) (second-clean (begin im r) x y es c)
 
@@ -108,9 +80,9 @@ pub mends-both :
 mends-both {l} {im} {h} {T = T} B F {u = u} {x} {y} {es} g d e a b c k f m o =
     let r : Reading = read (length im) h T u (x ∷ y ∷ es) Ending.Tail in
     let n : floor (y .at) ≡ floor (x .at) = f ∙ ap floor (sym (first-is d)) in
-    mends-2 {r = r} (start-is B F d e a
+    mends-2 {r = r} (start-read B F d e a
         (second-ruled x y es l o b
-        (or-second (is-clean (y .it .low)) (eqb (floor (y .at)) (floor (x .at))) (eq-eqb (floor (y .at)) (floor (x .at)) n)) m))
+        (rw (eq-eqb (floor (y .at)) (floor (x .at)) n) (or-true (is-clean (y .it .low)))) m))
     (both-rests B F g d e a b c k f m o) (some-behind [] [] (program (x .at + 1) 0))
     (one-none (begin im r) (is-clean-0 (x .it .low) a)) (second-start (begin im r) x y es k)
 
@@ -123,7 +95,7 @@ first-clean w e = rw (repair-1, e)
 pub mends-vacated :
     {l : Ledger} {im : Image} {h S T : ℕ} {t u : Bool} {x : Entry} {es : List Entry} {below free : List ℕ} → good-length (length im) ≡ true
         → Laid im h S t (x ∷ es) seg-none below free →
-    Tail h S t seg-none below free T u → tail-blank im (place im h T u) ≡ true → x .it .low ≡ 160 → Each Unmarked es → Ok (x ∷ es) l → Mends l im
+    Tail h S t seg-none below free T u → tail-blank im (place im h T u) ≡ true → x .it .low ≡ 0xA0 → Each Unmarked es → Ok (x ∷ es) l → Mends l im
 mends-vacated {l} {im} {h} {T = T} {u = u} {x} {es} g d e b a m o =
     let r : Reading = read (length im) h T u (x ∷ es) Ending.Tail in
     mends-1 {r = r} (clean-reads d e b a m (plain-ruled x es l o m)) (vacated-rests g d e b a m o)

@@ -1,4 +1,4 @@
--- The rules on the records of each kind of image: none is broken.
+-- Document 01's rules on the records of each kind of image (Ruled): none is broken.
 use Prim.Native.Nat.{ℕ}
 use mathlib.Core.Path.{_≡_, refl, sym, ap, _∙_}
 use mathlib.Core.Bool.{Bool, true, false, _&&_, _||_}
@@ -11,26 +11,24 @@ use Rattle.spec.specs.Record.{Entry, name-of}
 use Rattle.spec.specs.Files.{same-name, named, named-as, has-named, live, doubled}
 use Rattle.spec.specs.Reading.{marked, second-ok, marks-ok, name-legal, names-ok, single}
 use Rattle.spec.specs.History.{Ledger}
+use Rattle.history.specs.Lists.{and-no, any-none, all-each, each-map, each-all, each-both, each-left, each-right, each-insert, Pairwise}
+use Rattle.history.specs.Lists.{pairwise-insert, pairwise-map}
+use Rattle.history.specs.Store.{alive, Apart, Well-named, Finished, Unmarked, names-by, unique-single, marks-by, live-alive, fc-alive}
+use Rattle.history.specs.Store.{f8-alive, fc-not-f8, no-fc, same-sym}
+use Rattle.history.specs.Shadow.{Shadowed, live-same, o-dead}
 use Rattle.history.specs.Lay.{Fine, finished}
 use Rattle.history.specs.Seg.{Seg, seg-entries, seg-none, seg-torn, seg-cut, seg-held}
-use Rattle.history.specs.Lists.{and-no, any-none, all-each, each-map, each-all, each-both, each-left, each-right, each-insert, Pairwise, pairwise-insert}
-use Rattle.history.specs.Store.{alive, Apart, Well-named, Finished, Unmarked, Calm-store, names-by, unique-single, marks-by, live-alive, fc-alive, f8-alive, fc-not-f8, no-fc, same-sym}
-use Rattle.history.specs.Shadow.{Shadowed, live-same, o-dead}
 use Rattle.history.specs.Legal.{Ruled}
-use Rattle.history.specs.OkLaws.{same-is}
 use Rattle.history.specs.Kinds.{Ok, Starts}
+use Rattle.history.specs.OkLaws.{same-is}
 
--- ---- head START, the others plain
+-- ---- finished and unfinished records
 
 -- a fine record is finished
 pub fine-finished : (es : List Entry) → Each (λ e. Fine (e .it)) es → Each Finished es
 fine-finished es f = each-map es (λ e h. finished (h .status-ok)) f
 
--- the records of a quiet image
-pub calm-of : (x : Entry) (es : List Entry) (l : Ledger) → Each (λ e. Fine (e .it)) (x ∷ es) → Each Unmarked es → Ok (x ∷ es) l → Calm-store x es
-calm-of x es l f m o = record { unique = o .unique; well-named = o .well-named; finished = fine-finished (x ∷ es) f; unmarked = m }
-
--- the unfinished record is dead and plain
+-- the unfinished record is not alive
 pub seg-dead : (at : ℕ) (g : Seg) → Each (λ e. alive e ≡ false) (seg-entries at g)
 unfolding alive named
 seg-dead at seg-none = tt
@@ -38,7 +36,7 @@ seg-dead at (seg-torn c x y z w t b m) = (refl, tt)
 seg-dead at (seg-cut d n f) = (refl, tt)
 seg-dead at (seg-held n c f) = (refl, tt)
 
--- the unfinished record is plain
+-- and is neither START nor CLEAN
 pub seg-plain : (at : ℕ) (g : Seg) → Each Unmarked (seg-entries at g)
 unfolding is-start is-clean
 seg-plain at seg-none = tt
@@ -79,6 +77,11 @@ pub plain-ruled : (x : Entry) (es : List Entry) (l : Ledger) → Ok (x ∷ es) l
 plain-ruled x es l o m =
     record { names = names-by (x ∷ es) (o .unique) (o .well-named); singles = unique-single (x ∷ es) (o .unique); marks = marks-by x es m }
 
+-- the first START, the others plain
+pub starts-ruled : (es : List Entry) (l : Ledger) → Ok es l → Starts es → Ruled es
+starts-ruled [] l o s = absurd s
+starts-ruled (x ∷ es) l o s = plain-ruled x es l o (s .1)
+
 -- ---- one F8 record whose name has an FC
 
 -- no two of this status have one name
@@ -91,11 +94,6 @@ differ-none st [] u = refl
 differ-none st (e ∷ es) u =
     rw (doubled, and-no (named st e) (any (named-as st e) es) (λ h. any-none (named-as st e) es (each-map es (λ f q. q h) (u .0))))
         (differ-none st es (u .1))
-
-module _ {A : Type 0} where
-  pairwise-map : (S R : A → A → Type 0) (xs : List A) → ((x y : A) → S x y → R x y) → Pairwise S xs → Pairwise R xs
-  pairwise-map S R [] f h = tt
-  pairwise-map S R (x ∷ xs) f h = (each-map xs (λ y s. f x y s) (h .0), pairwise-map S R xs f (h .1))
 
 module _ (xs ys : List Entry) (o : Entry) (l : Ledger) (s : Shadowed xs ys o) (ok : Ok (xs ++ ys) l) where
   abbrev es : List Entry

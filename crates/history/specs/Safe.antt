@@ -1,4 +1,5 @@
--- A property after every cut of a step list, and that every step is sound, in one statement that composes.
+-- A property that holds before each step of a list and at its end, with each step sound, in one predicate (Safe). It composes, so each
+-- phase of each call is proved once; from it come every cut, the end, and that bits are only cleared.
 use Prim.Native.Nat.{ℕ, zero, suc, _+_, _≤_, _<_}
 use native.Mathlib.Omega.{arith}
 use mathlib.Core.Path.{_≡_, _∙_}
@@ -9,7 +10,7 @@ use lib.Bits.{bitAnd, and-mask}
 use Rattle.spec.specs.Step.{Image, Step, program, erase, apply, run, bytes-at, moved}
 use Rattle.spec.specs.Basics.{Each}
 use Rattle.spec.specs.Demand.{Sound, Steps-sound}
-use Rattle.history.specs.Lay.{blanks}
+use Rattle.history.specs.Blanks.{blanks}
 use Rattle.history.specs.Steps.{set-past, Programs}
 
 -- P holds before each step, and at the end; each step is sound
@@ -68,7 +69,7 @@ sound-take (suc k) im [] s = tt
 sound-take (suc k) im (x ∷ ss) s = (s .0, sound-take k (apply im x) ss (s .1))
 
 -- a byte on FF
-pub on-blank : (b : ℕ) → b < 256 → bitAnd b 255 ≡ b
+pub on-blank : (b : ℕ) → b < 256 → bitAnd b 0xFF ≡ b
 on-blank b h = and-mask b 8 ∙ omega arith
 
 -- bytes on FF
@@ -77,8 +78,8 @@ pub sound-bytes : (p w s : List ℕ) (a k m : ℕ) → length p ≡ a → k ≡ 
 sound-bytes p [] s a k m e i h = tt
 sound-bytes p (b ∷ w) s a zero m e i h = absurd (omega arith)
 sound-bytes p (b ∷ w) s a (suc k) m e i h = (
-  (omega (arith, length-append p (blanks (suc k) ++ s)), rw (getD-at p 255 (blanks k ++ s) 0 a e) (on-blank b (h .0))),
-  rw (set-at p 255 (blanks k ++ s) b a e, ← (append-snoc p b (blanks k ++ s)))
+  (omega (arith, length-append p (blanks (suc k) ++ s)), rw (getD-at p 0xFF (blanks k ++ s) 0 a e) (on-blank b (h .0))),
+  rw (set-at p 0xFF (blanks k ++ s) b a e, ← (append-snoc p b (blanks k ++ s)))
       (sound-bytes (p ++ (b ∷ [])) w s (a + 1) k m (omega (arith, length-append p (b ∷ []))) (omega arith) (h .1)),
 )
 

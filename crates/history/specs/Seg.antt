@@ -1,4 +1,5 @@
--- The unfinished thing that may stand at T, or nothing: its bytes, its size, its entry; the chain over it, and the head behind it.
+-- The unfinished record that may stand behind the finished ones, or nothing (Seg): torn, or reserved, in document 01's words.
+-- Its bytes, its size, its entry; the chain over it, and the head found behind it.
 use Prim.Native.Nat.{ℕ, zero, suc, _+_, _*_, _≤_}
 use native.Mathlib.Omega.{arith}
 use native.Mathlib.Nat.{zero-add, add-zero, not-suc-le-zero}
@@ -8,13 +9,14 @@ use mathlib.Core.List.{List, [], _∷_, _++_, append-assoc}
 use lib.ListN.{length, drop, length-append, length-replicate}
 use Rattle.spec.specs.declared.Next.{Next}
 use Rattle.spec.specs.Record.{size-of, Entry}
-use Rattle.history.specs.Lay.{onto, Fit, drop-onto}
-use Rattle.history.specs.Last.{Begun, Name-begun, torn, torn-rec, held, begun, cut-rec, drop-begun, Ends, Stops, ends-torn, ends-begun, ends-whole}
-use Rattle.history.specs.Walk.{Quiet, Head-low}
-use Rattle.history.specs.Head.{Reaches, Reaches₁, reaches-more, reaches-gap, reaches-torn, reaches-begun, reaches-held, reaches-quiet}
-use Rattle.history.specs.Shape.{chain-of}
+use Rattle.history.specs.Lay.{onto, Fit, drop-onto, chain-of}
+use Rattle.history.specs.Last.{Begun, Name-begun, torn, torn-rec, held, begun, cut-rec, drop-begun, Ends, Stops, ends-torn, ends-begun}
+use Rattle.history.specs.Last.{ends-whole}
+use Rattle.history.specs.Markless.{Markless}
+use Rattle.history.specs.Walk.{Head-low}
+use Rattle.history.specs.Head.{Reaches, Reaches₁, reaches-more, reaches-gap, reaches-torn, reaches-begun, reaches-held, reaches-markless}
 
--- nothing, a torn record, one whose name was not ended, one that was not committed
+-- nothing; document 01's torn record; its reserved record, with the name not ended (cut), or with the name ended and not committed (held)
 pub data Seg : Type 0 where
   seg-none : Seg
   seg-torn : (c x y z w t : ℕ) → Begun c → Name-begun t → Seg
@@ -57,13 +59,14 @@ seg-ends x at (seg-torn c u y z w t b m) s e k = ends-torn at u y z w s b m (e t
 seg-ends x at (seg-cut d n f) s e k = ends-begun at d n s f (e true) k
 seg-ends x at (seg-held n c f) s e k = ends-whole at n c s f (e true) k
 
--- lengths
+-- more behind what follows it
 pub seg-append : (g : Seg) (s t : List ℕ) → seg-onto g (s ++ t) ≡ seg-onto g s ++ t
 seg-append seg-none s t = refl
 seg-append (seg-torn c x y z w u b m) s t = refl
 seg-append (seg-cut d n f) s t = simp append-assoc
 seg-append (seg-held n c f) s t = simp append-assoc
 
+-- how long that is
 pub length-seg : (g : Seg) (s : List ℕ) → length (seg-onto g s) ≡ seg-size g + length s
 length-seg seg-none s = sym (zero-add (length s))
 length-seg (seg-torn c x y z w u b m) s = omega arith
@@ -78,17 +81,17 @@ drop-seg (seg-cut d n f) s = drop-begun d n s
 drop-seg (seg-held n c f) s = drop-onto (held n c) s
 
 -- the head behind it
-gap-or : {b : ℕ} (at j : ℕ) (q t : List ℕ) → length q ≡ 8 * j → Quiet j q → Head-low b → (at ≡ 0 → 1 ≤ j)
-    → Reaches₁ at (q ++ (b ∷ 90 ∷ t)) (b ∷ 90 ∷ t) (8 * j)
+gap-or : {b : ℕ} (at j : ℕ) (q t : List ℕ) → length q ≡ 8 * j → Markless j q → Head-low b → (at ≡ 0 → 1 ≤ j)
+    → Reaches₁ at (q ++ (b ∷ 0x5A ∷ t)) (b ∷ 0x5A ∷ t) (8 * j)
 gap-or at zero q t e h l n = reaches-gap at zero q t e h l (λ i. not-suc-le-zero (n i))
-gap-or {b} at (suc j) q t e h l n = reaches-quiet at j q (b ∷ 90 ∷ t) e h
+gap-or {b} at (suc j) q t e h l n = reaches-markless at j q (b ∷ 0x5A ∷ t) e h
 
 -- the head behind it is reached
-pub seg-reaches : {b : ℕ} (at j : ℕ) (g : Seg) (q t : List ℕ) → length q ≡ 8 * j → Quiet j q → Head-low b → (at + seg-size g ≡ 0 → 1 ≤ j) →
-    Reaches at (seg-onto g (q ++ (b ∷ 90 ∷ t))) (b ∷ 90 ∷ t) (seg-size g + 8 * j)
+pub seg-reaches : {b : ℕ} (at j : ℕ) (g : Seg) (q t : List ℕ) → length q ≡ 8 * j → Markless j q → Head-low b → (at + seg-size g ≡ 0 → 1 ≤ j) →
+    Reaches at (seg-onto g (q ++ (b ∷ 0x5A ∷ t))) (b ∷ 0x5A ∷ t) (seg-size g + 8 * j)
 seg-reaches {b} at j seg-none q t e h l n = rw (zero-add (8 * j)) (reaches-more (gap-or at j q t e h l (λ i. n (add-zero at ∙ i))))
-seg-reaches {b} at j (seg-torn c x y z w u o m) q t e h l n = reaches-more (reaches-torn at x y z w j q (b ∷ 90 ∷ t) o m e h)
+seg-reaches {b} at j (seg-torn c x y z w u o m) q t e h l n = reaches-more (reaches-torn at x y z w j q (b ∷ 0x5A ∷ t) o m e h)
 seg-reaches {b} at j (seg-cut d m f) q t e h l n =
-    reaches-begun at d m (q ++ (b ∷ 90 ∷ t)) (b ∷ 90 ∷ t) f (reaches-gap (at + size-of (length m) d) j q t e h l (λ i. omega arith))
+    reaches-begun at d m (q ++ (b ∷ 0x5A ∷ t)) (b ∷ 0x5A ∷ t) f (reaches-gap (at + size-of (length m) d) j q t e h l (λ i. omega arith))
 seg-reaches {b} at j (seg-held m c f) q t e h l n =
-    reaches-held at m c (q ++ (b ∷ 90 ∷ t)) (b ∷ 90 ∷ t) f (reaches-gap (at + size-of (length m) (length c)) j q t e h l (λ i. omega arith))
+    reaches-held at m c (q ++ (b ∷ 0x5A ∷ t)) (b ∷ 0x5A ∷ t) f (reaches-gap (at + size-of (length m) (length c)) j q t e h l (λ i. omega arith))

@@ -1,20 +1,34 @@
--- A quiet image is settled: mount has no step to do. Each repair alone, where it has none.
+-- An image is settled if mount has no step to do on it. Each repair alone, where it has none; then a rested image: it is read, and it is settled.
 use Prim.Native.Nat.{ℕ}
-use mathlib.Core.Path.{_≡_, refl, ap, ap₂, _∙_}
-use mathlib.Core.Bool.{Bool, true, false}
-use mathlib.Core.List.{List, [], _∷_, _++_, map}
+use mathlib.Core.Path.{_≡_, refl, ap, ap₂, _∙_, sym, subst}
+use mathlib.Core.Bool.{Bool, false}
+use mathlib.Core.List.{List, [], _∷_, _++_, map, append-nil}
+use lib.ListN.{length}
 use Rattle.spec.specs.declared.Ending.{Ending}
-use Rattle.spec.specs.Step.{Image, Step}
-use Rattle.spec.specs.Basics.{Answer, give, onward, Each}
+use Rattle.spec.specs.Step.{Image, Step, run}
+use Rattle.spec.specs.Basics.{give, Each}
 use Rattle.spec.specs.Bytes.{is-start, is-clean, is-erased, is-reserved, is-unfinished}
 use Rattle.spec.specs.Record.{Entry}
 use Rattle.spec.specs.Chain.{Reading, read}
 use Rattle.spec.specs.Reading.{head-clean, reading}
-use Rattle.spec.specs.Move.{Work, begin, after}
-use Rattle.spec.specs.Mount.{repair-1, repair-2, repair-3, repair-4, void-steps, last-steps, torn-wrap-steps, delete-step, drop-steps, mended, settled}
+use Rattle.spec.specs.Move.{Work, begin, after, reread}
+use Rattle.spec.specs.Mount.{repair-1, repair-2, repair-3, repair-4, void-steps, last-steps, torn-wrap-steps, delete-step, drop-steps, mended}
+use Rattle.spec.specs.Mount.{settled, repair-2-on}
 use Rattle.spec.specs.Answers.{if-settled, settled-reading}
-use Rattle.history.specs.Store.{Finished, Unmarked, Unique, Calm-store, none-superseded}
+use Rattle.spec.specs.History.{Ledger}
 use Rattle.history.specs.Lists.{or-left, or-right}
+use Rattle.history.specs.Blanks.{blanks}
+use Rattle.history.specs.Store.{Finished, Unmarked, Unique, none-superseded}
+use Rattle.history.specs.Seg.{seg-none}
+use Rattle.history.specs.Legal.{Ruled}
+use Rattle.history.specs.Whole.{is-clean-0}
+use Rattle.history.specs.Laid.{Laid, Tail, place}
+use Rattle.history.specs.LaidEdit.{laid-fine}
+use Rattle.history.specs.Kinds.{Starts, Rested}
+use Rattle.history.specs.Rules.{fine-finished, starts-ruled}
+use Rattle.history.specs.LaidRead.{start-reads}
+
+-- ---- each repair alone
 
 -- no step: nothing changes
 pub after-none : (w : Work) (h : ℕ) → after w [] h ≡ w
@@ -60,25 +74,79 @@ four-none w u =
     ap (λ (l : List Entry). after w (map delete-step l) (w .reading .place .head)) (none-superseded (w .reading .entries) u)
         ∙ after-none w (w .reading .place .head)
 
-mended-none : (im : Image) (N h t : ℕ) (b : Bool) (x : Entry) (es : List Entry) → Calm-store x es → is-clean (x .it .low) ≡ false →
-    mended im (read N h t b (x ∷ es) Ending.Tail) ≡ begin im (read N h t b (x ∷ es) Ending.Tail)
+-- steps that are some: they are run, and the image is read again
+pub after-some : (w : Work) (ss : List Step) (h : ℕ) → (ss ≡ [] → ⊥) → after w ss h ≡ reread w ss (run (w .image) ss) h
+unfolding after
+after-some w [] h n = absurd (n refl)
+after-some w (s ∷ ss) h n = refl
+
+-- the head is START, so it is not CLEAN
+pub starts-clean : (es : List Entry) → Starts es → head-clean es ≡ false
+starts-clean [] s = absurd s
+starts-clean (x ∷ es) s = is-clean-0 (x .it .low) (s .0)
+
+-- repair 2 has nothing to do
+pub two-plain : (w : Work) (es : List Entry) → Starts es → repair-2 w es ≡ w
+two-plain w [] s = absurd s
+two-plain w (x ∷ es) s = two-none w x es (s .1)
+
+-- ---- the whole reading, with nothing at S
+
+-- the first record START, whatever the second
+pub start-read :
+    {im : Image} {h S T : ℕ} (B F : ℕ) {t u : Bool} {x : Entry} {es : List Entry} → Laid im h S t (x ∷ es) seg-none (blanks B) (blanks F)
+        → Tail h S t seg-none (blanks B) (blanks F) T u →
+    x .it .low ≡ 0 →
+    Ruled (x ∷ es) → reading im ≡ give (read (length im) h T u (x ∷ es) Ending.Tail)
+start-read {im} {h} {T = T} B F {u = u} {x} {es} d e a r =
+    let n : (x ∷ es) ++ [] ≡ x ∷ es = append-nil (x ∷ es) in
+    start-reads B F d e a (subst Ruled (sym n) r) ∙ ap (λ (fs : List Entry). give (read (length im) h T u fs Ending.Tail)) n
+
+-- of any records that begin with START
+pub starts-read :
+    {im : Image} {h S T : ℕ} (B F : ℕ) {t u : Bool} (es : List Entry) → Laid im h S t es seg-none (blanks B) (blanks F)
+        → Tail h S t seg-none (blanks B) (blanks F) T u → Starts es → Ruled es →
+    reading im ≡ give (read (length im) h T u es Ending.Tail)
+starts-read B F [] d e s r = absurd s
+starts-read B F (x ∷ es) d e s r = start-read B F d e (s .0) r
+
+-- what is read of a rested image
+pub rested-reads : {l : Ledger} {im : Image} {r : Reading} → Rested l im r → reading im ≡ give r
+rested-reads {l} q =
+    starts-read (q .B) (q .F) (q .es) (q .laid) (q .tail) (q .starts) (starts-ruled (q .es) l (q .ok) (q .starts)) ∙ ap give (sym (q .is))
+
+-- ---- no repair has a step to do on a rested image
+
+module _ {l : Ledger} (w : Work) (q : Rested l (w .image) (w .reading)) where
+  entries-is : w .reading .entries ≡ q .es
+  entries-is = ap (λ (r : Reading). r .entries) (q .is)
+
+  -- repair 1 has nothing to do
+  idle-1 : repair-1 w ≡ w
+  idle-1 = one-none w (ap head-clean entries-is ∙ starts-clean (q .es) (q .starts))
+
+  -- nor has repair 2
+  pub idle-2 : repair-2-on w ≡ w
+  idle-2 = ap (repair-2 w) entries-is ∙ two-plain w (q .es) (q .starts)
+
+  -- nor 3
+  pub idle-3 : repair-3 w ≡ w
+  idle-3 =
+      three-none w (subst (Each Finished) (sym entries-is) (fine-finished (q .es) (laid-fine (q .laid)))) (ap (λ (r : Reading). r .ending) (q .is))
+
+  -- nor 4
+  pub idle-4 : repair-4 w ≡ w
+  idle-4 = four-none w (subst Unique (sym entries-is) (q .ok .unique))
+
+-- so mount leaves it as it is
+pub rested-idle : {l : Ledger} {im : Image} {r : Reading} → Rested l im r → mended im r ≡ begin im r
 unfolding mended
-mended-none im N h t b x es c k =
-    let w : Work = begin im (read N h t b (x ∷ es) Ending.Tail) in
-    rw (mended, one-none w k, two-none w x es (c .unmarked), three-none w (c .finished) refl, four-none w (c .unique))
+rested-idle {l} {im} {r} q =
+    let w : Work = begin im r in
+    ap (λ (v : Work). repair-4 (repair-3 (repair-2-on v))) (idle-1 w q) ∙ ap (λ (v : Work). repair-4 (repair-3 v)) (idle-2 w q)
+    ∙ ap repair-4 (idle-3 w q) ∙ idle-4 w q
 
-settled-calm : (im : Image) (N h t : ℕ) (b : Bool) (x : Entry) (es : List Entry) → Calm-store x es → is-clean (x .it .low) ≡ false
-    → settled im (read N h t b (x ∷ es) Ending.Tail) ≡ true
-unfolding settled
-settled-calm im N h t b x es c k = rw (settled, mended-none im N h t b x es c k)
-
-if-calm : (im : Image) (r : Reading) → settled im r ≡ true → if-settled im r ≡ give r
-unfolding if-settled
-if-calm im r e = rw (if-settled, e)
-
--- all four: the image is settled
-pub settled-give : (im : Image) (N h t : ℕ) (b : Bool) (x : Entry) (es : List Entry) → Calm-store x es → is-clean (x .it .low) ≡ false →
-    reading im ≡ give (read N h t b (x ∷ es) Ending.Tail) → settled-reading im ≡ give (read N h t b (x ∷ es) Ending.Tail)
-unfolding settled-reading
-settled-give im N h t b x es c k e =
-    ap (λ (a : Answer Reading). onward a (if-settled im)) e ∙ if-calm im (read N h t b (x ∷ es) Ending.Tail) (settled-calm im N h t b x es c k)
+-- and it is settled, as document 01 has it: "mount accepts it and has no step to do"
+pub rested-settled : {l : Ledger} {im : Image} {r : Reading} → Rested l im r → settled-reading im ≡ give r
+unfolding settled-reading if-settled settled
+rested-settled q = rw (settled-reading, rested-reads q, if-settled, settled, rested-idle q)

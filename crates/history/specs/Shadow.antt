@@ -1,4 +1,5 @@
--- One F8 record o among the records R of a quiet store, whose name has an FC in R: the files are those of R, and mount has o to delete.
+-- One F8 record o among the records R, whose name has an FC in R: such is the old file between a put's commit and its last step.
+-- The live files are those of R, and repair 4 of mount has o to delete and no other.
 use mathlib.Core.Path.{_≡_, refl, sym, ap, ap₂, _∙_}
 use mathlib.Core.Bool.{Bool, true, false, _&&_, _||_, not, and-false}
 use mathlib.Core.List.{List, [], _∷_, _++_}

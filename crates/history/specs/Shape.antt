@@ -1,10 +1,11 @@
--- The reading of an image of the general shape, lay low (gap ++ (lost ++ lay high rest)), for each way in which its chain can go.
+-- The general shape of an image, lay low (gap ++ (lost ++ lay high rest)): records from 0 on, free bytes, lost bytes in the head's sector,
+-- records from the head on. What document 01's chain reads of it, for each way in which it can end or turn.
 use Prim.Native.Nat.{ℕ, suc, _+_, _-_, _≤_, _<_}
 use native.Mathlib.Omega.{arith}
 use native.Mathlib.Nat.{zero-add}
 use mathlib.Core.Path.{_≡_, refl, sym, ap, _∙_, subst}
 use mathlib.Core.Bool.{Bool, true, false}
-use mathlib.Core.List.{List, [], _∷_, _++_, append-nil}
+use mathlib.Core.List.{List, [], _++_, append-nil}
 use lib.ListN.{length, take, drop, length-append}
 use lib.Seq.{take-at, drop-at}
 use lib.Dec.{eqb}
@@ -13,17 +14,10 @@ use Rattle.spec.specs.declared.Next.{Next}
 use Rattle.spec.specs.declared.Ending.{Ending}
 use Rattle.spec.specs.Geometry.{floor}
 use Rattle.spec.specs.Record.{Rec, Entry}
-use Rattle.spec.specs.Chain.{Chain, add, stop, chain, Reading, read, joined, from-head, from-zero, read-on, reading-from}
-use Rattle.history.specs.Lay.{lay, sizes, entries-of, before, All-fine, chain-lay, length-lay, lots, drop-past, lay-past}
+use Rattle.spec.specs.Chain.{Chain, stop, chain, Reading, read, joined, from-head, from-zero, read-on, reading-from}
+use Rattle.history.specs.Lay.{lay, sizes, entries-of, before, All-fine, chain-lay, length-lay, sizes-least, drop-past, lay-past, before-chain}
+use Rattle.history.specs.Lay.{chain-of}
 use Rattle.history.specs.Last.{Ends, Stops}
-
--- entries, then the end
-abbrev pub chain-of : List Entry → Bool → ℕ → Next → Chain
-chain-of es o t x = record { entries = es; held = o; tail = t; last = x }
-
-before-chain : (es fs : List Entry) (o : Bool) (t : ℕ) (x : Next) → before es (chain-of fs o t x) ≡ chain-of (es ++ fs) o t x
-before-chain [] fs o t x = refl
-before-chain (e ∷ es) fs o t x = ap (add e) (before-chain es fs o t x)
 
 -- ---- the two chains
 
@@ -65,14 +59,15 @@ module _ (low high : List Rec) (gap lost rest : List ℕ) (h : ℕ) (below : siz
   high-read : (es : List Entry) (o : Bool) (t : ℕ) (x : Next) → All-fine high → 1 ≤ sizes high → Ends (h + sizes high) rest (chain-of es o t x) →
       from-head image h ≡ chain-of (entries-of h high ++ es) o t x
   high-read es o t x f l e =
-      ap (chain (suc (length image)) false h) drop-high ∙ fuel high (length image) h rest es o t x f e (omega (arith, length-image, lots high))
+      ap (chain (suc (length image)) false h) drop-high
+          ∙ fuel high (length image) h rest es o t x f e (omega (arith, length-image, sizes-least high))
 
   low-read : (es : List Entry) (o : Bool) (t : ℕ) (x : Next) → All-fine low → 1 ≤ floor h → Ends (sizes low) gap (chain-of es o t x) →
       from-zero image h false ≡ chain-of (entries-of 0 low ++ es) o t x
   low-read es o t x f l e =
       ap (chain (suc (length image)) false 0) take-low
       ∙ fuel low (length image) 0 gap es o t x f (subst (λ (a : ℕ). Ends a gap (chain-of es o t x)) (sym (zero-add (sizes low))) e)
-          (omega (arith, length-image, lots low))
+          (omega (arith, length-image, sizes-least low))
 
   -- behind an unfinished record nothing but an end may stand
   low-stops : (x : Next) → low ≡ [] → Stops 0 gap x → from-zero image h true ≡ stop true 0 x

@@ -5,7 +5,7 @@ use native.Mathlib.Nat.{not-suc-le-zero}
 use mathlib.Core.Path.{_≡_, refl, sym, ap, _∙_, subst}
 use mathlib.Core.Bool.{Bool, true, false}
 use mathlib.Core.Option.{Option, none, some}
-use mathlib.Core.List.{List, [], _∷_, _++_, map, append-assoc, List·Permᴰ, List·Permᴰ·nil, List·Permᴰ·cons, List·Permᴰ·swap, List·Permᴰ·trans, Permᴰ·symm}
+use mathlib.Core.List.{List, [], _∷_, _++_, map, append-assoc, Permᴰ·symm}
 use lib.ListN.{length, take, drop, getElem?}
 use lib.Seq.{drop-drop}
 use Rattle.spec.specs.Step.{Image}
@@ -14,33 +14,23 @@ use Rattle.spec.specs.Geometry.{up8}
 use Rattle.spec.specs.Record.{name-ok, rec-of, Rec, Entry, name-of, content-of, data-at}
 use Rattle.spec.specs.Chain.{Reading}
 use Rattle.spec.specs.Files.{files, has-name, file-named}
-use Rattle.spec.specs.Answers.{Numbers, Plan, refusal, success, numbers-of, carry-out, doing, found, file-plan, getting, get-plan, listing, list-plan, get, list, part-of}
+use Rattle.spec.specs.Answers.{Numbers, Plan, success, numbers-of, carry-out, doing, found, file-plan, getting, get-plan, listing, list-plan, get}
+use Rattle.spec.specs.Answers.{list, part-of}
 use Rattle.spec.specs.History.{File, Ledger, is-named, has}
 use Rattle.spec.specs.Demand.{Listed, Got, Shows}
-use Rattle.history.specs.Lay.{onto, rec-of-onto, drop-past}
-use Rattle.history.specs.Lists.{Pairwise, keep-yes, keep-no, each-map, first-yes, first-no, not-both}
+use Rattle.history.specs.Lists.{Pairwise, keep-yes, keep-no, each-map, first-yes, first-no, not-both, each-keep}
 use Rattle.history.specs.Store.{alive, Unique, files-alive}
-use Rattle.history.specs.Ledger.{as-file}
+use Rattle.history.specs.Ledger.{as-file, perm-each, perm-length}
+use Rattle.history.specs.Lay.{onto, rec-of-onto, drop-past}
 use Rattle.history.specs.Laid.{Inside}
 use Rattle.history.specs.LaidEdit.{inside-of}
-use Rattle.history.specs.OkLaws.{same-refl, Old, old-none, old-some, old-file}
-use Rattle.history.specs.Settling.{rested-settled}
 use Rattle.history.specs.Kinds.{Rested}
+use Rattle.history.specs.OkLaws.{same-refl, Old, old-none, old-some, old-file}
+use Rattle.history.specs.Settled.{rested-settled}
 
--- ---- permutations
+-- ---- elements by their index
 
 module _ {A : Type 0} where
-  perm-each : (P : A → Type 0) {xs ys : List A} → List·Permᴰ xs ys → Each P xs → Each P ys
-  perm-each P List·Permᴰ·nil h = tt
-  perm-each P (List·Permᴰ·cons e d) h = (subst P e (h .0), perm-each P d (h .1))
-  perm-each P (List·Permᴰ·swap e f) h = (subst P f (h .1 .0), (subst P e (h .0), h .1 .1))
-  perm-each P (List·Permᴰ·trans d e) h = perm-each P e (perm-each P d h)
-
-  perm-length : {xs ys : List A} → List·Permᴰ xs ys → length xs ≡ length ys
-  perm-length List·Permᴰ·nil = refl
-  perm-length (List·Permᴰ·cons e d) = ap suc (perm-length d)
-  perm-length (List·Permᴰ·swap e f) = refl
-  perm-length (List·Permᴰ·trans d e) = perm-length d ∙ perm-length e
 
   -- what holds of each element at its index
   each-index : (P : A → Type 0) (xs : List A) → ((i : ℕ) (x : A) → getElem? xs i ≡ some x → P x) → Each P xs
@@ -97,20 +87,12 @@ map-each-file P (e ∷ es) h = (h .0, map-each-file P es (h .1))
 abbrev Distinct : Entry → Entry → Type 0
 Distinct e f = same (name-of e) (name-of f) ≡ false
 
-kept-each : (P : Entry → Type 0) (es : List Entry) → Each (λ e. alive e ≡ true → P e) es → Each P (keep alive es)
-kept-each P [] h = tt
-kept-each P (e ∷ es) h = go (alive e) refl (kept-each P es (h .1))
-  where
-    go : (b : Bool) → alive e ≡ b → Each P (keep alive es) → Each P (keep alive (e ∷ es))
-    go true k i = subst (Each P) (sym (keep-yes alive e es k)) (h .0 k, i)
-    go false k i = subst (Each P) (sym (keep-no alive e es k)) i
-
 distinct : (es : List Entry) → Unique es → Pairwise Distinct (keep alive es)
 distinct [] u = tt
 distinct (e ∷ es) u = go (alive e) refl (distinct es (u .1))
   where
     go : (b : Bool) → alive e ≡ b → Pairwise Distinct (keep alive es) → Pairwise Distinct (keep alive (e ∷ es))
-    go true k i = subst (Pairwise Distinct) (sym (keep-yes alive e es k)) (kept-each (Distinct e) es (each-map es (λ f h q. h k q) (u .0)), i)
+    go true k i = subst (Pairwise Distinct) (sym (keep-yes alive e es k)) (each-keep (Distinct e) alive es (each-map es (λ f h q. h k q) (u .0)), i)
     go false k i = subst (Pairwise Distinct) (sym (keep-no alive e es k)) i
 
 first-at : (fs : List Entry) (i : ℕ) (e : Entry) → Pairwise Distinct fs → getElem? fs i ≡ some e → first-such (has-name (name-of e)) fs ≡ some e
@@ -195,7 +177,7 @@ module _ {l : Ledger} {im : Image} {r : Reading} (q : Rested l im r) where
 
   files-stand : Each (Stands im) fs
   unfolding fs
-  files-stand = kept-each (Stands im) (q .es) (each-map (q .es) (λ e s k. s) all-stand)
+  files-stand = each-keep (Stands im) alive (q .es) (each-map (q .es) (λ e s k. s) all-stand)
 
   plan-get : (n : List ℕ) → name-ok n ≡ true → get-plan n im ≡ found getting (file-named n (r .entries))
   unfolding get-plan file-plan
@@ -205,9 +187,9 @@ module _ {l : Ledger} {im : Image} {r : Reading} (q : Rested l im r) where
   unfolding list-plan
   plan-list i = rw (list-plan, q .good, rested-settled q)
 
-  carried : (n : Numbers) (a b c : ℕ) → carry-out im 0 (give (doing [] a b c)) .numbers ≡ success a b c []
+  carried : (a b c : ℕ) → carry-out im 0 (give (doing [] a b c)) .numbers ≡ success a b c []
   unfolding carry-out numbers-of
-  carried n a b c = refl
+  carried a b c = refl
 
   refused : (n : ℕ) → carry-out im 0 (refuse n) .numbers .answer ≡ n
   unfolding carry-out
@@ -217,13 +199,13 @@ module _ {l : Ledger} {im : Image} {r : Reading} (q : Rested l im r) where
       → get im n .numbers ≡ success (data-at e) (length (content-of e)) 0 []
   get-some n e ok f =
       ap (λ (p : Answer Plan). carry-out im 0 p .numbers) (plan-get n ok ∙ ap (found getting) f)
-          ∙ carried (refusal 0) (data-at e) (length (content-of e)) 0
+          ∙ carried (data-at e) (length (content-of e)) 0
 
   list-some : (i : ℕ) (e : Entry) → getElem? fs i ≡ some e → list im i .numbers ≡ success (e .at + 8) (length (name-of e)) (length (content-of e)) []
   list-some i e f =
       ap (λ (p : Answer Plan). carry-out im 0 p .numbers)
           (plan-list i ∙ ap (λ (x : List Entry). found listing (getElem? x i)) files-are ∙ ap (found listing) f)
-      ∙ carried (refusal 0) (e .at + 8) (length (name-of e)) (length (content-of e))
+      ∙ carried (e .at + 8) (length (name-of e)) (length (content-of e))
 
   list-name : (i : ℕ) (e : Entry) → getElem? fs i ≡ some e → part-of im (list im i .numbers) ≡ name-of e
   list-name i e f = ap (part-of im) (list-some i e f) ∙ index-each (Stands im) fs i e f files-stand .name
@@ -246,7 +228,7 @@ module _ {l : Ledger} {im : Image} {r : Reading} (q : Rested l im r) where
 
   names-good : Each (λ e. name-ok (name-of e) ≡ true) fs
   unfolding fs
-  names-good = kept-each (λ e. name-ok (name-of e) ≡ true) (q .es) (q .ok .well-named)
+  names-good = each-keep (λ e. name-ok (name-of e) ≡ true) alive (q .es) (q .ok .well-named)
 
   got-at : (i : ℕ) (e : Entry) → getElem? fs i ≡ some e → Got im (as-file e)
   got-at i e f =
@@ -288,7 +270,6 @@ module _ {l : Ledger} {im : Image} {r : Reading} (q : Rested l im r) where
   get-none n ok h =
       let f : file-named n (r .entries) ≡ none = ap (file-named n) entries-are
           ∙ none-named n h (file-named n (q .es)) (old-file n (q .es) l (q .ok)) in
-      
       ap (λ (p : Answer Plan). carry-out im 0 p .numbers .answer) (plan-get n ok ∙ ap (found getting) f) ∙ refused 2
 
   -- list and get on a rested image

@@ -1,14 +1,13 @@
--- Step lists cut anywhere, steps behind a first part, and runs of bytes.
+-- What step lists do to bytes: cut anywhere, moved to the address of a record, and runs of bytes programmed one after another.
 use Prim.Native.Nat.{ℕ, zero, suc, _+_, _≤_}
 use native.Mathlib.Omega.{arith}
-use native.Mathlib.Nat.{zero-add, suc-add}
+use native.Mathlib.Nat.{zero-add, suc-add, add-zero}
 use mathlib.Core.Path.{_≡_, refl, sym, ap, _∙_}
 use mathlib.Core.List.{List, [], _∷_, _++_, append-assoc}
-use lib.ListN.{length, take, set, length-append, length-replicate}
+use lib.ListN.{length, take, set, length-append, length-replicate, length-set}
 use lib.Seq.{set-at, append-snoc, length-take-le}
-use Rattle.spec.specs.Step.{Step, program, erase, apply, run, bytes-at, moved}
-use Rattle.history.specs.Lay.{blanks}
-use Rattle.history.specs.Quiet.{blank-split}
+use Rattle.spec.specs.Step.{Step, program, erase, apply, run, bytes-at, moved, Image}
+use Rattle.history.specs.Blanks.{blanks, blank-split}
 
 -- ---- a property of every cut, phase by phase
 
@@ -45,12 +44,14 @@ Programs [] = Unit {0}
 Programs (program i b ∷ ss) = Programs ss
 Programs (erase i ∷ ss) = ⊥
 
+-- the first of moved steps
 pub take-moved : (k a : ℕ) (ss : List Step) → take k (moved a ss) ≡ moved a (take k ss)
 take-moved zero a ss = refl
 take-moved (suc k) a [] = refl
 take-moved (suc k) a (program i b ∷ ss) = ap (λ (l : List Step). program (a + i) b ∷ l) (take-moved k a ss)
 take-moved (suc k) a (erase i ∷ ss) = ap (λ (l : List Step). erase (a + i) ∷ l) (take-moved k a ss)
 
+-- the first of steps that only program
 pub take-programs : (k : ℕ) (ss : List Step) → Programs ss → Programs (take k ss)
 take-programs zero ss p = tt
 take-programs (suc k) [] p = tt
@@ -63,10 +64,35 @@ run-past p q [] a e h = refl
 run-past p q (program i b ∷ ss) a e h = ap (λ (l : List ℕ). run l (moved a ss)) (rw (← e) (set-past p q i b)) ∙ run-past p (set q i b) ss a e h
 run-past p q (erase i ∷ ss) a e h = absurd h
 
+-- as many
 pub length-moved : (a : ℕ) (ss : List Step) → length (moved a ss) ≡ length ss
 length-moved a [] = refl
 length-moved a (program i b ∷ ss) = ap suc (length-moved a ss)
 length-moved a (erase i ∷ ss) = ap suc (length-moved a ss)
+
+-- two lists of steps, moved
+pub moved-append : (a : ℕ) (ss ts : List Step) → moved a (ss ++ ts) ≡ moved a ss ++ moved a ts
+moved-append a [] ts = refl
+moved-append a (program i b ∷ ss) ts = ap (λ (z : List Step). program (a + i) b ∷ z) (moved-append a ss ts)
+moved-append a (erase i ∷ ss) ts = ap (λ (z : List Step). erase (a + i) ∷ z) (moved-append a ss ts)
+
+-- moved steps program too
+pub programs-moved : (a : ℕ) (ss : List Step) → Programs ss → Programs (moved a ss)
+programs-moved a [] p = tt
+programs-moved a (program i b ∷ ss) p = programs-moved a ss p
+programs-moved a (erase i ∷ ss) p = absurd p
+
+-- the first of two lists only programs
+pub programs-left : (ss ts : List Step) → Programs (ss ++ ts) → Programs ss
+programs-left [] ts p = tt
+programs-left (program i b ∷ ss) ts p = programs-left ss ts p
+programs-left (erase i ∷ ss) ts p = p
+
+-- programming keeps the length
+pub length-run : (im : Image) (ss : List Step) → Programs ss → length (run im ss) ≡ length im
+length-run im [] p = refl
+length-run im (program a b ∷ ss) p = length-run (set im a b) ss p ∙ length-set im a b
+length-run im (erase a ∷ ss) p = absurd p
 
 -- ---- runs of bytes
 
@@ -75,6 +101,7 @@ take-bytes zero a w = refl
 take-bytes (suc j) a [] = refl
 take-bytes (suc j) a (b ∷ w) = ap (λ (l : List Step). program a b ∷ l) (take-bytes j (a + 1) w)
 
+-- one step for each byte
 pub length-bytes : (a : ℕ) (w : List ℕ) → length (bytes-at a w) ≡ length w
 length-bytes a [] = refl
 length-bytes a (x ∷ w) = ap suc (length-bytes (a + 1) w)
@@ -94,4 +121,16 @@ pub write-blank : (p w s : List ℕ) (a j m k : ℕ) → length p ≡ a → j �
     → run (p ++ (blanks k ++ s)) (take j (bytes-at a w)) ≡ p ++ (take j w ++ (blanks m ++ s))
 write-blank p w s a j m k e h l =
     rw (take-bytes j a w, blank-split j m k l, append-assoc (blanks j) (blanks m) s)
-        (write-over p (blanks j) (take j w) (blanks m ++ s) a e (length-replicate j 255 ∙ sym (length-take-le j w h)))
+        (write-over p (blanks j) (take j w) (blanks m ++ s) a e (length-replicate j 0xFF ∙ sym (length-take-le j w h)))
+
+-- two runs of bytes, one behind the other
+pub bytes-append : (a : ℕ) (v w : List ℕ) → bytes-at a (v ++ w) ≡ bytes-at a v ++ bytes-at (a + length v) w
+bytes-append a [] w = rw (add-zero a)
+bytes-append a (x ∷ v) w =
+    let e : a + 1 + length v ≡ a + suc (length v) = omega arith in
+    ap (λ (l : List Step). program a x ∷ l) (bytes-append (a + 1) v w ∙ ap (λ (i : ℕ). bytes-at (a + 1) v ++ bytes-at i w) e)
+
+-- a run of bytes only programs
+pub programs-bytes : (a : ℕ) (w : List ℕ) (ss : List Step) → Programs ss → Programs (bytes-at a w ++ ss)
+programs-bytes a [] ss p = p
+programs-bytes a (x ∷ w) ss p = programs-bytes (a + 1) w ss p

@@ -1,9 +1,10 @@
--- The files of a list of entries in which no name is alive twice, and the rules on such entries. Nothing here knows of bytes on the image.
+-- Records with their addresses (entries), without bytes. Alive is FC or F8 with a name. In a list in which no name is alive twice (Unique)
+-- the live files are the records that are alive, and document 01's rules on names, on doubles and on START and CLEAN hold.
 use Prim.Native.Nat.{ℕ}
 use native.Mathlib.Omega.{arith}
 use mathlib.Core.Path.{_≡_, refl, sym, _∙_}
-use mathlib.Core.Bool.{Bool, true, false, _&&_, _||_, not}
-use mathlib.Core.List.{List, [], _∷_, _++_}
+use mathlib.Core.Bool.{Bool, true, false, _&&_, _||_, not, or-true}
+use mathlib.Core.List.{List, [], _∷_}
 use lib.Dec.{eqb}
 use borrow.Author.Tests.{ne-eqb, eqb-true, eqb-false}
 use Rattle.spec.specs.Basics.{empty, same, any, keep, Each}
@@ -11,8 +12,8 @@ use Rattle.spec.specs.Bytes.{is-start, is-clean, is-unfinished}
 use Rattle.spec.specs.Record.{name-ok, Entry, name-of}
 use Rattle.spec.specs.Files.{same-name, named, named-as, has-named, live, superseded, files, doubled}
 use Rattle.spec.specs.Reading.{marked, second-ok, marks-ok, name-legal, names-ok, single}
-use Rattle.history.specs.Lists.{and-left, and-no, any-none, all-each, keep-none, keep-same, each-map, each-both, each-end, each-all, Pairwise, all-pairs, pairwise-end, or-left, or-right}
-use Rattle.history.specs.Legal.{Ruled}
+use Rattle.history.specs.Lists.{and-left, and-no, any-none, all-each, keep-none, keep-same, each-map, each-both, Pairwise, all-pairs, or-left}
+use Rattle.history.specs.Lists.{or-right}
 
 -- ---- names
 
@@ -30,9 +31,9 @@ same-sym (x ∷ s) (y ∷ t) = go (eqb x y) (eqb y x) refl refl (same-sym s t)
     go true false e f i = absurd (eqb-false y x f (sym (eqb-true x y e)))
     go false true e f i = absurd (eqb-false x y e (sym (eqb-true y x f)))
 
--- ---- alive: FC or F8, with a name
+-- ---- alive
 
--- FC or F8, with a name
+-- FC or F8, with a name; where no name is alive twice this is document 01's live file
 unfoldable pub alive : Entry → Bool
 alive e = named 0xFC e || named 0xF8 e
 
@@ -53,17 +54,13 @@ fc-alive e h = rw h
 pub f8-alive : (e : Entry) → named 0xF8 e ≡ true → alive e ≡ true
 unfolding alive
 f8-alive e h = rw h (or-true (named 0xFC e))
-  where
-    or-true : (b : Bool) → (b || true) ≡ true
-    or-true true = refl
-    or-true false = refl
 
 -- F8 is not FC
 pub fc-not-f8 : (e : Entry) → named 0xF8 e ≡ true → named 0xFC e ≡ false
 unfolding named
 fc-not-f8 e h =
-    let k : e .it .status ≡ 248 = eqb-true (e .it .status) 248 (and-left (eqb (e .it .status) 248) (not (empty (name-of e))) h) in
-    rw (ne-eqb (e .it .status) 252 (λ f. omega arith))
+    let k : e .it .status ≡ 0xF8 = eqb-true (e .it .status) 0xF8 (and-left (eqb (e .it .status) 0xF8) (not (empty (name-of e))) h) in
+    rw (ne-eqb (e .it .status) 0xFC (λ f. omega arith))
 
 doubled-none : (st : ℕ) → ((e : Entry) → named st e ≡ true → alive e ≡ true) → (es : List Entry) → Unique es → doubled st es ≡ false
 unfolding doubled has-named
@@ -97,7 +94,7 @@ pub no-fc : (es : List Entry) → Unique es → Each (λ e. named 0xF8 e ≡ tru
 unfolding has-named
 no-fc es u = each-map es (λ e h k. any-none (named-as 0xFC e) es (each-map es (λ f o. o k) h)) (none-over es u)
 
--- live is alive
+-- document 01's live is alive
 pub live-alive : (es : List Entry) → Unique es → Each (λ e. live es e ≡ alive e) es
 unfolding live alive
 live-alive es u = each-map es (λ e h. go (named 0xFC e) (named 0xF8 e) (has-named 0xFC es e) h) (no-fc es u)
@@ -116,26 +113,19 @@ pub none-superseded : (es : List Entry) → Unique es → keep (superseded es) e
 unfolding superseded
 none-superseded es u = keep-none (superseded es) es (each-map es (λ e h. and-no (named 0xF8 e) (has-named 0xFC es e) h) (no-fc es u))
 
--- ---- the rules of a quiet store
+-- ---- the rules
 
 -- a live name is a file name
 abbrev pub Well-named : Entry → Type 0
 Well-named e = alive e ≡ true → name-ok (name-of e) ≡ true
 
--- its status is not that of an unfinished record
+-- neither torn nor reserved
 abbrev pub Finished : Entry → Type 0
 Finished e = is-unfinished (e .it .status) ≡ false
 
 -- neither START nor CLEAN
 abbrev pub Unmarked : Entry → Type 0
 Unmarked e = marked e ≡ false
-
--- the records of a quiet image: x the head, es the others
-pub record Calm-store (x : Entry) (es : List Entry) : Type 0 where
-  pub unique : Unique (x ∷ es)
-  pub well-named : Each Well-named (x ∷ es)
-  pub finished : Each Finished (x ∷ es)
-  pub unmarked : Each Unmarked es
 
 name-legal-by : (es : List Entry) (e : Entry) → live es e ≡ alive e → Well-named e → name-legal es e ≡ true
 unfolding name-legal
@@ -163,15 +153,6 @@ unfolding marks-ok
 marks-by x [] h = refl
 marks-by x (y ∷ es) h = rw (marks-ok, second-plain (x ∷ (y ∷ es)) x y (h .0), any-none marked es (h .1))
 
--- no rule is broken
-pub calm-ruled : (x : Entry) (es : List Entry) → Calm-store x es → Ruled (x ∷ es)
-calm-ruled x es c =
-    record {
-      names = names-by (x ∷ es) (c .unique) (c .well-named);
-      singles = unique-single (x ∷ es) (c .unique);
-      marks = marks-by x es (c .unmarked);
-    }
-
 -- a dead one is apart from any other
 pub dead-apart : (u : Entry) → alive u ≡ false → (e : Entry) → Apart e u
 dead-apart u a e p q = let z : false ≡ true = sym a ∙ q in cc
@@ -179,13 +160,3 @@ dead-apart u a e p q = let z : false ≡ true = sym a ∙ q in cc
 -- a record that is not alive needs no name
 pub dead-named : (u : Entry) → alive u ≡ false → Well-named u
 dead-named u a q = let z : false ≡ true = sym a ∙ q in cc
-
--- with an unfinished record behind
-pub calm-and : (x u : Entry) (es : List Entry) → Calm-store x es → alive u ≡ false → Unmarked u → Ruled (x ∷ (es ++ (u ∷ [])))
-calm-and x u es c a m =
-    let un : Unique (x ∷ (es ++ (u ∷ []))) = pairwise-end Apart (x ∷ es) u (c .unique) (each-all (λ e. Apart e u) (dead-apart u a) (x ∷ es)) in
-    record {
-      names = names-by (x ∷ (es ++ (u ∷ []))) un (each-end Well-named (x ∷ es) u (c .well-named) (dead-named u a));
-      singles = unique-single (x ∷ (es ++ (u ∷ []))) un;
-      marks = marks-by x (es ++ (u ∷ [])) (each-end Unmarked es u (c .unmarked) m);
-    }

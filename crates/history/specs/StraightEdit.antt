@@ -1,4 +1,5 @@
--- An image that has not turned, cut in two behind some of its records; and a record with another status, low byte or data.
+-- An image that has not turned, cut in two behind some of its records, and with other bytes in place of its end; and one record with
+-- another status, low byte or data.
 use Prim.Native.Nat.{ℕ, _+_}
 use native.Mathlib.Omega.{arith}
 use native.Mathlib.Nat.{zero-add, add-assoc}
@@ -8,50 +9,50 @@ use lib.ListN.{length, length-append}
 use Rattle.spec.specs.Step.{Step, run, moved}
 use Rattle.spec.specs.Record.{Rec}
 use Rattle.history.specs.Lay.{onto, lay, rsize, sizes, lay-is, length-lay, All-fine}
-use Rattle.history.specs.Seg.{Seg, seg-onto, seg-size, length-seg}
 use Rattle.history.specs.Steps.{Programs, run-past}
+use Rattle.history.specs.Seg.{Seg, seg-onto, seg-size, length-seg}
 use Rattle.history.specs.Straight.{Straight}
 
 -- ---- lists of records
 
--- two lists of records
+-- laid down, one list behind the other
 pub lay-append : (xs ys : List Rec) (s : List ℕ) → lay (xs ++ ys) s ≡ lay xs (lay ys s)
 lay-append [] ys s = refl
 lay-append (a ∷ xs) ys s = ap (onto a) (lay-append xs ys s)
 
--- two lists of records
+-- their sizes
 pub sizes-append : (xs ys : List Rec) → sizes (xs ++ ys) ≡ sizes xs + sizes ys
 sizes-append [] ys = sym (zero-add (sizes ys))
 sizes-append (a ∷ xs) ys = ap (λ (n : ℕ). rsize a + n) (sizes-append xs ys) ∙ sym (add-assoc (rsize a) (sizes xs) (sizes ys))
 
--- two lists of records
+-- both fine
 pub fine-append : (xs ys : List Rec) → All-fine xs → All-fine ys → All-fine (xs ++ ys)
 fine-append [] ys p q = q
 fine-append (x ∷ xs) ys p q = (p .0, fine-append xs ys (p .1) q)
 
--- the first list
+-- so the first
 pub fine-left : (xs ys : List Rec) → All-fine (xs ++ ys) → All-fine xs
 fine-left [] ys p = tt
 fine-left (x ∷ xs) ys p = (p .0, fine-left xs ys (p .1))
 
--- the second
+-- and the second
 pub fine-right : (xs ys : List Rec) → All-fine (xs ++ ys) → All-fine ys
 fine-right [] ys p = p
 fine-right (x ∷ xs) ys p = fine-right xs ys (p .1)
 
 -- the same place with other records and another end
-pub other : {im : List ℕ} {a l : ℕ} {gap lost : List ℕ} {h : ℕ} {high high′ : List Rec} {seg seg′ : Seg} {free free′ : List ℕ} (im′ : List ℕ)
+pub straight-with : {im : List ℕ} {a l : ℕ} {gap lost : List ℕ} {h : ℕ} {high high′ : List Rec} {seg seg′ : Seg} {free free′ : List ℕ} (im′ : List ℕ)
     → Straight im a l gap lost h high seg free →
     im′ ≡ gap ++ (lost ++ lay high′ (seg-onto seg′ free′)) → All-fine high′ → Straight im′ a l gap lost h high′ seg′ free′
-other im′ s e f =
+straight-with im′ s e f =
     record {
       is = e;
       at = s .at;
       gap-length = s .gap-length;
-      gap-quiet = s .gap-quiet;
+      gap-markless = s .gap-markless;
       lost-length = s .lost-length;
       lost-small = s .lost-small;
-      lost-quiet = s .lost-quiet;
+      lost-markless = s .lost-markless;
       front = s .front;
       fine = f;
     }

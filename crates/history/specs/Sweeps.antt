@@ -1,4 +1,4 @@
--- Sweep, and remove, on a rested image, cut anywhere.
+-- Sweep on a rested image, move by move, cut anywhere; and remove's one step.
 use Prim.Native.Nat.{ℕ, zero, suc}
 use native.Mathlib.Omega.{arith}
 use mathlib.Core.Path.{_≡_, refl, sym, ap, _∙_, subst}
@@ -17,30 +17,29 @@ use Rattle.spec.specs.Move.{Work, begin, reread, after, copy-steps, close-steps
 use Rattle.spec.specs.Sweep.{no-room, at-end, stuck, moves}
 use Rattle.spec.specs.History.{Ledger, without}
 use Rattle.spec.specs.Demand.{Sound}
-use Rattle.history.specs.Lay.{blanks}
-use Rattle.history.specs.Seg.{seg-none}
-use Rattle.history.specs.Steps.{run-append}
-use Rattle.history.specs.Laid.{Laid}
-use Rattle.history.specs.Safe.{Safe, safe-append}
+use Rattle.history.specs.Blanks.{blanks}
 use Rattle.history.specs.Store.{alive, live-alive}
-use Rattle.history.specs.Settled.{after-none}
-use Rattle.history.specs.OkLaws.{Old, old-none, old-some, old-file, ok-delete}
+use Rattle.history.specs.Steps.{run-append}
+use Rattle.history.specs.Safe.{Safe, safe-append}
+use Rattle.history.specs.Seg.{seg-none}
+use Rattle.history.specs.Laid.{Laid}
 use Rattle.history.specs.Kinds.{Ok, Starts, Inv, Rested}
-use Rattle.history.specs.Closes.{Rests}
-use Rattle.history.specs.Idle.{after-some}
+use Rattle.history.specs.OkLaws.{Old, old-none, old-some, old-file, ok-delete}
+use Rattle.history.specs.Settled.{after-none, after-some}
 use Rattle.history.specs.Vacant.{rested-inv}
-use Rattle.history.specs.Unshadow.{delete-sound, delete-rests}
-use Rattle.history.specs.PutOld.{gone, gone-dead}
-use Rattle.history.specs.Handover.{hands-over}
+use Rattle.history.specs.PutOld.{gone, gone-dead, status-sound}
+use Rattle.history.specs.Closes.{Rests}
+use Rattle.history.specs.Unshadow.{delete-rests}
 use Rattle.history.specs.Copying.{Dead-first, copy-safe, copy-some, copied}
+use Rattle.history.specs.Handover.{hands-over}
 
 -- ---- remove
 
--- remove's one step
-pub remove-keeps :
+-- remove's one step: it is sound, and the file goes, from the image and from the ledger
+pub remove-step :
     {l : Ledger} {im : Image} {r : Reading} (n : List ℕ) (e : Entry) → Rested l im r → file-named n (r .entries) ≡ some e →
     Sound im (status-step e 0) × Inv (without n l) (run im (status-step e 0 ∷ []))
-remove-keeps {l} {im} {r} n e q f = go (old-file n (q .es) l (q .ok)) (sym (ap (λ (y : Reading). file-named n (y .entries)) (q .is)) ∙ f)
+remove-step {l} {im} {r} n e q f = go (old-file n (q .es) l (q .ok)) (sym (ap (λ (y : Reading). file-named n (y .entries)) (q .is)) ∙ f)
   where
     at : (xs ys : List Entry) → q .es ≡ xs ++ (e ∷ ys) → alive e ≡ true → name-of e ≡ n → Sound im (status-step e 0)
         × Inv (without n l) (run im (status-step e 0 ∷ []))
@@ -49,8 +48,8 @@ remove-keeps {l} {im} {r} n e q f = go (old-file n (q .es) l (q .ok)) (sym (ap (
         subst (λ (fs : List Entry). Laid im (q .h) (q .S) (q .t) fs seg-none (blanks (q .B)) (blanks (q .F))) i (q .laid) in
         let o : Ok (xs ++ (gone e ∷ ys)) (without n l) =
         subst (λ (k : List ℕ). Ok (xs ++ (gone e ∷ ys)) (without k l)) m
-            (ok-delete xs ys e (gone e) l (subst (λ (fs : List Entry). Ok fs l) i (q .ok)) a (gone-dead e)) in
-        (delete-sound (q .B) (q .F) xs ys e (q .good) d (q .tail), rested-inv
+            (ok-delete xs ys e l (subst (λ (fs : List Entry). Ok fs l) i (q .ok)) (gone e) a (gone-dead e)) in
+        (status-sound xs ys e d 0 refl, rested-inv
             (delete-rests (q .B) (q .F) xs ys e (q .good) d (q .tail) (subst Starts i (q .starts)) o))
 
     go : {o : Option Entry} → Old n (q .es) o → o ≡ some e → Sound im (status-step e 0) × Inv (without n l) (run im (status-step e 0 ∷ []))
@@ -69,8 +68,8 @@ record Done (l : Ledger) (im : Image) (w : Work) : Type 0 where
   pub rested : Rested l (w .image) (w .reading)
 
 two-on : (w : Work) (x y : Entry) (es : List Entry) → w .reading .entries ≡ x ∷ y ∷ es →
-    moved-on w ≡ reread w (program (y .at) 160 ∷ close-steps (w .reading .place .length) x y)
-        (run (w .image) (program (y .at) 160 ∷ close-steps (w .reading .place .length) x y)) (y .at)
+    moved-on w ≡ reread w (program (y .at) 0xA0 ∷ close-steps (w .reading .place .length) x y)
+        (run (w .image) (program (y .at) 0xA0 ∷ close-steps (w .reading .place .length) x y)) (y .at)
 unfolding hand-over after
 two-on w x y es e = ap (hand-over w) e
 
@@ -80,9 +79,9 @@ moved-done l im w d f =
     let q : Rested l (w .image) (w .reading) = d .rested in
     let N : w .reading .place .length ≡ length (w .image) = ap (λ (r : Reading). r .place .length) (q .is) in
     let e : w .reading .entries ≡ f .x ∷ f .y ∷ f .rest = ap (λ (r : Reading). r .entries) (q .is) ∙ f .is in
-    let ss : List Step = program (f .y .at) 160 ∷ close-steps (w .reading .place .length) (f .x) (f .y) in
+    let ss : List Step = program (f .y .at) 0xA0 ∷ close-steps (w .reading .place .length) (f .x) (f .y) in
     let p : Rests l (w .image) ss (f .y .at) =
-    subst (λ (n : ℕ). Rests l (w .image) (program (f .y .at) 160 ∷ close-steps n (f .x) (f .y)) (f .y .at)) (sym N)
+    subst (λ (n : ℕ). Rests l (w .image) (program (f .y .at) 0xA0 ∷ close-steps n (f .x) (f .y)) (f .y .at)) (sym N)
         (hands-over q (f .x) (f .y) (f .rest) (f .is) (f .dead)) in
     subst (Done l im) (sym (two-on w (f .x) (f .y) (f .rest) e))
     (record {
@@ -157,7 +156,6 @@ module _ {l : Ledger} {im : Image} {r : Reading} (q : Rested l im r) (free : stu
       let c : (p : Rested l (run im ss) (reading-from (run im ss) (r .place .head))) × Dead-first (p .es) = copied q x es i a room in
       let d : Done l im (reread (begin im r) ss (run im ss) (r .place .head)) = record
           { safe = copy-safe q x es i a room; image = refl; rested = c .0 } in
-      
       subst (Done l im) (sym (move-by im r (x ∷ es) ss (reread (begin im r) ss (run im ss) (r .place .head)) (entries-is ∙ i)
           (copy-live r x es (live-is x es i ∙ a))
       (after-some (begin im r) ss (r .place .head) (copy-some q x es i a room))))
@@ -170,7 +168,8 @@ module _ {l : Ledger} {im : Image} {r : Reading} (q : Rested l im r) (free : stu
   move-dead x (y ∷ es) i a =
       subst (Done l im) (sym (move-by im r (x ∷ y ∷ es) [] (begin im r) (entries-is ∙ i) (copy-dead r x (y ∷ es) (live-is x (y ∷ es) i ∙ a))
           (after-none (begin im r) (r .place .head))))
-      (moved-done l im (begin im r) (record { safe = rested-inv q; image = refl; rested = q }) (record { x = x; y = y; rest = es; is = i; dead = a }))
+      (moved-done l im (begin im r) (record { safe = rested-inv q; image = refl; rested = q })
+          (record { x = x; y = y; rest = es; is = i; dead = a }))
 
   move-done : Done l im (move (begin im r))
   move-done = go (q .es) refl
@@ -194,7 +193,7 @@ moves-on : (k : ℕ) (im : Image) (r : Reading) → stuck r ≡ false
 unfolding moves
 moves-on k im r e = rw (moves, e)
 
--- k moves, cut anywhere
+-- k moves of a sweep, cut anywhere: the files stay
 pub moves-safe : (k : ℕ) {l : Ledger} {im : Image} {r : Reading} → Rested l im r → Safe (Inv l) im (concat (moves k im r))
 unfolding moves
 moves-safe zero q = rested-inv q

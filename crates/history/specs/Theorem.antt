@@ -1,11 +1,11 @@
--- Demand 3: each call keeps the invariant with the ledger as it is fed, and mount shows the ledger's files.
-use Prim.Native.Nat.{ℕ, zero, suc, _+_, _-_, _≤_, _<_}
+-- Demand 3. Each call keeps the invariant, with the ledger as it is fed; a mount, run to its end, shows the ledger's files.
+-- The theorem stands at the end; read from there upwards.
+use Prim.Native.Nat.{ℕ, zero, suc, _+_, _-_, _≤_, _<_, min}
 use native.Mathlib.Omega.{arith}
 use mathlib.Core.Path.{_≡_, refl, sym, ap, ap₂, _∙_, subst}
 use mathlib.Core.Bool.{Bool, true, false}
 use mathlib.Core.List.{List, [], _∷_, _++_}
 use lib.ListN.{length, take}
-use Prim.Native.Nat.{min}
 use lib.Seq.{take-append-le, take-append-add}
 use lib.Dec.{eqb, leb}
 use borrow.Author.Tests.{leb-true, leb-false}
@@ -19,26 +19,28 @@ use Rattle.spec.specs.Reading.{reading}
 use Rattle.spec.specs.Place.{with-marker}
 use Rattle.spec.specs.Write.{put-steps, status-step}
 use Rattle.spec.specs.Mount.{mended}
-use Rattle.spec.specs.Answers.{Plan, Numbers, Outcome, doing, removing, carry-out, cut, refusal, success, mount, mount-of, mount-work, mount-plan, put-plan, file-plan, remove-plan, get-plan, list-plan, sweep-plan}
+use Rattle.spec.specs.Answers.{Plan, Numbers, Outcome, doing, removing, carry-out, cut, refusal, success, mount, mount-of, mount-work, mount-plan}
+use Rattle.spec.specs.Answers.{put-plan, file-plan, remove-plan, get-plan, list-plan, sweep-plan}
 use Rattle.spec.specs.History.{Request, plan, steps-of, Ledger, with-file, without, one-if-fc, three-if, commit-place, put-done, fed}
 use Rattle.spec.specs.Demand.{Steps-sound, Mounted, Shows, Bytes-put, Demand-3}
 use Rattle.history.specs.Steps.{run-append}
 use Rattle.history.specs.Safe.{Safe, safe-cut, safe-end, safe-sound, sound-append}
-use Rattle.history.specs.Top.{still-keeps, demand-by, carried-done, carried-cut}
 use Rattle.history.specs.Kinds.{Inv, Bytes, Rested}
-use Rattle.history.specs.Settling.{rested-reads}
 use Rattle.history.specs.OkLaws.{old-file, Old}
+use Rattle.history.specs.Settled.{rested-reads}
 use Rattle.history.specs.Puts.{Commits, put-commits}
+use Rattle.history.specs.Mending.{Mends}
 use Rattle.history.specs.Mounts.{mends}
-use Rattle.history.specs.Idle.{Mends}
-use Rattle.history.specs.Sweeps.{moves-safe, remove-keeps}
-use Rattle.history.specs.Shows.{rested-shows}
+use Rattle.history.specs.Sweeps.{moves-safe, remove-step}
+use Rattle.history.specs.Induction.{still-keeps, demand-by, carried-done, carried-cut}
 use Rattle.history.specs.Formats.{formatted}
-use Rattle.history.specs.Calls.{Puts, put-no, put-yes, puts-of, Finds, find-no, find-yes, finds-of, Swept, sweep-no, sweep-yes, swept-of, get-none, list-none}
+use Rattle.history.specs.Calls.{Puts, put-no, put-yes, puts-of, Finds, find-no, find-yes, finds-of, Swept, sweep-no, sweep-yes, swept-of}
+use Rattle.history.specs.Calls.{get-none, list-none}
+use Rattle.history.specs.Shows.{rested-shows}
 
 -- ---- put
 
--- before the commit the old ledger, from it on the new one
+-- steps that lead from ledger k to ledger l at the commit: they are sound, before it the invariant holds of k, from it on of l
 module _ {k l : Ledger} {im : Image} {ss : List Step} {at h : ℕ} (c : Commits k l im ss at h) where
   commits-sound : Steps-sound im ss
   commits-sound =
@@ -86,7 +88,7 @@ done-cut : (im : Image) (n c : List ℕ) (k : ℕ) (p : Plan) → put-done im n 
 unfolding put-done
 done-cut im n c k p = refl
 
--- a call by its plan
+-- the request r with allowance k, whose plan is p, keeps the invariant
 abbrev Keeps : Image → Ledger → Request → ℕ → Answer Plan → Type 0
 Keeps im l r k p = Inv (fed im r (carry-out im k p .numbers) l) (carry-out im k p .image)
 
@@ -121,6 +123,7 @@ module _ (im : Image) (l : Ledger) (n c : List ℕ) (k : ℕ) (ss : List Step) (
           (subst (λ (x : Ledger). Inv x (run im ss)) (sym (fed-yes im n c (success 0 0 0 ss) l (done-whole im n c ss))) (commits-end m))
       go false e = subst Fits (sym (carried-cut im k P (leb-false (length ss) k e))) (cut-fits (leb at k) refl)
 
+-- the commit's place, on an image that is read as r
 place-is : (im : Image) (r : Reading) (n c : List ℕ) → reading im ≡ give r →
     commit-place n c (reading im) ≡ length n + length c + 9 + one-if-fc (file-named n (r .entries)) + three-if
         (with-marker (r .place) (size-of (length n) (length c)))
@@ -130,6 +133,7 @@ place-is im r n c e = ap (commit-place n c) e
 rested-old : {l : Ledger} {im : Image} {r : Reading} (n : List ℕ) → Rested l im r → Old n (r .entries) (file-named n (r .entries))
 rested-old {l} {im} {r} n q = subst (λ (x : Reading). Old n (x .entries) (file-named n (x .entries))) (sym (q .is)) (old-file n (q .es) l (q .ok))
 
+-- a put, whatever it is given: the invariant holds of the ledger that it is fed
 put-keeps : (im : Image) (l : Ledger) (n c : List ℕ) (k : ℕ) → Inv l im → Bytes c → Keeps im l (Request.put n c) k (put-plan n c im)
 put-keeps im l n c k i b = go (puts-of l im n c i)
   where
@@ -140,6 +144,7 @@ put-keeps im l n c k i b = go (puts-of l im n c i)
         (put-given im l n c k (put-steps (r .place) (file-named n (r .entries)) n c) _ (place-is im r n c (rested-reads q))
             (put-commits q (file-named n (r .entries)) n c (rested-old n q) ok b f))
 
+-- its steps are sound
 put-sound : (im : Image) (l : Ledger) (n c : List ℕ) → Inv l im → Bytes c → Steps-sound im (steps-of (put-plan n c im))
 put-sound im l n c i b = go (puts-of l im n c i)
   where
@@ -177,25 +182,28 @@ remove-is : (n : List ℕ) (im : Image) → remove-plan n im ≡ file-plan n rem
 unfolding remove-plan
 remove-is n im = refl
 
-remove-call : (im : Image) (l : Ledger) (n : List ℕ) (k : ℕ) → Inv l im → Keeps im l (Request.remove n) k (remove-plan n im)
-remove-call im l n k i = subst (Keeps im l (Request.remove n) k) (sym (remove-is n im)) (go (finds-of l im n removing i))
+-- a remove keeps the invariant
+remove-keeps : (im : Image) (l : Ledger) (n : List ℕ) (k : ℕ) → Inv l im → Keeps im l (Request.remove n) k (remove-plan n im)
+remove-keeps im l n k i = subst (Keeps im l (Request.remove n) k) (sym (remove-is n im)) (go (finds-of l im n removing i))
   where
     go : Finds l im n removing → Keeps im l (Request.remove n) k (file-plan n removing im)
     go (find-no r) = subst (Keeps im l (Request.remove n) k) (sym (r .is)) (remove-refused im l n k (r .number) i (r .not-done))
-    go (find-yes r x q f e) = subst (Keeps im l (Request.remove n) k) (sym e) (remove-given im l n k x i (remove-keeps n x q f .1))
+    go (find-yes r x q f e) = subst (Keeps im l (Request.remove n) k) (sym e) (remove-given im l n k x i (remove-step n x q f .1))
 
+-- its step is sound
 remove-sound : (im : Image) (l : Ledger) (n : List ℕ) → Inv l im → Steps-sound im (steps-of (remove-plan n im))
 remove-sound im l n i = subst (λ (p : Answer Plan). Steps-sound im (steps-of p)) (sym (remove-is n im)) (go (finds-of l im n removing i))
   where
     go : Finds l im n removing → Steps-sound im (steps-of (file-plan n removing im))
     go (find-no r) = subst (λ (p : Answer Plan). Steps-sound im (steps-of p)) (sym (r .is)) tt
-    go (find-yes r x q f e) = subst (λ (p : Answer Plan). Steps-sound im (steps-of p)) (sym e) (remove-keeps n x q f .0, tt)
+    go (find-yes r x q f e) = subst (λ (p : Answer Plan). Steps-sound im (steps-of p)) (sym e) (remove-step n x q f .0, tt)
 
 -- ---- calls that leave the ledger as it is
 
 none-safe : (im : Image) (l : Ledger) (p : Answer Plan) → steps-of p ≡ [] → Inv l im → Safe (Inv l) im (steps-of p)
 none-safe im l p e i = subst (Safe (Inv l) im) (sym e) i
 
+-- a sweep, cut anywhere
 sweep-safe : (im : Image) (l : Ledger) → Inv l im → Safe (Inv l) im (steps-of (sweep-plan im))
 sweep-safe im l i = go (swept-of l im i)
   where
@@ -207,6 +215,7 @@ mount-is : (im : Image) (r : Reading) → good-length (length im) ≡ true → r
 unfolding mount-plan
 mount-is im r g e = rw (mount-plan, g) (ap (λ (x : Answer Reading). onward x (mount-of im)) e)
 
+-- a mount, cut anywhere
 mount-safe : (im : Image) (l : Ledger) → Inv l im → Safe (Inv l) im (steps-of (mount-plan im))
 mount-safe im l i =
     let m : Mends l im = mends l im i in
@@ -225,6 +234,7 @@ mounted-by im l k p q e h a s =
     subst (λ (p : Answer Plan). length (steps-of p) ≤ k → Shown l (carry-out im k p)) (sym e)
         (λ j. subst (Shown l) (sym (carried-done im k q j)) (a, s)) h
 
+-- a mount with allowance enough answers 0, and shows the ledger's files
 mounts : (im : Image) (l : Ledger) → Inv l im → (k : ℕ) → length (steps-of (mount-plan im)) ≤ k → Mounted im k l
 mounts im l i k h =
     let m : Mends l im = mends l im i in
@@ -234,10 +244,11 @@ mounts im l i k h =
 
 -- ---- all calls
 
+-- every call keeps the invariant, with the ledger as it is fed
 keeps-by : (im : Image) (l : Ledger) (r : Request) (k : ℕ) → Inv l im → Bytes-put r → Keeps im l r k (plan im r)
 unfolding fed
 keeps-by im l (Request.put n c) k i b = put-keeps im l n c k i b
-keeps-by im l (Request.remove n) k i b = remove-call im l n k i
+keeps-by im l (Request.remove n) k i b = remove-keeps im l n k i
 keeps-by im l Request.sweep k i b = still-keeps Inv im l (record { request = Request.sweep; allowance = k }) (sweep-safe im l i) refl
 keeps-by im l Request.mount k i b = still-keeps Inv im l (record { request = Request.mount; allowance = k }) (mount-safe im l i) refl
 keeps-by im l (Request.get n) k i b =
@@ -245,6 +256,7 @@ keeps-by im l (Request.get n) k i b =
 keeps-by im l (Request.list j) k i b =
     still-keeps Inv im l (record { request = Request.list j; allowance = k }) (none-safe im l (list-plan j im) (list-none j im) i) refl
 
+-- every step of every call is sound
 sound-by : (im : Image) (l : Ledger) (r : Request) → Inv l im → Bytes-put r → Steps-sound im (steps-of (plan im r))
 sound-by im l (Request.put n c) i b = put-sound im l n c i b
 sound-by im l (Request.remove n) i b = remove-sound im l n i
@@ -253,6 +265,6 @@ sound-by im l Request.mount i b = safe-sound (Inv l) im (steps-of (mount-plan im
 sound-by im l (Request.get n) i b = safe-sound (Inv l) im (steps-of (get-plan n im)) (none-safe im l (get-plan n im) (get-none n im) i)
 sound-by im l (Request.list j) i b = safe-sound (Inv l) im (steps-of (list-plan j im)) (none-safe im l (list-plan j im) (list-none j im) i)
 
--- the theorem
+-- THE theorem: demand 3, as crate spec states it
 pub demand-3 : Demand-3
 demand-3 = demand-by Inv formatted (λ im l c. keeps-by im l (c .request) (c .allowance)) sound-by mounts

@@ -1,4 +1,5 @@
--- Images whose chain has turned: where the bytes are, that the head is found, and what is read from it.
+-- Images whose chain has turned (document 01: "after a wrap marker, or at N, the chain goes on at 0"): where the bytes are, that the head
+-- is found, and what is read from it.
 use Prim.Native.Nat.{ℕ, suc, _+_, _*_, _≤_, _<_, _-_, zero}
 use native.Mathlib.Omega.{arith}
 use mathlib.Core.Path.{_≡_, sym, ap, _∙_, subst}
@@ -12,15 +13,17 @@ use Rattle.spec.specs.Geometry.{floor}
 use Rattle.spec.specs.Record.{clean-here, Rec}
 use Rattle.spec.specs.Head.{head}
 use Rattle.spec.specs.Chain.{read, reading-from}
-use Rattle.history.specs.Lay.{blanks, lay, sizes, entries-of, All-fine}
+use Rattle.history.specs.Blanks.{blanks, blank-split}
+use Rattle.history.specs.Lay.{lay, sizes, entries-of, All-fine, chain-of}
 use Rattle.history.specs.Last.{Ends, Stops, stops-clear, stops-over, wrap, ends-wrap}
-use Rattle.history.specs.Walk.{Quiet, Walked, Head-low, is-START, is-CLEAN}
+use Rattle.history.specs.Markless.{markless-append, Markless}
+use Rattle.history.specs.Walk.{Walked, Head-low, is-START, is-CLEAN}
 use Rattle.history.specs.Head.{Front, front-gap, front-begun, front-low, Reaches, head-start, head-clean}
-use Rattle.history.specs.Shape.{chain-of, image, shape-turned, turns-wrap, turns-over, Low-end, low-clear, low-over}
-use Rattle.history.specs.Quiet.{quiet-append, blank-split}
-use Rattle.history.specs.Seg.{Seg, seg-none, seg-torn, seg-cut, seg-held, seg-onto, seg-size, seg-entries, seg-open, seg-append, length-seg, seg-ends, seg-reaches}
+use Rattle.history.specs.Seg.{Seg, seg-none, seg-torn, seg-cut, seg-held, seg-onto, seg-size, seg-entries, seg-open, seg-append, length-seg}
+use Rattle.history.specs.Seg.{seg-ends, seg-reaches}
+use Rattle.history.specs.Shape.{image, shape-turned, turns-wrap, turns-over, Low-end, low-clear, low-over}
 
--- what stands behind the records from the head on
+-- what ends the records from the head on: N itself, or a wrap marker and k bytes of FF
 pub data End : Type 0 where
   exact : End
   marker : ℕ → End
@@ -35,26 +38,27 @@ pub data Opens : List ℕ → Next → Type 0 where
   opens-ff : {s : List ℕ} → Opens (blanks 8 ++ s) Next.Clear
   opens-none : Opens [] Next.Over
 
--- the records low from 0 on, seg at T, f words of free up to floor(h), l words of lost, then the records from the head h on and what ends them;
--- floor(h) is a sectors
-pub record Turned (im : List ℕ) (a l : ℕ) (lost : List ℕ) (h : ℕ) (low : List Rec) (seg : Seg) (f : ℕ) (free : List ℕ) (high : List Rec) (end : End) :
+-- the records low from 0 on, seg behind them, f words of free (document 01's free run) up to floor(h), which is a sectors; l words of lost
+-- bytes, then the records from the head h on and what ends them
+pub record Turned (im : List ℕ) (a l : ℕ) (lost : List ℕ) (h : ℕ) (low : List Rec) (seg : Seg) (f : ℕ) (free : List ℕ) (high : List Rec)
+    (end : End) :
     Type 0 where
   pub is : im ≡ lay low (seg-onto seg (free ++ (lost ++ lay high (end-bytes end))))
   pub at : 4096 * a + 8 * l ≡ h
   pub some-below : 1 ≤ a
   pub below : sizes low + seg-size seg + 8 * f ≡ 4096 * a
   pub free-length : length free ≡ 8 * f
-  pub free-quiet : Quiet f free
+  pub free-markless : Markless f free
   pub opened : Next
   pub opens : Opens free opened
   pub lost-length : length lost ≡ 8 * l
   pub lost-small : l < 512
-  pub lost-quiet : Quiet l lost
+  pub lost-markless : Markless l lost
   pub fine-low : All-fine low
   pub walked : Walked 0 low
   pub fine-high : All-fine high
 
-ff-not : _≡_ {A = ℕ} 255 90 → ⊥
+ff-not : _≡_ {A = ℕ} 0xFF 0x5A → ⊥
 ff-not e = omega arith
 
 -- at 0 a record, FF, or something unfinished
@@ -105,12 +109,12 @@ module _ {im : List ℕ} {a l : ℕ} {lost : List ℕ} {h : ℕ} {low : List Rec
   word-count = length-append free lost ∙ omega (arith, s .free-length, s .lost-length)
 
   reached : {b : ℕ} → x .low ≡ b → Head-low b
-      → Reaches (sizes low) (seg-onto seg ((free ++ lost) ++ rest)) (b ∷ 90 ∷ drop 2 rest) (seg-size seg + 8 * (f + l))
+      → Reaches (sizes low) (seg-onto seg ((free ++ lost) ++ rest)) (b ∷ 0x5A ∷ drop 2 rest) (seg-size seg + 8 * (f + l))
   reached {b} e k =
-      subst (λ (c : ℕ). Reaches (sizes low) (seg-onto seg ((free ++ lost) ++ (c ∷ 90 ∷ drop 2 rest))) (b ∷ 90 ∷ drop 2 rest)
+      subst (λ (c : ℕ). Reaches (sizes low) (seg-onto seg ((free ++ lost) ++ (c ∷ 0x5A ∷ drop 2 rest))) (b ∷ 0x5A ∷ drop 2 rest)
           (seg-size seg + 8 * (f + l))) (sym e)
       (seg-reaches (sizes low) (f + l) seg (free ++ lost) (drop 2 rest) word-count
-          (quiet-append f l free lost (s .free-length) (s .free-quiet) (s .lost-quiet)) k
+          (markless-append f l free lost (s .free-length) (s .free-markless) (s .lost-markless)) k
       (λ i. omega (arith, s .below, s .some-below)))
 
   fronted : Front low (seg-onto seg ((free ++ lost) ++ rest))
@@ -126,7 +130,7 @@ module _ {im : List ℕ} {a l : ℕ} {lost : List ℕ} {h : ℕ} {low : List Rec
       ∙ ap give (omega (arith, s .below, s .at))
 
   -- CLEAN is found, if none stands at 0
-  pub turned-clean : x .low ≡ 160 → clean-here im ≡ false → head im ≡ give h
+  pub turned-clean : x .low ≡ 0xA0 → clean-here im ≡ false → head im ≡ give h
   turned-clean e c =
       ap head seg-whole ∙ head-clean low (seg-onto seg ((free ++ lost) ++ rest)) (drop 2 rest) (seg-size seg + 8 * (f + l)) (s .fine-low) (s .walked)
           fronted (sym (ap clean-here seg-whole) ∙ c)
@@ -164,7 +168,8 @@ module _ {im : List ℕ} {a l : ℕ} {lost : List ℕ} {h : ℕ} {low : List Rec
           rw e (shape-turned low (x ∷ ys) (seg-onto seg free) lost [] h low-part high-part (s .fine-low) (s .fine-high) (omega arith)
               (seg-entries (sizes low) seg) (seg-open seg)
           (h + sizes (x ∷ ys)) (sizes low + seg-size seg)
-          (λ z. omega (arith, bottom, s .some-below)) turns-over (λ k. stops-over (h + sizes (x ∷ ys)) false (suc k)) (opens-end (s .opens)) low-ends)
+          (λ z. omega (arith, bottom, s .some-below)) turns-over (λ k. stops-over (h + sizes (x ∷ ys)) false (suc k)) (opens-end (s .opens))
+              low-ends)
       go (marker k) e =
           rw e (shape-turned low (x ∷ ys) (seg-onto seg free) lost (wrap (blanks k)) h low-part high-part (s .fine-low) (s .fine-high) (omega arith)
               (seg-entries (sizes low) seg) (seg-open seg)

@@ -1,4 +1,4 @@
--- Step (d) of a move on an image that has turned, cut anywhere: Y behind X in a later sector, or Y at 0.
+-- Step (d) of a move on an image that has turned, cut anywhere: Y behind X in a later sector, or Y at 0, and then all up to N is erased.
 use Prim.Native.Nat.{ℕ, suc, _+_, _-_, _*_, _/_, _≤_, _<_}
 use native.Mathlib.Omega.{arith}
 use mathlib.Core.Path.{_≡_, refl, sym, ap, _∙_, subst}
@@ -7,13 +7,13 @@ use lib.ListN.{length, take, drop, length-append, length-drop, drop-of-length-le
 use Rattle.spec.specs.declared.Next.{Next}
 use Rattle.spec.specs.Step.{run}
 use Rattle.spec.specs.Record.{Rec}
-use Rattle.history.specs.Lay.{body, onto, lay, rsize, lay-is, length-lay, lay-past}
-use Rattle.history.specs.Walk.{Quiet}
-use Rattle.history.specs.Quiet.{blank-split, quiet-append}
-use Rattle.history.specs.Erase.{erases, half-erased, half-erased-length, erase-cut, quiet-lost, half-erased-quiet, quiet-second}
+use Rattle.history.specs.Blanks.{blank-split}
+use Rattle.history.specs.Lay.{body, onto, lay, rsize, length-lay, lay-past, rsize-words}
+use Rattle.history.specs.Markless.{markless-append, Markless, Cleaned}
+use Rattle.history.specs.Erase.{erases, half-erased, half-erased-length, erase-cut, markless-lost, half-erased-markless, old-head}
+use Rattle.history.specs.Erase.{old-head-lay, old-head-length, old-head-markless, old-head-second}
 use Rattle.history.specs.Seg.{seg-none}
 use Rattle.history.specs.Straight.{Straight}
-use Rattle.history.specs.StraightErase.{Cleaned, rsize-words, old-head}
 use Rattle.history.specs.Turned.{End, end-bytes, Opens, opens-ff, opens-none, Turned}
 
 -- the free run with what is being erased behind it
@@ -35,36 +35,30 @@ module _ {im : List ℕ} {a l : ℕ} {lost : List ℕ} {h : ℕ} {low : List Rec
     (s : Turned im a l lost h low seg-none f free (x ∷ y ∷ ys) end) (c : Cleaned x)
     (k r : ℕ) (all : 512 * suc k + r ≡ l + rsize x / 8) (short : r < 512) where
   abbrev q : List ℕ
-  q = old-head lost x
+  q = old-head lost x []
 
   q-length : length q ≡ 4096 * suc k + 8 * r
-  unfolding old-head
-  q-length = length-append lost (onto x []) ∙ omega (arith, s .lost-length, length-lay (x ∷ []) [], rsize-words x)
+  q-length = old-head-length x lost l k r (s .lost-length) all
 
   rest : List ℕ
   rest = lay (y ∷ ys) (end-bytes end)
 
   im-is : im ≡ lay low free ++ (q ++ rest)
-  unfolding old-head rest
+  unfolding rest
   im-is =
-      s .is ∙ ap (λ (l : List ℕ). lay low (free ++ l)) (ap (λ (l : List ℕ). lost ++ l) (lay-is (x ∷ []) (lay (y ∷ ys) (end-bytes end))) ∙ sym
-      (append-assoc lost (onto x []) (lay (y ∷ ys) (end-bytes end))))
-      ∙ sym (lay-past low free ((lost ++ onto x []) ++ lay (y ∷ ys) (end-bytes end)))
+      s .is ∙ ap (λ (l : List ℕ). lay low (free ++ l)) (old-head-lay lost x (lay (y ∷ ys) (end-bytes end)))
+      ∙ sym (lay-past low free (old-head lost x [] ++ lay (y ∷ ys) (end-bytes end)))
 
-  quiet-q : Quiet (512 * k + r) (drop 4096 q)
-  unfolding old-head
-  quiet-q =
-      let n : rsize x / 8 - 1 ≡ 511 - l + (512 * k + r) = omega (arith, s .lost-small) in
-      quiet-second x lost [] l (512 * k + r) (s .lost-length) (omega (arith, s .lost-small))
-          (subst (λ (m : ℕ). Quiet m (body (x .name) (x .content) [])) n c)
+  markless-q : Markless (512 * k + r) (drop 4096 q)
+  markless-q = old-head-markless x lost l k r (s .lost-length) all (s .lost-small) c
 
   -- after at least one erase: the head is Y
-  pub turned-m3 : (i : ℕ) → i ≤ k →
-      Turned (run im (take (suc i) (erases (4096 * a) (suc k)))) (a + suc k) r (drop (4096 * suc k) (old-head lost x)) (h + rsize x) low seg-none
+  pub turned-erased : (i : ℕ) → i ≤ k →
+      Turned (run im (take (suc i) (erases (4096 * a) (suc k)))) (a + suc k) r (drop (4096 * suc k) (old-head lost x [])) (h + rsize x) low seg-none
           (f + 512 * suc k)
-      (free ++ half-erased (suc i) (suc k) (old-head lost x)) (y ∷ ys) end
+      (free ++ half-erased (suc i) (suc k) (old-head lost x [])) (y ∷ ys) end
   unfolding rest
-  turned-m3 i e =
+  turned-erased i e =
       let D : List ℕ = half-erased (suc i) (suc k) q in
       let L : List ℕ = drop (4096 * suc k) q in
       let ld : length D ≡ 4096 * suc k = half-erased-length (suc i) (suc k) q (omega arith) (omega (arith, q-length)) in
@@ -76,30 +70,27 @@ module _ {im : List ℕ} {a l : ℕ} {lost : List ℕ} {h : ℕ} {low : List Rec
         some-below = omega arith;
         below = omega (arith, s .below);
         free-length = length-append free D ∙ omega (arith, s .free-length, ld);
-        free-quiet = quiet-append f (512 * suc k) free D (s .free-length) (s .free-quiet) (half-erased-quiet k r q q-length quiet-q i e);
+        free-markless = markless-append f (512 * suc k) free D (s .free-length) (s .free-markless)
+            (half-erased-markless k r q q-length markless-q i e);
         opened = Next.Clear;
         opens = more-open i (suc k) q (s .opens);
         lost-length = length-drop (4096 * suc k) q ∙ omega (arith, q-length);
         lost-small = short;
-        lost-quiet = quiet-lost k r q q-length quiet-q;
+        lost-markless = markless-lost k r q q-length markless-q;
         fine-low = s .fine-low;
         walked = s .walked;
         fine-high = s .fine-high .1;
       }
 
--- the head X that is the last before the turn, with the lost bytes before it and all up to N
-unfoldable pub last-head : List ℕ → Rec → End → List ℕ
-last-head lost x end = lost ++ onto x (end-bytes end)
-
 -- Y at 0, X the last before the turn: to N
 module _ {im : List ℕ} {a l : ℕ} {lost : List ℕ} {h : ℕ} {low : List Rec} {f : ℕ} {free : List ℕ} {x : Rec} {end : End}
     (s : Turned im a l lost h low seg-none f free (x ∷ []) end)
-    (k : ℕ) (all : length im ≡ 4096 * (a + suc k)) (c : Quiet (511 - l + 512 * k) (body (x .name) (x .content) (end-bytes end))) where
+    (k : ℕ) (all : length im ≡ 4096 * (a + suc k)) (c : Markless (511 - l + 512 * k) (body (x .name) (x .content) (end-bytes end))) where
   abbrev q₀ : List ℕ
-  q₀ = last-head lost x end
+  q₀ = old-head lost x (end-bytes end)
 
   im₀-is : im ≡ lay low free ++ (q₀ ++ [])
-  unfolding last-head
+  unfolding old-head
   im₀-is =
       s .is ∙ sym (lay-past low free (lost ++ onto x (end-bytes end)))
           ∙ ap (λ (l : List ℕ). lay low free ++ l) (sym (append-nil (lost ++ onto x (end-bytes end))))
@@ -109,18 +100,17 @@ module _ {im : List ℕ} {a l : ℕ} {lost : List ℕ} {h : ℕ} {low : List Rec
       let e : length im ≡ length (lay low free) + length (q₀ ++ []) = ap length im₀-is ∙ length-append (lay low free) (q₀ ++ []) in
       omega (arith, e, pre-length s, length-append q₀ [])
 
-  quiet-q₀ : Quiet (512 * k + 0) (drop 4096 q₀)
-  unfolding last-head
-  quiet-q₀ =
+  markless-q₀ : Markless (512 * k + 0) (drop 4096 q₀)
+  markless-q₀ =
       let n : 511 - l + 512 * k ≡ 511 - l + (512 * k + 0) = omega arith in
-      quiet-second x lost (end-bytes end) l (512 * k + 0) (s .lost-length) (omega (arith, s .lost-small))
-          (subst (λ (m : ℕ). Quiet m (body (x .name) (x .content) (end-bytes end))) n c)
+      old-head-second x lost (end-bytes end) l (512 * k + 0) (s .lost-length) (s .lost-small)
+          (subst (λ (m : ℕ). Markless m (body (x .name) (x .content) (end-bytes end))) n c)
 
   -- after at least one erase: not turned, the head is at 0
-  pub zero-m3 : (i : ℕ) → i ≤ k
+  pub zero-erased : (i : ℕ) → i ≤ k
       → Straight (run im (take (suc i) (erases (4096 * a) (suc k)))) 0 0 [] [] 0 low seg-none
-      (free ++ half-erased (suc i) (suc k) (last-head lost x end))
-  zero-m3 i e =
+      (free ++ half-erased (suc i) (suc k) (old-head lost x (end-bytes end)))
+  zero-erased i e =
       let D : List ℕ = half-erased (suc i) (suc k) q₀ in
       let L : drop (4096 * suc k) q₀ ≡ [] = drop-of-length-le q₀ {i = 4096 * suc k} (omega (arith, q₀-length)) in
       record {
@@ -129,19 +119,19 @@ module _ {im : List ℕ} {a l : ℕ} {lost : List ℕ} {h : ℕ} {low : List Rec
             ∙ ap (λ (l : List ℕ). lay low free ++ (D ++ (l ++ []))) L ∙ ap (λ (l : List ℕ). lay low free ++ l) (append-nil D) ∙ lay-past low free D;
         at = refl;
         gap-length = refl;
-        gap-quiet = tt;
+        gap-markless = tt;
         lost-length = refl;
         lost-small = omega arith;
-        lost-quiet = tt;
+        lost-markless = tt;
         front = zero-not;
         fine = s .fine-low;
       }
     where
-      zero-not : _≡_ {A = ℕ} 0 90 → ⊥
+      zero-not : _≡_ {A = ℕ} 0 0x5A → ⊥
       zero-not e = omega arith
 
   -- and its free run has no mark: so nothing is found, and CLEAN at 0 is the head
-  pub zero-quiet : (i : ℕ) → i ≤ k → Quiet (f + 512 * suc k) (free ++ half-erased (suc i) (suc k) (last-head lost x end))
-  zero-quiet i e =
-      quiet-append f (512 * suc k) free (half-erased (suc i) (suc k) q₀) (s .free-length) (s .free-quiet)
-          (half-erased-quiet k 0 q₀ q₀-length quiet-q₀ i e)
+  pub zero-markless : (i : ℕ) → i ≤ k → Markless (f + 512 * suc k) (free ++ half-erased (suc i) (suc k) (old-head lost x (end-bytes end)))
+  zero-markless i e =
+      markless-append f (512 * suc k) free (half-erased (suc i) (suc k) q₀) (s .free-length) (s .free-markless)
+          (half-erased-markless k 0 q₀ q₀-length markless-q₀ i e)

@@ -1,4 +1,5 @@
--- A layout that has turned: what stands at S may be replaced, and any record, from the head on or from 0 on, by another of its size.
+-- An image that has turned: what stands at S may be replaced (Hole), and any record, from the head on or from 0 on, by another of its
+-- size (Inside).
 use Prim.Native.Nat.{ℕ, _+_, _*_, _<_}
 use native.Mathlib.Omega.{arith}
 use native.Mathlib.Nat.{zero-add}
@@ -9,12 +10,13 @@ use lib.ListN.{length, length-append}
 use Rattle.spec.specs.declared.Next.{Next}
 use Rattle.spec.specs.Record.{Rec, Entry}
 use Rattle.history.specs.Lay.{onto, lay, rsize, sizes, entries-of, lay-is, length-lay, All-fine, lay-past}
-use Rattle.history.specs.Walk.{Quiet, Walks, walks-record, walks-clean, Walked}
+use Rattle.history.specs.Markless.{Markless}
+use Rattle.history.specs.Walk.{Walks, walks-record, walks-clean, Walked}
 use Rattle.history.specs.Seg.{Seg, seg-onto, seg-size, seg-append, length-seg}
-use Rattle.history.specs.Turned.{Turned, End, end-bytes, Opens}
 use Rattle.history.specs.StraightEdit.{lay-append, sizes-append, fine-append}
-use Rattle.history.specs.Entries.{entries-append, Among, among-fine, among-end, entries-with, sizes-with, fine-with}
+use Rattle.history.specs.Turned.{Turned, End, end-bytes, Opens}
 use Rattle.history.specs.Laid.{Laid, laid-turned, Hole, Inside, Lowered, low-same, low-high, low-zero}
+use Rattle.history.specs.Entries.{entries-append, Among, among-fine, among-end, entries-with, sizes-with, fine-with}
 
 -- ---- the walk over the records from 0 on
 
@@ -47,12 +49,12 @@ with-high im′ s e f =
       some-below = s .some-below;
       below = s .below;
       free-length = s .free-length;
-      free-quiet = s .free-quiet;
+      free-markless = s .free-markless;
       opened = s .opened;
       opens = s .opens;
       lost-length = s .lost-length;
       lost-small = s .lost-small;
-      lost-quiet = s .lost-quiet;
+      lost-markless = s .lost-markless;
       fine-low = s .fine-low;
       walked = s .walked;
       fine-high = f;
@@ -62,7 +64,7 @@ with-high im′ s e f =
 with-low : {im : List ℕ} {a l : ℕ} {lost : List ℕ} {h : ℕ} {low low′ : List Rec} {seg seg′ : Seg} {f : ℕ} {free new : List ℕ} {high : List Rec}
     {end : End} {x : Next} (im′ : List ℕ) (f′ : ℕ) →
     Turned im a l lost h low seg f free high end → im′ ≡ lay low′ (seg-onto seg′ (new ++ (lost ++ lay high (end-bytes end)))) →
-    sizes low′ + seg-size seg′ + length new ≡ sizes low + seg-size seg + length free → length new ≡ 8 * f′ → Quiet f′ new → Opens new x
+    sizes low′ + seg-size seg′ + length new ≡ sizes low + seg-size seg + length free → length new ≡ 8 * f′ → Markless f′ new → Opens new x
         → All-fine low′ → Walked 0 low′ →
     Turned im′ a l lost h low′ seg′ f′ new high end
 with-low {x = x} im′ f′ s e z m q o fl w =
@@ -72,12 +74,12 @@ with-low {x = x} im′ f′ s e z m q o fl w =
       some-below = s .some-below;
       below = omega (arith, s .below, s .free-length);
       free-length = m;
-      free-quiet = q;
+      free-markless = q;
       opened = x;
       opens = o;
       lost-length = s .lost-length;
       lost-small = s .lost-small;
-      lost-quiet = s .lost-quiet;
+      lost-markless = s .lost-markless;
       fine-low = fl;
       walked = w;
       fine-high = s .fine-high;
@@ -120,7 +122,8 @@ module _ {im : List ℕ} {a l : ℕ} {lost : List ℕ} {h : ℕ} {low : List Rec
             refl (omega (arith, sizes-append low (r ∷ [])))
             (append-assoc (entries-of h (x ∷ ys)) (entries-of 0 low) (record { at = sizes low; it = r } ∷ [])
             ∙ ap (λ (l : List Entry). entries-of h (x ∷ ys) ++ l)
-            (ap (λ (n : ℕ). entries-of 0 low ++ (record { at = n; it = r } ∷ [])) (sym (zero-add (sizes low))) ∙ sym (entries-append 0 low (r ∷ []))))
+            (ap (λ (n : ℕ). entries-of 0 low ++ (record { at = n; it = r } ∷ [])) (sym (zero-add (sizes low)))
+                ∙ sym (entries-append 0 low (r ∷ []))))
             refl;
       }
 
@@ -205,7 +208,7 @@ module _ {im : List ℕ} {a l : ℕ} {lost : List ℕ} {h : ℕ} {low : List Rec
             laid-turned {low = q .before ++ (r ∷ q .after)}
             (with-low (lay (q .before) [] ++ onto r (lay (q .after) t)) f s
             (sym (lay-is (q .before) (lay (r ∷ q .after) t)) ∙ sym (lay-append (q .before) (r ∷ q .after) t))
-            (ap (λ (m : ℕ). m + seg-size seg + length free) n) (s .free-length) (s .free-quiet) (s .opens)
+            (ap (λ (m : ℕ). m + seg-size seg + length free) n) (s .free-length) (s .free-markless) (s .opens)
             (fine-with q r z (s .fine-low) fine)
             (walked-append 0 (q .before) (r ∷ q .after) (walked-left 0 (q .before) (e .it ∷ q .after) v) (
               walks-at (q .there) (walks-still (omega (arith, among-end q, s .below, s .at)) w (walks-at (sym (q .there)) (v₁ .0))),

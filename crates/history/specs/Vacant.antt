@@ -1,14 +1,13 @@
--- Images whose head is CLEAN with T's own sector FF (Vacant), and those that are bare: from these the head's low byte makes a rested image.
+-- Images whose head is CLEAN while the free run may hold remains: T's own sector is FF (Vacant), or all is (Bare). From a bare one the
+-- head's low byte 00 makes a rested image. Also what Tail says with nothing at S.
 use Prim.Native.Nat.{ℕ, _+_, _-_, _%_, min, _≤_}
 use native.Mathlib.Omega.{arith}
 use native.Mathlib.Nat.{add-zero}
 use mathlib.Core.Path.{_≡_, refl, sym, ap, ap₂, _∙_, subst}
-use mathlib.Core.Bool.{Bool, true, false, _&&_}
+use mathlib.Core.Bool.{Bool, true, false}
 use mathlib.Core.List.{List, [], _∷_, _++_, append-assoc, append-nil}
 use lib.ListN.{length, take, drop, set, length-set, length-append, length-replicate, take-append-drop}
-use lib.Seq.{take-append-add, take-append-le, drop-append-seam, take-at, length-take-le}
-use lib.Dec.{eqb, leb}
-use borrow.Author.Tests.{eqb-true}
+use lib.Seq.{take-append-add, take-append-le, drop-append-seam, length-take-le}
 use Rattle.spec.specs.declared.Ending.{Ending}
 use Rattle.spec.specs.Step.{Image, program}
 use Rattle.spec.specs.Basics.{Each, part, blank}
@@ -18,18 +17,16 @@ use Rattle.spec.specs.Files.{named}
 use Rattle.spec.specs.Chain.{Reading, read, reading-from}
 use Rattle.spec.specs.Reading.{limit, tail-blank}
 use Rattle.spec.specs.History.{Ledger}
-use Rattle.history.specs.Lay.{blanks, sizes, low-start}
-use Rattle.history.specs.Last.{blank-blanks}
-use Rattle.history.specs.Quiet.{blank-split}
+use Rattle.history.specs.Blanks.{blanks, blank-blanks, blank-split, blank-is, take-blanks}
+use Rattle.history.specs.Store.{alive, Unmarked}
+use Rattle.history.specs.Lay.{sizes, low-start}
+use Rattle.history.specs.Safe.{Safe}
+use Rattle.history.specs.Erase.{good-is}
 use Rattle.history.specs.Seg.{Seg, seg-none}
 use Rattle.history.specs.StraightEdit.{relow}
-use Rattle.history.specs.Safe.{Safe}
-use Rattle.history.specs.Store.{alive, Unmarked}
-use Rattle.history.specs.Lists.{and-left}
-use Rattle.history.specs.Repair.{blank-is}
-use Rattle.history.specs.Laid.{Laid, laid-straight, laid-turned, Hole, Tail, tail-clear, tail-floor, tail-N, tail-turn, low-high, Bare}
-use Rattle.history.specs.Kinds.{Ok, Starts, place, quiet, vacated, Inv, Rested}
+use Rattle.history.specs.Laid.{Laid, laid-straight, laid-turned, Hole, Tail, tail-clear, tail-floor, tail-N, tail-turn, low-high, Bare, place}
 use Rattle.history.specs.LaidEdit.{laid-first, laid-limit, laid-head, hole-of, relow-laid}
+use Rattle.history.specs.Kinds.{Ok, Starts, quiet, vacated, Inv, Rested}
 use Rattle.history.specs.OkLaws.{ok-same}
 use Rattle.history.specs.LaidRead.{laid-reads}
 
@@ -67,23 +64,13 @@ pub laid-eight : {im : Image} {h S : ℕ} {t : Bool} {es : List Entry} {seg : Se
 laid-eight (laid-straight {x = x} {ys} f s t e es l q) = omega (arith, s .at, sizes-eight (x ∷ ys))
 laid-eight (laid-turned {low = low} s t e es b) = omega (arith, sizes-eight low)
 
--- some of the FF
-pub take-blanks : (j m : ℕ) → j ≤ m → take j (blanks m) ≡ blanks j
-take-blanks j m h = ap (take j) (blank-split j (m - j) m (omega arith)) ∙ take-at (blanks j) (blanks (m - j)) j (length-replicate j 255)
-
 part-blanks : (pre s : List ℕ) (S m M : ℕ) → length pre ≡ S → S ≤ M → M ≤ S + m → blank (part S M (pre ++ (blanks m ++ s))) ≡ true
 part-blanks pre s S m M e g l =
     let j : ℕ = M - length pre in
     let n : M ≡ length pre + j = omega arith in
     ap₂ (λ (a b : ℕ). blank (drop a (take b (pre ++ (blanks m ++ s))))) (sym e) n
     ∙ ap (λ (x : List ℕ). blank (drop (length pre) x)) (take-append-add pre (blanks m ++ s) j)
-    ∙ ap blank (drop-append-seam pre (take j (blanks m ++ s)) ∙ take-append-le j (blanks m) s (omega (arith, length-replicate {A = ℕ} m 255))
-        ∙ take-blanks j m (omega arith)) ∙ blank-blanks j
-
--- a good length is sectors
-pub good-mod : (n : ℕ) → good-length n ≡ true → n % 4096 ≡ 0
-unfolding good-length
-good-mod n e = eqb-true (n % 4096) 0 (and-left (eqb (n % 4096) 0) (leb 8192 n) (and-left (eqb (n % 4096) 0 && leb 8192 n) (leb n 16777216) e))
+    ∙ ap blank (drop-append-seam pre (take j (blanks m ++ s)) ∙ take-blanks j m s (omega arith)) ∙ blank-blanks j
 
 limit-mod : (im : Image) (h S : ℕ) (t : Bool) → length im % 4096 ≡ 0 → limit (place im h S t) % 4096 ≡ 0
 limit-mod im h S true e = omega arith
@@ -121,7 +108,8 @@ module _ {h S : ℕ} {t : Bool} {es : List Entry} {im : Image} (v : Vacant h S t
   pub vacant-long : 8 ≤ v .m
   vacant-long = omega (arith, v .own, laid-eight (v .laid))
 
-  vacant-free : v .free ≡ blanks (v .m) ++ drop (v .m) (v .free)
+  -- they come first
+  pub vacant-free : v .free ≡ blanks (v .m) ++ drop (v .m) (v .free)
   vacant-free = sym (take-append-drop (v .m) (v .free)) ∙ ap (λ (l : List ℕ). l ++ drop (v .m) (v .free)) (v .ff)
 
   vacant-opens : v .free ≡ blanks 8 ++ (blanks (v .m - 8) ++ drop (v .m) (v .free))
@@ -147,7 +135,7 @@ pub vacant-at : {im : Image} {h S : ℕ} {t : Bool} {es : List Entry} {below fre
     Vacant h S t es im
 vacant-at {S = S} {below = below} {free} d n s e h =
     let m : ℕ = floor S + 4096 - S in
-    let k : length (blanks n) ≡ n = length-replicate {A = ℕ} n 255 in
+    let k : length (blanks n) ≡ n = length-replicate {A = ℕ} n 0xFF in
     record {
       below = below;
       free = free;
@@ -155,7 +143,7 @@ vacant-at {S = S} {below = below} {free} d n s e h =
       laid = d;
       own = omega arith;
       whole = omega (arith, ap length e, length-append (blanks n) s);
-      ff = ap (take m) e ∙ take-append-le m (blanks n) s (omega arith) ∙ take-blanks m n (omega arith);
+      ff = ap (take m) e ∙ take-blanks m n s (omega arith);
     }
 
 -- the own sector of T, from the test
@@ -179,7 +167,7 @@ vacant-of {im} {h} {S} {t} {es} {below} {free} d g s e b =
     let m : ℕ = floor S + 4096 - S in
     let f : 8 ≤ length free = omega (arith, ap length e, length-append (blanks 8) s) in
     let L : limit (place im h S t) ≡ S + length free = limit-is d in
-    let z : limit (place im h S t) % 4096 ≡ 0 = limit-mod im h S t (good-mod (length im) g) in
+    let z : limit (place im h S t) % 4096 ≡ 0 = limit-mod im h S t (good-is (length im) g .0) in
     let w : m ≤ length free = omega arith in
     record {
       below = below;
@@ -227,17 +215,17 @@ pub relow-alive : (x : Entry) (b : ℕ) → alive (record { at = x .at; it = rel
 unfolding alive named
 relow-alive x b = refl
 
-module _ {l : Ledger} {h : ℕ} {im : Image} {x : Entry} {es : List Entry} (g : good-length (length im) ≡ true) (c : x .it .low ≡ 160)
+module _ {l : Ledger} {h : ℕ} {im : Image} {x : Entry} {es : List Entry} (g : good-length (length im) ≡ true) (c : x .it .low ≡ 0xA0)
     (u : Each Unmarked es) (o : Ok (x ∷ es) l) where
   -- the kind vacated
   pub vacant-inv : {S : ℕ} {t : Bool} → Vacant h S t (x ∷ es) im → Inv l im
   vacant-inv v = record { good = g; kind = vacated (v .laid) (vacant-tail v) (vacant-blank v) c u o }
 
-  bare-inv : Bare h (x ∷ es) im → Inv l im
+  clean-bare-inv : Bare h (x ∷ es) im → Inv l im
   unfolding tail-blank
-  bare-inv b =
+  clean-bare-inv b =
       let L : limit (place im h (b .S) (b .t)) ≡ b .S + length (blanks (b .F)) = limit-is (b .laid) in
-      let k : length (blanks (b .F)) ≡ b .F = length-replicate {A = ℕ} (b .F) 255 in
+      let k : length (blanks (b .F)) ≡ b .F = length-replicate {A = ℕ} (b .F) 0xFF in
       record {
         good = g;
         kind = vacated (b .laid) (b .tail)
@@ -246,12 +234,12 @@ module _ {l : Ledger} {h : ℕ} {im : Image} {x : Entry} {es : List Entry} (g : 
       }
 
   -- the head's low byte
-  pub bare-safe : Bare h (x ∷ es) im → Inv l (set im h 0) → Safe (Inv l) im (program h 0 ∷ [])
-  bare-safe b i = (bare-inv b, (omega (arith, laid-head (b .laid)), refl), i)
+  pub start-safe : Bare h (x ∷ es) im → Inv l (set im h 0) → Safe (Inv l) im (program h 0 ∷ [])
+  start-safe b i = (clean-bare-inv b, (omega (arith, laid-head (b .laid)), refl), i)
 
   -- and after it the image is rested
-  pub bare-rested : Bare h (x ∷ es) im → Rested l (set im h 0) (reading-from (set im h 0) h)
-  bare-rested b =
+  pub start-rested : Bare h (x ∷ es) im → Rested l (set im h 0) (reading-from (set im h 0) h)
+  start-rested b =
       let p : x .at ≡ h = first-is (b .laid) in
       rested-of (b .B) (b .F) (rw (length-set im h 0) g)
       (subst (λ (a : ℕ). Laid (set im a 0) h (b .S) (b .t) (record {

@@ -1,4 +1,4 @@
--- Repair 3: the unfinished thing at T becomes a dead record of the same size; cut anywhere it is still something unfinished.
+-- Repair 3 on bytes: the unfinished record becomes a dead record of the same size; cut anywhere it is still something unfinished.
 use Prim.Native.Nat.{ℕ, zero, suc, _+_, _<_}
 use native.Mathlib.Omega.{arith}
 use native.Mathlib.Nat.{not-suc-le-zero}
@@ -10,11 +10,11 @@ use Rattle.spec.specs.Step.{Image, Step, program, run}
 use Rattle.spec.specs.Geometry.{up8}
 use Rattle.spec.specs.Record.{size-of, Rec, Entry}
 use Rattle.spec.specs.Mount.{torn-steps, void-steps, last-steps}
-use Rattle.history.specs.Lay.{blanks, pad, onto, lay, All-fine, low-record, st-00, header}
+use Rattle.history.specs.Blanks.{blanks, blank-split}
+use Rattle.history.specs.Lay.{pad, onto, lay, All-fine, low-record, st-00, header}
 use Rattle.history.specs.Last.{begun-5a, begun-end, held, begun}
-use Rattle.history.specs.Quiet.{blank-split}
-use Rattle.history.specs.Seg.{Seg, seg-none, seg-torn, seg-cut, seg-held, seg-onto, seg-size}
 use Rattle.history.specs.Steps.{Programs}
+use Rattle.history.specs.Seg.{Seg, seg-none, seg-torn, seg-cut, seg-held, seg-onto, seg-size}
 
 -- the steps of repair 3, from the start of the unfinished thing
 abbrev pub void-rel : Seg → List Step
@@ -25,7 +25,7 @@ void-rel (seg-held n c f) = program 2 0 ∷ []
 
 -- what repair 3 makes of it
 abbrev pub dead : List ℕ → List ℕ → Rec
-dead n c = record { low = 165; status = 0; name = n; content = c }
+dead n c = record { low = 0xA5; status = 0; name = n; content = c }
 
 -- a dead record of its size
 abbrev pub voided : Seg → List Rec
@@ -34,15 +34,15 @@ voided (seg-torn c x y z w t b m) = dead [] [] ∷ []
 voided (seg-cut d n f) = dead n (blanks d) ∷ []
 voided (seg-held n c f) = dead n c ∷ []
 
-set-end : (H n X : List ℕ) → length H ≡ 8 → set (H ++ (n ++ (255 ∷ X))) (8 + length n) 0 ≡ H ++ (n ++ (0 ∷ X))
+set-end : (H n X : List ℕ) → length H ≡ 8 → set (H ++ (n ++ (0xFF ∷ X))) (8 + length n) 0 ≡ H ++ (n ++ (0 ∷ X))
 set-end H n X e =
-    ap (λ (x : List ℕ). set x (8 + length n) 0) (sym (append-assoc H n (255 ∷ X)))
-        ∙ set-at (H ++ n) 255 X 0 (8 + length n) (length-append H n ∙ ap (λ (k : ℕ). k + length n) e)
+    ap (λ (x : List ℕ). set x (8 + length n) 0) (sym (append-assoc H n (0xFF ∷ X)))
+        ∙ set-at (H ++ n) 0xFF X 0 (8 + length n) (length-append H n ∙ ap (λ (k : ℕ). k + length n) e)
     ∙ append-assoc H n (0 ∷ X)
 
 end-name : (d : ℕ) (n s : List ℕ) → set (begun d n s) (8 + length n) 0 ≡ onto (held n (blanks d)) s
 end-name d n s =
-    let l : length (blanks d) ≡ d = length-replicate {A = ℕ} d 255 in
+    let l : length (blanks d) ≡ d = length-replicate {A = ℕ} d 0xFF in
     let v : blanks (up8 d) ++ s ≡ blanks d ++ (blanks (pad d) ++ s) =
     ap (λ (x : List ℕ). x ++ s) (blank-split d (pad d) (up8 d) (omega arith)) ∙ append-assoc (blanks d) (blanks (pad d)) s in
     set-end (header d []) n (blanks (pad (length n + 1)) ++ (blanks (up8 d) ++ s)) refl ∙ rw (l, v)
@@ -65,12 +65,12 @@ void-programs (seg-held n c f) = tt
 pub void-fine : (g : Seg) → All-fine (voided g)
 void-fine seg-none = tt
 void-fine (seg-torn c x y z w t b m) =
-    (record { low-ok = low-record; status-ok = st-00; fit = record { short = omega arith; plain = tt; small = omega arith } }, tt)
+    (record { low-ok = low-record; status-ok = st-00; fit = record { short = omega arith; printable = tt; small = omega arith } }, tt)
 void-fine (seg-cut d n f) =
     (record {
       low-ok = low-record;
       status-ok = st-00;
-      fit = record { short = f .short; plain = f .plain; small = rw (length-replicate {A = ℕ} d 255) (f .small) };
+      fit = record { short = f .short; printable = f .printable; small = rw (length-replicate {A = ℕ} d 0xFF) (f .small) };
     }, tt)
 void-fine (seg-held n c f) = (record { low-ok = low-record; status-ok = st-00; fit = f }, tt)
 
@@ -79,18 +79,18 @@ pub void-cut : (g : Seg) (s : List ℕ) (j : ℕ) → j < length (void-rel g) �
     × (seg-size g′ ≡ seg-size g)
 void-cut seg-none s j h = absurd (not-suc-le-zero h)
 void-cut (seg-torn c x y z w t b m) s zero h = (seg-torn c x y z w t b m, refl, refl)
-void-cut (seg-torn c x y z w t b m) s (suc zero) h = (seg-torn 90 x y z w t begun-5a m, refl, refl)
-void-cut (seg-torn c x y z w t b m) s (suc (suc zero)) h = (seg-torn 90 0 y z w t begun-5a m, refl, refl)
-void-cut (seg-torn c x y z w t b m) s (suc (suc (suc zero))) h = (seg-torn 90 0 0 z w t begun-5a m, refl, refl)
-void-cut (seg-torn c x y z w t b m) s (suc (suc (suc (suc zero)))) h = (seg-torn 90 0 0 0 w t begun-5a m, refl, refl)
-void-cut (seg-torn c x y z w t b m) s (suc (suc (suc (suc (suc zero))))) h = (seg-torn 90 0 0 0 0 t begun-5a m, refl, refl)
-void-cut (seg-torn c x y z w t b m) s (suc (suc (suc (suc (suc (suc zero)))))) h = (seg-torn 90 0 0 0 0 0 begun-5a begun-end, refl, refl)
+void-cut (seg-torn c x y z w t b m) s (suc zero) h = (seg-torn 0x5A x y z w t begun-5a m, refl, refl)
+void-cut (seg-torn c x y z w t b m) s (suc (suc zero)) h = (seg-torn 0x5A 0 y z w t begun-5a m, refl, refl)
+void-cut (seg-torn c x y z w t b m) s (suc (suc (suc zero))) h = (seg-torn 0x5A 0 0 z w t begun-5a m, refl, refl)
+void-cut (seg-torn c x y z w t b m) s (suc (suc (suc (suc zero)))) h = (seg-torn 0x5A 0 0 0 w t begun-5a m, refl, refl)
+void-cut (seg-torn c x y z w t b m) s (suc (suc (suc (suc (suc zero))))) h = (seg-torn 0x5A 0 0 0 0 t begun-5a m, refl, refl)
+void-cut (seg-torn c x y z w t b m) s (suc (suc (suc (suc (suc (suc zero)))))) h = (seg-torn 0x5A 0 0 0 0 0 begun-5a begun-end, refl, refl)
 void-cut (seg-torn c x y z w t b m) s (suc (suc (suc (suc (suc (suc (suc j))))))) h = absurd (omega arith)
 void-cut (seg-cut d n f) s zero h = (seg-cut d n f, refl, refl)
 void-cut (seg-cut d n f) s (suc zero) h = (
-  seg-held n (blanks d) (record { short = f .short; plain = f .plain; small = rw (length-replicate {A = ℕ} d 255) (f .small) }),
+  seg-held n (blanks d) (record { short = f .short; printable = f .printable; small = rw (length-replicate {A = ℕ} d 0xFF) (f .small) }),
   end-name d n s,
-  ap (size-of (length n)) (length-replicate {A = ℕ} d 255),
+  ap (size-of (length n)) (length-replicate {A = ℕ} d 0xFF),
 )
 void-cut (seg-cut d n f) s (suc (suc j)) h = absurd (omega arith)
 void-cut (seg-held n c f) s zero h = (seg-held n c f, refl, refl)

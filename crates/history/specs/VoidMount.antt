@@ -1,4 +1,4 @@
--- Mount on an unfinished record at S: cut anywhere it is still unfinished, at the end it is a dead record.
+-- Mount on an image with an unfinished record at S: cut anywhere it is still unfinished, at the end it is a dead record.
 use Prim.Native.Nat.{ℕ, _+_, _<_}
 use native.Mathlib.Omega.{arith}
 use native.Mathlib.Nat.{add-zero}
@@ -22,28 +22,29 @@ use Rattle.spec.specs.Move.{Work, begin, after}
 use Rattle.spec.specs.Mount.{void-steps, last-steps, torn-wrap-steps, repair-3}
 use Rattle.spec.specs.Demand.{Steps-sound}
 use Rattle.spec.specs.History.{Ledger}
-use Rattle.history.specs.Lay.{blanks, onto, lay, rsize, length-lay}
-use Rattle.history.specs.Seg.{Seg, seg-none, seg-onto, seg-size, seg-entries, length-seg}
-use Rattle.history.specs.Turned.{Opens, opens-ff, opens-none}
+use Rattle.history.specs.Lists.{each-append, each-end}
+use Rattle.history.specs.Blanks.{blanks}
+use Rattle.history.specs.Store.{alive, Unmarked}
+use Rattle.history.specs.Lay.{onto, lay, rsize, length-lay}
 use Rattle.history.specs.Steps.{run-past, take-moved, take-programs, length-moved}
 use Rattle.history.specs.Safe.{safe-from, sound-past}
-use Rattle.history.specs.Lists.{each-append}
-use Rattle.history.specs.Store.{alive, Unmarked, calm-and}
-use Rattle.history.specs.Settled.{one-none, two-none}
-use Rattle.history.specs.Whole.{is-clean-0}
+use Rattle.history.specs.Seg.{Seg, seg-none, seg-onto, seg-size, seg-entries, length-seg}
 use Rattle.history.specs.Legal.{Ruled}
-use Rattle.history.specs.Void.{void-rel, void-run, void-programs, void-cut, last-end}
+use Rattle.history.specs.Turned.{Opens, opens-ff, opens-none}
+use Rattle.history.specs.Whole.{is-clean-0}
 use Rattle.history.specs.Laid.{Laid, Tail, tail-clear, tail-floor, tail-N, tail-turn, Hole, Bare}
-use Rattle.history.specs.LaidEdit.{laid-fine, hole-of, free-quiet}
-use Rattle.history.specs.LaidRead.{start-reads}
-use Rattle.history.specs.OkLaws.{ok-add}
+use Rattle.history.specs.LaidEdit.{hole-of, free-markless}
 use Rattle.history.specs.Kinds.{Ok, Starts, quiet, Inv, Rested}
-use Rattle.history.specs.Closes.{Rests}
-use Rattle.history.specs.Rules.{calm-of, seg-dead, seg-plain}
-use Rattle.history.specs.Idle.{Mends, mends-3}
+use Rattle.history.specs.OkLaws.{ok-add}
+use Rattle.history.specs.Rules.{seg-dead, seg-plain, plain-ruled}
+use Rattle.history.specs.LaidRead.{start-reads}
+use Rattle.history.specs.Settled.{one-none, two-none}
 use Rattle.history.specs.Vacant.{rested-of, rested-inv}
 use Rattle.history.specs.PutWrite.{bare-of}
 use Rattle.history.specs.PutOld.{starts-end}
+use Rattle.history.specs.Closes.{Rests}
+use Rattle.history.specs.Mending.{Mends, mends-3}
+use Rattle.history.specs.Void.{void-rel, void-run, void-programs, void-cut, last-end}
 use Rattle.history.specs.Voiding.{Voids, voids}
 
 tail-opens : {h S T : ℕ} {t u : Bool} {g : Seg} {below free : List ℕ} → Tail h S t g below free T u → (x : Next) × Opens free x
@@ -60,7 +61,7 @@ retail {S = S} z n (tail-floor f b e k) = tail-floor f b (e ∙ ap (λ (m : ℕ)
 retail {S = S} z n (tail-N f b w e k) = tail-N f b w (e ∙ ap (λ (m : ℕ). S + m) (sym z)) k
 retail z n (tail-turn s f b m w e k) = tail-turn s f b n w e k
 
-plain-unmarked : (e : Entry) → e .it .low ≡ 165 → Unmarked e
+plain-unmarked : (e : Entry) → e .it .low ≡ 0xA5 → Unmarked e
 unfolding is-start is-clean
 plain-unmarked e k = rw k
 
@@ -99,7 +100,7 @@ module _ {l : Ledger} {im : Image} {h S T : ℕ} (B F : ℕ) {t u : Bool} {es : 
       go : (g′ : Seg) × (run (seg-onto g rest) (take j (void-rel g)) ≡ seg-onto g′ rest) × (seg-size g′ ≡ seg-size g)
           → Inv l (run im (take j (moved S (void-rel g))))
       go c =
-          let w = free-quiet d in
+          let w = free-markless d in
           let x = tail-opens e in
           subst (Inv l) (sym (now j ∙ ap (λ (s : List ℕ). H .pre ++ s) (c .1)))
           (record {
@@ -138,7 +139,7 @@ module _ {l : Ledger} {im : Image} {h S T : ℕ} (B F : ℕ) {t u : Bool} {es : 
   left-laid : Laid (H .pre ++ onto (v .rec) rest) h (S + rsize (v .rec)) t (es ++ (gone ∷ [])) seg-none (blanks B) (blanks F)
   unfolding rest gone
   left-laid =
-      let w = free-quiet d in
+      let w = free-markless d in
       let x = tail-opens e in
       H .grow (v .rec) (w .0) (blanks F) (x .0) (v .fine) (v .low) (w .1) (w .2) (x .1) (ap (λ (n : ℕ). n + length (blanks F)) (v .size))
 
@@ -172,11 +173,11 @@ module _ {l : Ledger} {im : Image} {h S T : ℕ} (B F : ℕ) {t u : Bool} {es : 
       go q false k c = cut-inv k (leb-false (length (void-rel g)) k c)
 
 -- repair 3's steps are these
-third : (w : Work) (es : List Entry) (e : Entry) (ss : List Step) → w .reading .entries ≡ es ++ (e ∷ []) → w .reading .ending ≡ Ending.Tail
+third-voids : (w : Work) (es : List Entry) (e : Entry) (ss : List Step) → w .reading .entries ≡ es ++ (e ∷ []) → w .reading .ending ≡ Ending.Tail
     → void-steps (w .image) e ≡ ss →
     repair-3 w ≡ after w ss (w .reading .place .head)
 unfolding repair-3
-third w es e ss i j k =
+third-voids w es e ss i j k =
     ap₂ (λ (a : List Step) (b : Ending). after w (a ++ torn-wrap-steps b) (w .reading .place .head))
         (ap (last-steps (w .image)) i ∙ last-end (w .image) es e ∙ k) j
     ∙ ap (λ (a : List Step). after w a (w .reading .place .head)) (append-nil ss)
@@ -194,10 +195,10 @@ mends-void {l} {im} {h} {S} {T} B F {t} {u} (x ∷ es) g good d e st ok n =
     let p : Hole im h S t (x ∷ es) g (blanks B) (blanks F) = hole-of d in
     let k : all ≡ (x ∷ es) ++ (v .entry ∷ []) = ap (λ (fs : List Entry). (x ∷ es) ++ fs) (v .entries) in
     let c : Ruled ((x ∷ es) ++ (v .entry ∷ [])) =
-    calm-and x (v .entry) es (calm-of x es l (laid-fine d) (st .1) ok) (subst (Each (λ e. alive e ≡ false)) (v .entries) (seg-dead S g) .0)
-        (subst (Each Unmarked) (v .entries) (seg-plain S g) .0) in
+    plain-ruled x (es ++ (v .entry ∷ [])) l (ok-add (x ∷ es) (v .entry) l ok (subst (Each (λ e. alive e ≡ false)) (v .entries) (seg-dead S g) .0))
+        (each-end Unmarked es (v .entry) (st .1) (subst (Each Unmarked) (v .entries) (seg-plain S g) .0)) in
     mends-3 {r = r} (start-reads B F d e (st .0) (subst Ruled (sym k) c)) (void-rests B F good d e st ok v) (v .some)
     (one-none (begin im r) (is-clean-0 (x .it .low) (st .0)))
     (two-none (begin im r) x (es ++ seg-entries S g) (each-append Unmarked es (seg-entries S g) (st .1) (seg-plain S g)))
-    (third (begin im r) (x ∷ es) (v .entry) (moved S (void-rel g)) k refl
+    (third-voids (begin im r) (x ∷ es) (v .entry) (moved S (void-rel g)) k refl
     (ap (λ (i : Image). void-steps i (v .entry)) (p .is) ∙ v .steps (p .pre) (blanks F ++ p .post) (p .at)))

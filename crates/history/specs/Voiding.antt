@@ -1,4 +1,4 @@
--- Repair 3 on an unfinished record at S: the definitions' steps are those of Void; cut anywhere the image is quiet, at the end rested.
+-- Repair 3 on the unfinished record at S: the definitions' steps are those of Void, and they only clear bits (Voids).
 use Prim.Native.Nat.{ℕ, _+_, _≤_}
 use native.Mathlib.Omega.{arith}
 use mathlib.Core.Path.{_≡_, refl, sym, ap, _∙_}
@@ -13,22 +13,23 @@ use Rattle.spec.specs.Record.{size-of, Rec, Entry}
 use Rattle.spec.specs.Files.{named}
 use Rattle.spec.specs.Mount.{torn-steps, missing-steps, void-steps}
 use Rattle.spec.specs.Demand.{Steps-sound}
-use Rattle.history.specs.Lay.{blanks, pad, lens, rsize, Fine}
+use Rattle.history.specs.Lists.{some-behind}
+use Rattle.history.specs.Blanks.{blanks}
+use Rattle.history.specs.Store.{alive}
+use Rattle.history.specs.Lay.{pad, lens, rsize, Fine}
 use Rattle.history.specs.Last.{Begun, begun-ff, begun-5a, torn-rec, cut-rec, held, begun}
 use Rattle.history.specs.Seg.{Seg, seg-none, seg-torn, seg-cut, seg-held, seg-onto, seg-size, seg-entries}
-use Rattle.history.specs.Store.{alive}
 use Rattle.history.specs.Void.{void-rel, dead, voided, void-fine}
-use Rattle.history.specs.Lists.{some-behind}
 
 -- ---- the steps by the definitions
 
 -- the byte behind a name
-byte-behind : (d t : ℕ) (n s : List ℕ) (b : ℕ) → getD (165 ∷ 90 ∷ b ∷ 255 ∷ lens d (n ++ (t ∷ s))) (8 + length n) 0 ≡ t
+byte-behind : (d t : ℕ) (n s : List ℕ) (b : ℕ) → getD (0xA5 ∷ 0x5A ∷ b ∷ 0xFF ∷ lens d (n ++ (t ∷ s))) (8 + length n) 0 ≡ t
 byte-behind d t n s b =
-    ap (λ (l : List ℕ). getD l (8 + length n) 0) (sym (append-assoc (165 ∷ 90 ∷ b ∷ 255 ∷ lens d []) n (t ∷ s)))
-    ∙ getD-at ((165 ∷ 90 ∷ b ∷ 255 ∷ lens d []) ++ n) t s 0 (8 + length n) (length-append (165 ∷ 90 ∷ b ∷ 255 ∷ lens d []) n)
+    ap (λ (l : List ℕ). getD l (8 + length n) 0) (sym (append-assoc (0xA5 ∷ 0x5A ∷ b ∷ 0xFF ∷ lens d []) n (t ∷ s)))
+    ∙ getD-at ((0xA5 ∷ 0x5A ∷ b ∷ 0xFF ∷ lens d []) ++ n) t s 0 (8 + length n) (length-append (0xA5 ∷ 0x5A ∷ b ∷ 0xFF ∷ lens d []) n)
 
-missing-yes : (im : Image) (a : ℕ) → getD im a 0 ≡ 255 → missing-steps im a ≡ program a 0 ∷ []
+missing-yes : (im : Image) (a : ℕ) → getD im a 0 ≡ 0xFF → missing-steps im a ≡ program a 0 ∷ []
 missing-yes im a e = rw (e, missing-steps)
 
 missing-no : (im : Image) (a : ℕ) → getD im a 0 ≡ 0 → missing-steps im a ≡ []
@@ -39,7 +40,7 @@ pub record Voids (g : Seg) (S : ℕ) : Type 0 where
   pub rec : Rec
   pub is : voided g ≡ rec ∷ []
   pub fine : Fine rec
-  pub low : rec .low ≡ 165
+  pub low : rec .low ≡ 0xA5
   pub size : rsize rec ≡ seg-size g
   pub gone : alive (record { at = S; it = rec }) ≡ false
   pub entry : Entry
@@ -52,7 +53,7 @@ pub record Voids (g : Seg) (S : ℕ) : Type 0 where
 byte-of : (pre s : List ℕ) (S i : ℕ) → length pre ≡ S → getD (pre ++ s) (S + i) 0 ≡ getD s i 0
 byte-of pre s S i e = ap (λ (n : ℕ). getD (pre ++ s) (n + i) 0) (sym e) ∙ getD-append-add pre s i 0
 
-torn-sound : {c : ℕ} (x y z w t : ℕ) (s : List ℕ) → Begun c → Steps-sound (165 ∷ c ∷ 255 ∷ 255 ∷ x ∷ y ∷ z ∷ w ∷ t ∷ s) torn-steps
+torn-sound : {c : ℕ} (x y z w t : ℕ) (s : List ℕ) → Begun c → Steps-sound (0xA5 ∷ c ∷ 0xFF ∷ 0xFF ∷ x ∷ y ∷ z ∷ w ∷ t ∷ s) torn-steps
 torn-sound x y z w t s begun-ff =
     ((omega arith, refl), ((omega arith, refl),
         ((omega arith, refl), ((omega arith, refl), ((omega arith, refl), ((omega arith, refl), ((omega arith, refl), tt)))))))
@@ -85,19 +86,19 @@ voids (seg-cut d n f) S k =
       is = refl;
       fine = void-fine (seg-cut d n f) .0;
       low = refl;
-      size = ap (size-of (length n)) (length-replicate {A = ℕ} d 255);
+      size = ap (size-of (length n)) (length-replicate {A = ℕ} d 0xFF);
       gone = refl;
       entry = record { at = S; it = cut-rec d n };
       entries = refl;
       steps = λ pre s e.
           ap (λ (m : List Step). m ++ (program (S + 2) 0 ∷ []))
           (missing-yes (pre ++ seg-onto (seg-cut d n f) s) (S + (8 + length n))
-              (byte-of pre (seg-onto (seg-cut d n f) s) S (8 + length n) e ∙ byte-behind d 255 n
-          (blanks (pad (length n + 1)) ++ (blanks (up8 d) ++ s)) 254));
+              (byte-of pre (seg-onto (seg-cut d n f) s) S (8 + length n) e ∙ byte-behind d 0xFF n
+          (blanks (pad (length n + 1)) ++ (blanks (up8 d) ++ s)) 0xFE));
       some = some-behind [] _ _;
       big = omega arith;
       sound =
-          λ s. ((omega (arith, length-append n (255 ∷ (blanks (pad (length n + 1)) ++ (blanks (up8 d) ++ s)))), refl),
+          λ s. ((omega (arith, length-append n (0xFF ∷ (blanks (pad (length n + 1)) ++ (blanks (up8 d) ++ s)))), refl),
               ((omega (arith, length-set (begun d n s) (8 + length n) 0), refl), tt));
     }
 voids (seg-held n c f) S k =
@@ -113,7 +114,7 @@ voids (seg-held n c f) S k =
       steps = λ pre s e.
           ap (λ (m : List Step). m ++ (program (S + 2) 0 ∷ []))
           (missing-no (pre ++ seg-onto (seg-held n c f) s) (S + (8 + length n))
-              (byte-of pre (seg-onto (seg-held n c f) s) S (8 + length n) e ∙ byte-behind (length c) 0 n _ 254));
+              (byte-of pre (seg-onto (seg-held n c f) s) S (8 + length n) e ∙ byte-behind (length c) 0 n _ 0xFE));
       some = some-behind [] _ _;
       big = omega arith;
       sound = λ s. ((omega arith, refl), tt);

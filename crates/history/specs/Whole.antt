@@ -1,4 +1,5 @@
--- The parts of an image that the rules look at, and the whole reading, with its rules judged, of an image with a torn wrap.
+-- The parts of an image that the rule on the free run looks at, before the turn and after it; and the whole reading, with its rules
+-- judged, of an image with a torn wrap.
 use Prim.Native.Nat.{ℕ, _+_, _*_, _≤_}
 use native.Mathlib.Omega.{arith}
 use native.Mathlib.Nat.{zero-add}
@@ -17,21 +18,22 @@ use Rattle.spec.specs.Record.{Rec}
 use Rattle.spec.specs.Head.{head}
 use Rattle.spec.specs.Chain.{read}
 use Rattle.spec.specs.Reading.{reading}
-use Rattle.history.specs.Lay.{blanks, sizes, entries-of}
-use Rattle.history.specs.Last.{blank-blanks, Begun, torn-wrap}
+use Rattle.history.specs.Blanks.{blanks, blank-blanks}
+use Rattle.history.specs.Lay.{sizes, entries-of}
+use Rattle.history.specs.Last.{Begun, torn-wrap}
 use Rattle.history.specs.Seg.{Seg, seg-none, seg-onto, seg-size, drop-seg}
 use Rattle.history.specs.Legal.{Ruled, reading-by, free-turned, part-below, part-gap, part-rest}
 use Rattle.history.specs.Straight.{Straight, straight-start, straight-zero, bottom}
-use Rattle.history.specs.Marker.{torn-reading}
 use Rattle.history.specs.Turned.{Turned, End, end-bytes, low-part, high-part, shaped}
+use Rattle.history.specs.Marker.{torn-reading}
 
 -- START is not CLEAN
 pub is-clean-0 : (b : ℕ) → b ≡ 0 → is-clean b ≡ false
 unfolding is-clean
 is-clean-0 b e = rw e
 
--- CLEAN
-pub is-clean-A0 : (b : ℕ) → b ≡ 160 → is-clean b ≡ true
+-- CLEAN is CLEAN
+pub is-clean-A0 : (b : ℕ) → b ≡ 0xA0 → is-clean b ≡ true
 unfolding is-clean
 is-clean-A0 b e = rw e
 
@@ -71,7 +73,7 @@ module _ {im : List ℕ} {a l : ℕ} {gap lost : List ℕ} {h : ℕ} {x : Rec} {
   gap-blank : gap ≡ blanks (4096 * a) → blank (part 0 (floor h) im) ≡ true
   gap-blank g = ap blank (gap-part ∙ g) ∙ blank-blanks (4096 * a)
 
--- a torn wrap at T
+-- a torn wrap behind the records
 pub torn-wrap-whole : (k : ℕ) {im : List ℕ} {a l : ℕ} {gap lost : List ℕ} {h c : ℕ} {x : Rec} {ys : List Rec}
     (s : Straight im a l gap lost h (x ∷ ys) seg-none (torn-wrap c k)) → Begun c → 1 ≤ a →
     gap ≡ blanks (4096 * a) → x .low ≡ 0 → Ruled (entries-of h (x ∷ ys))
@@ -87,8 +89,8 @@ module _ {im : List ℕ} {a l : ℕ} {lost : List ℕ} {h : ℕ} {low : List Rec
   T₁ = sizes low + seg-size seg
 
   -- the free run
-  pub free₁ : part T₁ (floor h) im ≡ free
-  free₁ =
+  pub turned-free-part : part T₁ (floor h) im ≡ free
+  turned-free-part =
       sym (drop-drop (seg-size seg) (sizes low) (take (floor h) im))
       ∙ ap (λ (l : List ℕ). drop (seg-size seg) (drop (sizes low) (take (floor h) l))) (shaped s)
       ∙ ap (drop (seg-size seg)) (part-gap low (x ∷ ys) (seg-onto seg free) lost (end-bytes end) h (low-part s) (high-part s)) ∙ drop-seg seg free

@@ -1,17 +1,17 @@
--- A plan carried out, whole or cut; and demand 3 from an invariant: what the invariant has to give, and the induction on the history.
+-- A plan carried out, whole or cut; and demand 3 from any invariant: what it has to give, and the induction on the history.
 use Prim.Native.Nat.{ℕ, _≤_, _<_}
 use mathlib.Core.Path.{_≡_, refl, sym, ap, subst, ap₂, _∙_}
+use mathlib.Core.Bool.{Bool, true, false}
 use mathlib.Core.List.{List, [], _∷_}
 use lib.ListN.{length, take}
 use lib.Seq.{take-nil, take-all}
+use lib.Dec.{leb}
+use borrow.Author.Tests.{le-leb, lt-leb}
 use Rattle.spec.specs.Step.{Image, run}
 use Rattle.spec.specs.Basics.{Answer, refuse, give, Each}
 use Rattle.spec.specs.Answers.{Plan, carry-out, format, mount-plan, Numbers, cut, numbers-of}
 use Rattle.spec.specs.History.{Request, Call, plan, outcome, replay, steps-of, Ledger, fed, ledger}
 use Rattle.spec.specs.Demand.{Steps-sound, Calls-sound, Mounted, Bytes-put, Demand-3}
-use mathlib.Core.Bool.{Bool, true, false}
-use lib.Dec.{leb}
-use borrow.Author.Tests.{le-leb, lt-leb}
 use Rattle.history.specs.Safe.{Safe, safe-cut, sound-take}
 
 numbers-by : (k : ℕ) (p : Plan) (b : Bool) → leb (length (p .steps)) k ≡ b

@@ -1,61 +1,23 @@
--- On a rested image no repair has a step to do; so mount is the one repair that has some, if it leaves a rested image.
+-- What mount does on an image of the invariant (Mends). On each kind one repair at most has steps, so mount is that repair, if it leaves
+-- a rested image, on which the others have nothing to do.
 use Prim.Native.Nat.{ℕ}
-use mathlib.Core.Path.{_≡_, refl, sym, ap, _∙_, subst}
-use mathlib.Core.Bool.{false}
-use mathlib.Core.List.{List, [], _∷_}
+use mathlib.Core.Path.{_≡_, sym, ap, _∙_, subst}
+use mathlib.Core.List.{List, []}
 use Rattle.spec.specs.Step.{Image, Step, run}
-use Rattle.spec.specs.Basics.{give, Each}
-use Rattle.spec.specs.Record.{Entry}
+use Rattle.spec.specs.Basics.{give}
 use Rattle.spec.specs.Chain.{Reading}
-use Rattle.spec.specs.Reading.{head-clean, reading}
+use Rattle.spec.specs.Reading.{reading}
 use Rattle.spec.specs.Move.{Work, begin, reread, after}
-use Rattle.spec.specs.Mount.{repair-1, repair-2, repair-2-on, repair-3, repair-4, mended}
+use Rattle.spec.specs.Mount.{repair-1, repair-2-on, repair-3, repair-4, mended}
 use Rattle.spec.specs.History.{Ledger}
 use Rattle.history.specs.Safe.{Safe}
-use Rattle.history.specs.Store.{Finished, Unique}
-use Rattle.history.specs.Settled.{one-none, two-none, three-none, four-none}
-use Rattle.history.specs.Whole.{is-clean-0}
-use Rattle.history.specs.Kinds.{Starts, Inv, Rested}
-use Rattle.history.specs.LaidEdit.{laid-fine}
+use Rattle.history.specs.Kinds.{Inv, Rested}
+use Rattle.history.specs.Settled.{rested-idle, idle-2, idle-3, idle-4, after-some}
 use Rattle.history.specs.Closes.{Rests}
-use Rattle.history.specs.Rules.{fine-finished}
-
--- the head is START, so it is not CLEAN
-pub starts-clean : (es : List Entry) → Starts es → head-clean es ≡ false
-starts-clean [] s = absurd s
-starts-clean (x ∷ es) s = is-clean-0 (x .it .low) (s .0)
-
--- repair 2 has nothing to do
-pub two-plain : (w : Work) (es : List Entry) → Starts es → repair-2 w es ≡ w
-two-plain w [] s = absurd s
-two-plain w (x ∷ es) s = two-none w x es (s .1)
-
-module _ {l : Ledger} (w : Work) (q : Rested l (w .image) (w .reading)) where
-  entries-is : w .reading .entries ≡ q .es
-  entries-is = ap (λ (r : Reading). r .entries) (q .is)
-
-  idle-1 : repair-1 w ≡ w
-  idle-1 = one-none w (ap head-clean entries-is ∙ starts-clean (q .es) (q .starts))
-
-  idle-2 : repair-2-on w ≡ w
-  idle-2 = ap (repair-2 w) entries-is ∙ two-plain w (q .es) (q .starts)
-
-  idle-3 : repair-3 w ≡ w
-  idle-3 =
-      three-none w (subst (Each Finished) (sym entries-is) (fine-finished (q .es) (laid-fine (q .laid)))) (ap (λ (r : Reading). r .ending) (q .is))
-
-  idle-4 : repair-4 w ≡ w
-  idle-4 = four-none w (subst Unique (sym entries-is) (q .ok .unique))
-
--- steps that are some: they are run, and the image is read again
-pub after-some : (w : Work) (ss : List Step) (h : ℕ) → (ss ≡ [] → ⊥) → after w ss h ≡ reread w ss (run (w .image) ss) h
-unfolding after
-after-some w [] h n = absurd (n refl)
-after-some w (s ∷ ss) h n = refl
 
 -- ---- mount
 
--- nothing to do on a rested image, or some step
+-- whether mount has a step to do: none on a rested image, or some
 pub data Needs (l : Ledger) (im : Image) (r : Reading) : Type 0 where
   needs-none : Rested l im r → Needs l im r
   needs-some : (mended im r .steps ≡ [] → ⊥) → Needs l im r
@@ -71,12 +33,8 @@ pub record Mends (l : Ledger) (im : Image) : Type 0 where
 module _ {l : Ledger} {im : Image} {r : Reading} (reads : reading im ≡ give r) where
   -- nothing to do
   pub mends-none : Inv l im → Rested l im r → Mends l im
-  unfolding mended
   mends-none i q =
-      let w : Work = begin im r in
-      let m : mended im r ≡ w =
-      ap (λ (v : Work). repair-4 (repair-3 (repair-2-on v))) (idle-1 w q) ∙ ap (λ (v : Work). repair-4 (repair-3 v)) (idle-2 w q)
-          ∙ ap repair-4 (idle-3 w q) ∙ idle-4 w q in
+      let m : mended im r ≡ begin im r = rested-idle q in
       record {
         r = r;
         reads = reads;
