@@ -100,8 +100,7 @@ fn sweep_row(image: &mut [u8], name: &[u8], content: &[u8]) {
 }
 
 fn main() {
-    let mut space = [0u8; 8192];
-    let image: &mut [u8] = &mut space;
+    let mut image = [0u8; 8192];
     let large = [7u8; 2704];
     let dose = b"dose";
     let old = b"\x01\x02\x03";
@@ -113,23 +112,23 @@ fn main() {
         b"case                      put steps mount steps  head  tail files   get bytes  the first\n",
     );
     text(b"put, cut after 15      ");
-    first_put_row(image, dose, old, 15);
+    first_put_row(&mut image, dose, old, 15);
     text(b"put, with 16           ");
-    first_put_row(image, dose, old, 16);
+    first_put_row(&mut image, dose, old, 16);
     text(b"replacing, cut at 16   ");
-    second_put_row(image, dose, old, new, 16);
+    second_put_row(&mut image, dose, old, new, 16);
     text(b"2,704 bytes            ");
-    first_put_row(image, dose, &large, ENOUGH);
+    first_put_row(&mut image, dose, &large, ENOUGH);
     text(b"name of 63 bytes       ");
-    first_put_row(image, named, old, ENOUGH);
+    first_put_row(&mut image, named, old, ENOUGH);
     text(b"name of 64 bytes       ");
-    first_put_row(image, overlong, old, ENOUGH);
+    first_put_row(&mut image, overlong, old, ENOUGH);
     text(b"name \"a/\"              ");
-    first_put_row(image, b"a/", old, ENOUGH);
+    first_put_row(&mut image, b"a/", old, ENOUGH);
     text(b"empty content          ");
-    first_put_row(image, dose, b"", ENOUGH);
+    first_put_row(&mut image, dose, b"", ENOUGH);
 
     text(b"\ncase                    sweep moves steps mount steps  head  tail files  the first\n");
     text(b"sweep, data 00 5A 03   ");
-    sweep_row(image, dose, b"\x00\x5A\x03");
+    sweep_row(&mut image, dose, b"\x00\x5A\x03");
 }
