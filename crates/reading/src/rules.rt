@@ -74,10 +74,7 @@ fn single(image: &[u8], start: Cursor) -> bool
     if doubled(image, start, Status::COMMITTED) {
         return false;
     }
-    if doubled(image, start, Status::MIGRATING) {
-        return false;
-    }
-    true
+    !doubled(image, start, Status::MIGRATING)
 }
 
 // The chain ends as it may.
@@ -152,8 +149,5 @@ pub fn settled(image: &[u8], start: Cursor, s: Survey) -> bool
     if wrap_torn(ending) {
         return false;
     }
-    if any_superseded(image, start) {
-        return false;
-    }
-    true
+    !any_superseded(image, start)
 }
