@@ -1,3 +1,4 @@
+-- count_files: the count so far and the live files of the rest make the whole; there are fewer records than bytes, so no sum wraps.
 use Rattle.record.specs.Suffix.{flag}
 use Rattle.reading.specs.Fold.{turned}
 use Rattle.reading.specs.Seek.{Counted, count-start, count-over, count-one, count-none}

@@ -1,3 +1,4 @@
+-- doubled: what was passed doubles no name, so the answer is about the rest; a record is compared with those behind it only.
 use Rattle.record.specs.Suffix.{flag}
 use Rattle.reading.specs.Fold.{turned, Folded, fold-start}
 use Rattle.reading.specs.Seek.{doubled-of, doubled-over, doubled-found, doubled-onward}

@@ -1,3 +1,4 @@
+-- file_indexed: `left` files are still to be passed among the rest.
 use Rattle.record.specs.Suffix.{flag}
 use Rattle.reading.specs.Fold.{turned, Folded, fold-start}
 use Rattle.reading.specs.FileLaws.{is-file}

@@ -1,3 +1,4 @@
+-- file_named: what was passed has no such file, so the answer is about the rest.
 use Rattle.record.specs.Suffix.{flag}
 use Rattle.reading.specs.Fold.{turned, Folded, fold-start}
 use Rattle.reading.specs.FileLaws.{is-file}

@@ -1,3 +1,4 @@
+-- is_live: by status; an F8 record is live if no FC record has its name.
 use mathlib.Core.Path.{sym}
 use Rattle.record.specs.Suffix.{flag}
 use Rattle.reading.specs.FileLaws.{live-fc, live-none, live-f8}

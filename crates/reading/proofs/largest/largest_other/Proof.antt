@@ -1,3 +1,4 @@
+-- largest_other: the largest of all is that of the rest, begun with the largest so far.
 use Rattle.reading.specs.Fold.{turned, Folded, fold-start}
 use Rattle.reading.specs.Largest.{largest-of, largest-over, largest-onward}
 use Rattle.reading.proofs.Others.{other-step}

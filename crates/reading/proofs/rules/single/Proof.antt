@@ -1,3 +1,4 @@
+-- single: FC, then F8.
 use Rattle.record.specs.Suffix.{flag}
 use Rattle.spec.specs.Reading.{single}
 use borrow.Author.Needs.{needs}

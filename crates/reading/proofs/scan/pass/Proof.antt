@@ -1,3 +1,4 @@
+-- pass: the tally so far, gone on with over the rest, is the tally of all; the records are fewer than the bytes, so the count can't wrap.
 use Rattle.reading.specs.Cursor.{left}
 use Rattle.reading.specs.Fold.{turned, fold-end}
 use Rattle.reading.specs.Tally.{none-yet, passed, Passing, passing-start, passing-step, end-inside}
