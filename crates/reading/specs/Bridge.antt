@@ -20,6 +20,7 @@ use Rattle.reading.specs.declared.Cursor.{Cursor}
 use Rattle.reading.specs.declared.Step.{Step}
 use Rattle.reading.specs.Cursor.{start, window, look, goes-on, turn, past, torn-end, stops, unfinished-at, settle, advance}
 use Rattle.reading.specs.CursorLaws.{advance-on, advance-here, part-window}
+use Rattle.reading.specs.HeadLaws.{Not-record}
 use Rattle.reading.specs.Fits.{look-inside}
 use Rattle.reading.specs.Rest.{Run, entry-of, ahead, done, followed, rest, rest-step}
 
@@ -42,25 +43,14 @@ module _ (k : ℕ) (held : Bool) (at : ℕ) (s : List ℕ) where
   unfolding chain
   chain-record n d e = rw (e, chain)
 
-  chain-wrap : allowed held (next s) ≡ Next.Wrap → chain (suc k) held at s ≡ stop held at Next.Wrap
+  chain-stop : (x : Next) → Not-record x → allowed held (next s) ≡ x → chain (suc k) held at s ≡ stop held at x
   unfolding chain
-  chain-wrap e = rw (e, chain)
-
-  chain-torn-wrap : allowed held (next s) ≡ Next.TornWrap → chain (suc k) held at s ≡ stop held at Next.TornWrap
-  unfolding chain
-  chain-torn-wrap e = rw (e, chain)
-
-  chain-clear : allowed held (next s) ≡ Next.Clear → chain (suc k) held at s ≡ stop held at Next.Clear
-  unfolding chain
-  chain-clear e = rw (e, chain)
-
-  chain-over : allowed held (next s) ≡ Next.Over → chain (suc k) held at s ≡ stop held at Next.Over
-  unfolding chain
-  chain-over e = rw (e, chain)
-
-  chain-bad : allowed held (next s) ≡ Next.Bad → chain (suc k) held at s ≡ stop held at Next.Bad
-  unfolding chain
-  chain-bad e = rw (e, chain)
+  chain-stop (Next.Record n d) z e = absurd z
+  chain-stop Next.Wrap z e = rw (e, chain)
+  chain-stop Next.TornWrap z e = rw (e, chain)
+  chain-stop Next.Clear z e = rw (e, chain)
+  chain-stop Next.Over z e = rw (e, chain)
+  chain-stop Next.Bad z e = rw (e, chain)
 
 -- ---- one stretch, and what follows where it ends
 
@@ -93,29 +83,38 @@ module _ (image : List ℕ) where
   abbrev Chained : ℕ → Cursor → Type 0
   Chained k c = rest image c ≡ finish (c .room) (c .turned) (chain k (c .held) (c .at) (window image c))
 
-  -- the chain of c stops at x
   rest-turn : (c : Cursor) → goes-on (c .room) (look image c) ≡ true → rest image c ≡ rest image (turn (c .room) (c .held))
   rest-turn c h =
       let u : Cursor = turn (c .room) (c .held) in
       rest-step image c ∙ ap (λ (r : Step). followed image r (rest image)) (advance-on image c h ∙ sym (advance-here image u (never (look image u))))
       ∙ sym (rest-step image u)
 
-  stopped : (c : Cursor) (x : Next) (k : ℕ) → look image c ≡ x → chain (suc k) (c .held) (c .at) (window image c) ≡ stop (c .held) (c .at) x
-      → followed image (settle image c x) (rest image) ≡ done (stops (c .room) (c .turned) (c .at) x) → Chained (suc k) c
-  unfolding finish
-  stopped c x k e h z = go (goes-on (c .room) x) refl ∙ ap (finish (c .room) (c .turned)) (sym h) where
-    go : (t : Bool) → goes-on (c .room) x ≡ t → rest image c ≡ finish (c .room) (c .turned) (stop (c .held) (c .at) x)
-    go true q = rw (finish, q) (rest-turn c (ap (goes-on (c .room)) e ∙ q))
-    go false q =
-        rw (finish, q)
-        (rest-step image c ∙ ap (λ (r : Step). followed image r (rest image))
-            (advance-here image c (ap (goes-on (c .room)) e ∙ q) ∙ ap (settle image c) e) ∙ z)
-
   torn-done : (c : Cursor) (t : Bool) → ltb 0 (c .room) ≡ t
       → followed image (torn-end (c .room) (c .turned) (c .at)) (rest image) ≡ done (torn-end (c .room) (c .turned) (c .at))
   unfolding torn-end
   torn-done c true e = rw (torn-end, e)
   torn-done c false e = rw (torn-end, e)
+
+  settle-done : (c : Cursor) (x : Next) → Not-record x
+      → followed image (settle image c x) (rest image) ≡ done (stops (c .room) (c .turned) (c .at) x)
+  settle-done c (Next.Record n d) z = absurd z
+  settle-done c Next.Wrap z = refl
+  settle-done c Next.TornWrap z = torn-done c _ refl
+  settle-done c Next.Clear z = refl
+  settle-done c Next.Over z = refl
+  settle-done c Next.Bad z = refl
+
+  -- the chain of c stops at x
+  stopped : (c : Cursor) (x : Next) (k : ℕ) → look image c ≡ x → Not-record x → Chained (suc k) c
+  unfolding finish look
+  stopped c x k e z =
+      go (goes-on (c .room) x) refl ∙ ap (finish (c .room) (c .turned)) (sym (chain-stop k (c .held) (c .at) (window image c) x z e)) where
+    go : (t : Bool) → goes-on (c .room) x ≡ t → rest image c ≡ finish (c .room) (c .turned) (stop (c .held) (c .at) x)
+    go true q = rw (finish, q) (rest-turn c (ap (goes-on (c .room)) e ∙ q))
+    go false q =
+        rw (finish, q)
+        (rest-step image c ∙ ap (λ (r : Step). followed image r (rest image))
+            (advance-here image c (ap (goes-on (c .room)) e ∙ q) ∙ ap (settle image c) e) ∙ settle-done c x z)
 
   -- a record, and the chain behind it
   linked : (k : ℕ) (c : Cursor) (n d : ℕ) → c .at ≤ c .end → look image c ≡ Next.Record n d
@@ -151,11 +150,11 @@ module _ (image : List ℕ) where
         → Chained (suc k) c
     go (Next.Record n d) e ih =
         linked k c n d o e e (ih n d (unfinished-at image (c .at)) (look-inside image c n d e))
-    go Next.Wrap e ih = stopped c Next.Wrap k e (chain-wrap k (c .held) (c .at) (window image c) e) refl
-    go Next.TornWrap e ih = stopped c Next.TornWrap k e (chain-torn-wrap k (c .held) (c .at) (window image c) e) (torn-done c _ refl)
-    go Next.Clear e ih = stopped c Next.Clear k e (chain-clear k (c .held) (c .at) (window image c) e) refl
-    go Next.Over e ih = stopped c Next.Over k e (chain-over k (c .held) (c .at) (window image c) e) refl
-    go Next.Bad e ih = stopped c Next.Bad k e (chain-bad k (c .held) (c .at) (window image c) e) refl
+    go Next.Wrap e ih = stopped c Next.Wrap k e tt
+    go Next.TornWrap e ih = stopped c Next.TornWrap k e tt
+    go Next.Clear e ih = stopped c Next.Clear k e tt
+    go Next.Over e ih = stopped c Next.Over k e tt
+    go Next.Bad e ih = stopped c Next.Bad k e tt
 
   -- ---- the whole chain
 

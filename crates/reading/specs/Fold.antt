@@ -41,11 +41,12 @@ pub record Turned (image : List ℕ) (c : Cursor) (e : Spot) (next : Cursor) : T
   pub split : rest image c ≡ ahead (entry-of image e) (rest image next)
   pub whole : Whole image e
 
-pub turned : (image : List ℕ) (c : Cursor) (r : Step) (e : Spot) (next : Cursor) → r ≡ advance image c → Inside image c r → r ≡ Step.Record e next
-    → Turned image c e next
-turned image c r e next p w q =
-    let o : Onward image c e next = rw q at w in
-    record { onward = o; split = rw (rest-step image c, sym p ∙ q); whole = record { fits = o .fits } }
+-- from what `advance` ensures, where it gave a record
+pub turned : {image : List ℕ} {c : Cursor} {r : Step} {e : Spot} {next : Cursor} → (r ≡ advance image c) × Inside image c r
+    → r ≡ Step.Record e next → Turned image c e next
+turned {image} {c} {r} {e} {next} p q =
+    let o : Onward image c e next = rw q at (p .1) in
+    record { onward = o; split = rw (rest-step image c, sym (p .0) ∙ q); whole = record { fits = o .fits } }
 
 abbrev pub Not-record : Step → Type 0
 Not-record (Step.Record e next) = ⊥

@@ -68,7 +68,8 @@ second-marked [] = false
 second-marked (x ∷ []) = false
 second-marked (x ∷ (y ∷ es)) = marked y
 
-close-filled : (N : ℕ) (x y : Entry) → empty (close-steps N x y) ≡ false
+-- the steps that end a move are never none
+pub close-filled : (N : ℕ) (x y : Entry) → empty (close-steps N x y) ≡ false
 unfolding close-steps
 close-filled N x y =
     right-filled (clean-steps (length (content-of x)) (data-at x) (content-of x)) (vacate-steps x y (vacated N x y))

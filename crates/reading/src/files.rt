@@ -102,10 +102,7 @@ pub fn is_live(image: &[u8], start: Cursor, e: Spot) -> bool
         return true;
     }
     if named(image, Status::MIGRATING, e) {
-        if has_named(image, start, Status::COMMITTED, e) {
-            return false;
-        }
-        return true;
+        return !has_named(image, start, Status::COMMITTED, e);
     }
     false
 }

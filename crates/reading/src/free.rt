@@ -1,29 +1,12 @@
-// The free run: sectors, the place's limit, and the bytes that must be FF.
+// The free run, and the bytes of it that must be FF.
 use spec::Place;
 use spec::SECTOR;
+use spec::floor;
 ghost use mathlib.Core.Path.{_≡_};
-ghost use Prim.Native.Nat.{_≤_, _<_};
+ghost use Prim.Native.Nat.{_≤_};
 ghost use lib.ListN.{length};
-ghost use Rattle.spec.specs.Geometry.{floor};
-ghost use Rattle.spec.specs.Reading.{limit, blank-part, free-blank, tail-blank};
+ghost use Rattle.spec.specs.Reading.{blank-part, free-blank, tail-blank};
 ghost use Rattle.reading.specs.FreeLaws.{In-image, free-by};
-
-// The start of a's sector.
-pub fn floor(a: usize) -> usize
-    ensures { λ r. ⌜ (r ≡ floor a) × (r ≤ a) ⌝ }
-{
-    a / SECTOR * SECTOR
-}
-
-// Where the stretch of the free run that begins at the tail ends.
-pub fn limit(p: Place) -> usize
-    ensures { λ r. ⌜ r ≡ limit p ⌝ }
-{
-    if p.turned {
-        return floor(p.head);
-    }
-    p.length
-}
 
 // The bytes from a up to b are FF; none are, where b is not past a.
 pub fn blank_part(image: &[u8], a: usize, b: usize) -> bool
@@ -55,7 +38,7 @@ fn tail_blank(image: &[u8], p: Place) -> bool
     ensures { λ r. ⌜ r ≡ tail-blank (now (image .entry)) p ⌝ }
 {
     let end = floor(p.tail) + SECTOR;
-    let l = limit(p);
+    let l = p.limit();
     if end < l {
         return blank_part(image, p.tail, end);
     }

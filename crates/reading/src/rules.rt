@@ -6,13 +6,13 @@ use crate::Tally;
 use crate::files::any_superseded;
 use crate::files::doubled;
 use crate::files::is_live;
-use crate::free::floor;
 use crate::free::free_ok;
 use crate::scan::low_of;
 use crate::scan::marked;
 use spec::CLEAN;
 use spec::Ending;
 use spec::Status;
+use spec::floor;
 ghost use mathlib.Core.Path.{_≡_};
 ghost use Rattle.spec.specs.Reading.{head-clean, second-ok, marks-ok, single, whole, legal};
 ghost use Rattle.spec.specs.Mount.{settled};
@@ -74,10 +74,7 @@ fn single(image: &[u8], start: Cursor) -> bool
     if doubled(image, start, Status::COMMITTED) {
         return false;
     }
-    if doubled(image, start, Status::MIGRATING) {
-        return false;
-    }
-    true
+    !doubled(image, start, Status::MIGRATING)
 }
 
 // The chain ends as it may.
@@ -152,8 +149,5 @@ pub fn settled(image: &[u8], start: Cursor, s: Survey) -> bool
     if wrap_torn(ending) {
         return false;
     }
-    if any_superseded(image, start) {
-        return false;
-    }
-    true
+    !any_superseded(image, start)
 }

@@ -2,7 +2,7 @@
 use Prim.Native.Nat.{ℕ, zero, suc, _+_, _-_, _≤_, _<_}
 use native.Mathlib.Omega.{arith}
 use mathlib.Core.Path.{_≡_, refl}
-use mathlib.Core.Bool.{Bool, true, false}
+use mathlib.Core.Bool.{Bool, true, false, not}
 use mathlib.Core.List.{List, [], _∷_}
 use lib.ListN.{length, drop, getD, drop-of-length-le}
 use lib.Dec.{eqb}
@@ -70,10 +70,6 @@ module _ (n : List ℕ) where
     unfolding name-ok
     ok-byte p = rw (name-ok, le-leb 1 (length n) l, le-leb (length n) 63 h, p)
 
-    pub ok-slash : all is-printable n ≡ true → ends-in-slash n ≡ true → false ≡ name-ok n
+    pub ok-slash : all is-printable n ≡ true → (t : Bool) → t ≡ ends-in-slash n → not t ≡ name-ok n
     unfolding name-ok
-    ok-slash p q = rw (name-ok, le-leb 1 (length n) l, le-leb (length n) 63 h, p, q)
-
-    pub ok-good : all is-printable n ≡ true → ends-in-slash n ≡ false → true ≡ name-ok n
-    unfolding name-ok
-    ok-good p q = rw (name-ok, le-leb 1 (length n) l, le-leb (length n) 63 h, p, q)
+    ok-slash p t q = rw (name-ok, le-leb 1 (length n) l, le-leb (length n) 63 h, p, q)

@@ -77,10 +77,7 @@ pub fn name_ok(name: &[u8]) -> bool
         return false;
     }
     if all_printable(name) {
-        if last_is_slash(name) {
-            return false;
-        }
-        return true;
+        return !last_is_slash(name);
     }
     false
 }

@@ -43,18 +43,18 @@ abbrev pub leave-steps : ℕ → ℕ → List ℕ → List Step
 leave-steps x y starts = map erase starts ++ (program y 0x00 ∷ forget x starts)
 
 -- (d) to (f) are done: with X's sector erased, and without
-module _ {s t u : Image} {m q r : Meter} (x y N to : ℕ) (end : to ≡ end-before N y)
-    (erased : Did s m (map erase (sectors (floor x) to)) t q) (started : Did t q (program y 0x00 ∷ []) u r) where
-  pub left-erased : floor x + 4096 ≤ to → Did s m (leave-steps x y (sectors (floor x) (end-before N y))) u r
+module _ {s t u : Image} {m q r : Meter} (x y N : ℕ) {from to : ℕ} (begin : from ≡ floor x) (end : to ≡ end-before N y)
+    (erased : Did s m (map erase (sectors from to)) t q) (started : Did t q (program y 0x00 ∷ []) u r) where
+  pub left-erased : from + 4096 ≤ to → Did s m (leave-steps x y (sectors (floor x) (end-before N y))) u r
   left-erased h =
-      let none : forget x (sectors (floor x) to) ≡ [] = ap (forget x) (sectors-more (floor x) to h) in
-      rw (← end, none) (did-both erased started)
+      let none : forget x (sectors from to) ≡ [] = ap (forget x) (sectors-more from to h) in
+      rw (← begin, ← end, none) (did-both erased started)
 
-  pub left-there : {v : Image} {p : Meter} → to < floor x + 4096 → Did u r (program (x + 1) 0x00 ∷ []) v p
+  pub left-there : {v : Image} {p : Meter} → to < from + 4096 → Did u r (program (x + 1) 0x00 ∷ []) v p
       → Did s m (leave-steps x y (sectors (floor x) (end-before N y))) v p
   left-there h f =
-      let one : forget x (sectors (floor x) to) ≡ program (x + 1) 0x00 ∷ [] = ap (forget x) (sectors-none (floor x) to h) in
-      rw (← end, one) (did-both erased (did-both started f))
+      let one : forget x (sectors from to) ≡ program (x + 1) 0x00 ∷ [] = ap (forget x) (sectors-none from to h) in
+      rw (← begin, ← end, one) (did-both erased (did-both started f))
 
 -- the definition's steps
 leave-is : (x y : Entry) (starts : List ℕ) → vacate-steps x y starts ≡ leave-steps (x .at) (y .at) starts

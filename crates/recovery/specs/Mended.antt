@@ -3,20 +3,21 @@ use Prim.Native.Nat.{ℕ, _≤_, _<_}
 use mathlib.Core.Path.{_≡_, refl, sym, ap, ap₂, _∙_}
 use mathlib.Core.Logic.{_⊎_, inl, inr}
 use mathlib.Core.Bool.{Bool, true, false}
-use mathlib.Core.List.{List, [], _∷_, _++_, map}
+use mathlib.Core.List.{List, [], _∷_}
 use lib.ListN.{length}
-use Rattle.spec.specs.Step.{Image, program, erase}
+use Rattle.spec.specs.Step.{Image}
 use Rattle.spec.specs.Basics.{empty}
 use Rattle.spec.specs.Bytes.{is-start, is-clean}
-use Rattle.spec.specs.Record.{Entry, content-of, data-at}
+use Rattle.spec.specs.Record.{Entry}
 use Rattle.spec.specs.Chain.{Reading, reading-from}
-use Rattle.spec.specs.Move.{Work, begin, after, clean-steps, forget-steps, vacated, vacate-steps, close-steps}
+use Rattle.spec.specs.Move.{Work, begin, after}
 use Rattle.spec.specs.Mount.{repair-1, repair-2-on, repair-3, drop-steps, repair-4, mended}
 use Rattle.flash.specs.declared.Meter.{Meter}
 use Rattle.flash.specs.Did.{Did}
 use Rattle.reading.specs.declared.Step.{Step as Ending-step}
 use Rattle.reading.specs.Rest.{rest}
 use Rattle.reading.specs.Bridge.{shown, reading-is}
+use Rattle.reading.specs.SettledLaws.{close-filled}
 use Rattle.reading.specs.Read.{first-cursor}
 use Rattle.recovery.specs.Repairs.{steps-1, pair-steps, pair-head, steps-2, head-2, steps-3, repair-1-is, repair-2-is, repair-3-is, repair-4-is}
 use Rattle.recovery.specs.Pair.{Handed}
@@ -49,16 +50,6 @@ module _ (image : Image) (h : ℕ) where
             ∙ shown-length (rest image (first-cursor image h) .entries) (rest image (first-cursor image h) .ending)
 
 -- ---- repair 2 moves the head only with a step
-
-right-filled : {A : Type 0} (a b : List A) → empty b ≡ false → empty (a ++ b) ≡ false
-right-filled [] b e = e
-right-filled (x ∷ a) b e = refl
-
-close-filled : (N : ℕ) (x y : Entry) → empty (close-steps N x y) ≡ false
-unfolding close-steps
-close-filled N x y =
-    right-filled (clean-steps (length (content-of x)) (data-at x) (content-of x)) (vacate-steps x y (vacated N x y))
-    (right-filled (map erase (vacated N x y)) (program (y .at) 0x00 ∷ forget-steps x (vacated N x y)) refl)
 
 pair-moves : (N h : ℕ) (x y : Entry) (t u : Bool) → is-clean (y .it .low) ≡ t → is-start (y .it .low) ≡ u
     → (empty (pair-steps N x y) ≡ false) ⊎ (pair-head h y ≡ h)

@@ -9,6 +9,7 @@ use spec::HIGH;
 use spec::RECORD;
 use spec::SECTOR;
 use spec::START;
+use spec::floor;
 ghost use mathlib.Core.Path.{_≡_};
 ghost use Prim.Native.Nat.{_+_, _*_, _≤_, _<_, _^_};
 ghost use lib.ListN.{length, take, drop};
@@ -69,7 +70,7 @@ fn vacated_end(length: usize, y: usize) -> usize
     if y == 0 {
         return length;
     }
-    y / SECTOR * SECTOR
+    floor(y)
 }
 
 // Steps (d) to (f): Y becomes START only after the erases, and X's second byte goes only where X's sector was not erased.
@@ -77,7 +78,7 @@ fn vacate(image: &mut [u8], x: usize, y: usize, m: Meter) -> Meter
     requires { ⌜ (x + 1 < length (now image)) × (y < length (now image)) × (length (now image) ≤ 2 ^ 24) × (m .asked + length (now image) + 2 ≤ 2 ^ 32) ⌝ }
     ensures { λ r. ⌜ Did (now (image .entry)) m (leave-steps x y (sectors (floor x) (end-before (length (now (image .entry))) y))) (now (image .exit)) r × (r .asked ≤ m .asked + length (now (image .entry)) + 2) ⌝ }
 {
-    let from = x / SECTOR * SECTOR;
+    let from = floor(x);
     let to = vacated_end(image.len(), y);
     let a = erase_sectors(image, from, to, m);
     let b = program(image, y, START, a);

@@ -2,13 +2,13 @@
 use crate::sectors::erase_dirty;
 use flash::Meter;
 use flash::program;
-use reading::free::floor;
 use reading::image::survey;
 use reading::scan::low_of;
 use spec::CLEAN;
 use spec::Place;
 use spec::SECTOR;
 use spec::START;
+use spec::floor;
 ghost use mathlib.Core.Path.{_≡_};
 ghost use mathlib.Core.Bool.{false};
 ghost use Prim.Native.Nat.{_+_, _*_, _≤_, _<_, _^_};
@@ -25,7 +25,7 @@ fn ceiling(a: usize) -> usize
     requires { ⌜ a ≤ 2 ^ 24 ⌝ }
     ensures { λ r. ⌜ (r ≡ ceiling a) × (r ≤ 2 ^ 24) ⌝ }
 {
-    (a + (SECTOR - 1)) / SECTOR * SECTOR
+    floor(a + (SECTOR - 1))
 }
 
 // The sectors that lie wholly in the free run and are not all FF.

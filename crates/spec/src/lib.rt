@@ -1,6 +1,8 @@
 // Document 01 as definitions (specs/), and the types and named bytes that all layers share.
 // Nothing here reads or writes an image; the layers above are proved against what stands here.
 ghost use mathlib.Core.Path.{_≡_};
+ghost use Prim.Native.Nat.{_≤_};
+ghost use Rattle.spec.specs.Geometry.{floor};
 ghost use Rattle.spec.specs.Reading.{limit};
 ghost use Rattle.spec.specs.Place.{fits-at-tail};
 ghost use Rattle.spec.specs.Placed.{placed, with-tail};
@@ -50,11 +52,11 @@ pub enum Placed {
 
 impl Place {
     // Where the stretch of the free run that begins at the tail ends.
-    fn limit(self) -> usize
+    pub fn limit(self) -> usize
         ensures { λ r. ⌜ r ≡ limit self ⌝ }
     {
         if self.turned {
-            return self.head / SECTOR * SECTOR;
+            return floor(self.head);
         }
         self.length
     }
@@ -80,7 +82,7 @@ impl Place {
         if self.turned {
             return Placed::Full;
         }
-        if size <= self.head / SECTOR * SECTOR {
+        if size <= floor(self.head) {
             return Placed::At(0, self.tail < self.length, self.moved(size, true));
         }
         Placed::Full
@@ -128,6 +130,14 @@ impl Status {
 
 // A sector's length.
 pub const SECTOR: usize = 4096;
+
+// The start of a's sector.
+pub fn floor(a: usize) -> usize
+    ensures { λ r. ⌜ (r ≡ floor a) × (r ≤ a) ⌝ }
+{
+    a / SECTOR * SECTOR
+}
+
 // The second byte of every magic.
 pub const HIGH: u8 = 0x5A;
 // The first byte of a record's magic, of START's, of CLEAN's and of a wrap marker's.

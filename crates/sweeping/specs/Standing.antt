@@ -39,7 +39,7 @@ pub record Found (s : Image) (c : Cursor) (x : Spot) (next : Cursor) : Type 0 wh
 pub found : {s : Image} {c k : Cursor} {r : Step} {x : Spot} {next : Cursor} → k ≡ c → r ≡ advance s k → Inside s k r → r ≡ Step.Record x next
     → Found s c x next
 found {s} {c} {k} {r} {x} {next} q e i f =
-    record { turned = subst (λ (v : Cursor). Turned s v x next) q (turned s k r x next e i f); step = ap (advance s) (sym q) ∙ sym e ∙ f }
+    record { turned = subst (λ (v : Cursor). Turned s v x next) q (turned (e, i) f); step = ap (advance s) (sym q) ∙ sym e ∙ f }
 
 pub start-sound : {s : Image} {h : ℕ} {k : Cursor} → Led s h → k ≡ first-cursor s h → Sound s k
 start-sound {s} {h} w q = rw q (first-sound s h (omega (arith, w .inside)) (w .small))

@@ -1,3 +1,4 @@
+-- clear_of: the eight bytes are FF or not.
 use Rattle.record.specs.Suffix.{flag}
 use mathlib.Core.Path.{sym}
 use lib.Seq.{length-take-le}

@@ -1,3 +1,4 @@
+-- next_of: too short for a header, or arm by arm of the kind; a callee that gives a record bounds it.
 use mathlib.Core.Path.{_∙_}
 use Rattle.spec.specs.declared.Kind.{Kind}
 use Rattle.spec.specs.Next.{next-at}

@@ -1,3 +1,4 @@
+-- torn_of: by the part's length and byte 8; a torn record has 16 bytes.
 use borrow.Author.Tests.{eq-eqb, ne-eqb}
 use Rattle.spec.specs.Bytes.{is-name-begun}
 use Rattle.record.specs.Suffix.{long-le, long-lt}

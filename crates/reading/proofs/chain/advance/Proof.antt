@@ -1,3 +1,4 @@
+-- advance: what is looked at stands at the cursor or, where the chain turns, at 0; a cursor that lies in the image still does after the turn.
 use Rattle.reading.specs.CursorLaws.{sound-turn, advanced-on, advanced-here}
 use borrow.Author.Needs.{needs}
 use Rattle.reading.proofs.chain.advance.Statement.{statement}

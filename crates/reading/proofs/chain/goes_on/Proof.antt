@@ -1,3 +1,4 @@
+-- goes_on: only a marker and the end let the chain go on; each arm of the match is the definition's.
 use borrow.Author.Needs.{needs}
 use Rattle.reading.proofs.chain.goes_on.Statement.{statement}
 use Rattle.reading.proofs.chain.goes_on.Tie as tie

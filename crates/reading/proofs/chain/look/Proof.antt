@@ -1,3 +1,4 @@
+-- look: the part that is lent is the definitions' stretch, and what is not allowed is Bad, which bounds nothing.
 use mathlib.Core.Path.{sym, subst}
 use Prim.Native.Nat.{ℕ, _-_}
 use borrow.Rule.Slice.PartAt.{part-count}

@@ -1,3 +1,4 @@
+-- record_at: the size and the status are those the callees give.
 use borrow.Author.Needs.{needs}
 use Rattle.reading.proofs.chain.record_at.Statement.{statement}
 use Rattle.reading.proofs.chain.record_at.Tie as tie

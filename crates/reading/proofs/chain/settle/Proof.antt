@@ -1,3 +1,4 @@
+-- settle: arm by arm; only a record needs its bounds.
 use borrow.Author.Needs.{needs}
 use Rattle.reading.proofs.chain.settle.Statement.{statement}
 use Rattle.reading.proofs.chain.settle.Tie as tie

@@ -1,3 +1,4 @@
+-- torn_end: the one test is the definition's.
 use borrow.Author.Tests.{lt-ltb, le-ltb}
 use Rattle.reading.specs.Cursor.{torn-end}
 use Rattle.reading.proofs.chain.torn_end.Statement.{statement}

@@ -1,3 +1,4 @@
+-- unfinished: the status byte against FF and FE.
 use borrow.Author.Tests.{eq-eqb, ne-eqb}
 use Rattle.spec.specs.Bytes.{is-erased, is-reserved, is-unfinished}
 use lib.Seq.{getD-drop}

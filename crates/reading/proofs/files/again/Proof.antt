@@ -1,3 +1,4 @@
+-- again: a record that doesn't count is not asked for a second one.
 use Rattle.record.specs.Suffix.{flag}
 use Rattle.reading.specs.FileLaws.{twice}
 use borrow.Author.Needs.{needs}

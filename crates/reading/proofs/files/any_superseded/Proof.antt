@@ -1,5 +1,6 @@
+-- any_superseded: what was passed has no superseded record, so the answer is about the rest; each turn drops one record of the rest.
 use Rattle.record.specs.Suffix.{flag}
-use Rattle.reading.specs.Fold.{Turned, turned, Folded, fold-start}
+use Rattle.reading.specs.Fold.{turned, Folded, fold-start}
 use Rattle.reading.specs.Seek.{any-of, any-over, any-found, any-onward}
 use Rattle.spec.specs.Files.{superseded}
 use Rattle.reading.specs.Rest.{rest}
@@ -13,15 +14,6 @@ Inv-loop image start c₀ c = Folded (any-of (superseded (rest image start .entr
 
 abbrev μ-loop : tie.MeasureT-loop
 μ-loop image start c₀ c = left c
-
--- the turn of the loop, once a record was found
-turn : (k : tie.After-known-told Inv-loop μ-loop)
-    → Turned (k .before .before .before .before .before .before .args .image .now) (k .before .before .before .before .loop .c)
-    (k .before .s .given .0 .0) (k .before .s .given .0 .1 .0)
-turn k =
-    let a = k .before .before .before .advance in
-    turned (k .before .before .before .before .before .before .args .image .now) (k .before .before .before .before .loop .c) (a .result)
-        (k .before .s .given .0 .0) (k .before .s .given .0 .1 .0) (a .ensures .0) (a .ensures .1) (k .before .s .given .1)
 
 loop-holds : tie.Need-loop-holds Inv-loop μ-loop
 loop-holds c = fold-start _ _ _ _ (c .before .pre)
@@ -39,23 +31,31 @@ returns c =
         (c .before .advance .ensures .0) (other-step (c .before .advance .result) (c .match .keys2))
 
 is-superseded-requires : tie.Need-is-superseded-requires Inv-loop μ-loop
-is-superseded-requires c κs = let t = turn c in ((c .before .before .before .before .before .before .pre), t .whole)
+is-superseded-requires c κs =
+    let c3 = c .before .before .before in
+    (c3 .before .before .before .pre, turned (c3 .advance .ensures) (c .before .s .given .1) .whole)
 
 returns-2 : tie.Need-returns-2 Inv-loop μ-loop
 returns-2 c =
-    let c6 = c .before .before .before .before .before .before in
+    let c3 = c .before .before .before in
+    let c5 = c3 .before .before in
+    let c6 = c5 .before in
     let a = c6 .before .before .args in
-    let t = turn (c .before .before) in
+    let t = turned (c5 .advance .ensures) (c3 .s .given .1) in
     any-found (superseded (rest (a .image .now) (a .start) .entries)) (c6 .loop .inv) t (flag (c .before .is-superseded .ensures) (c .if1 .taken))
 
 loop-less : tie.Need-loop-less Inv-loop μ-loop
-loop-less c = turn (c .before .before) .onward .less
+loop-less c =
+    let c3 = c .before .before .before in
+    turned (c3 .before .before .advance .ensures) (c3 .s .given .1) .onward .less
 
 loop-again : tie.Need-loop-again Inv-loop μ-loop
 loop-again c =
-    let c6 = c .before .before .before .before .before .before in
+    let c3 = c .before .before .before in
+    let c5 = c3 .before .before in
+    let c6 = c5 .before in
     let a = c6 .before .before .args in
-    let t = turn (c .before .before) in
+    let t = turned (c5 .advance .ensures) (c3 .s .given .1) in
     any-onward (superseded (rest (a .image .now) (a .start) .entries)) (c6 .loop .inv) t (flag (c .before .is-superseded .ensures) (c .if1 .left))
 
 pub any-superseded-spec : {M : Type 1} → statement M

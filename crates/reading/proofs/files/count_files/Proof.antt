@@ -1,5 +1,6 @@
+-- count_files: the count so far and the live files of the rest make the whole; there are fewer records than bytes, so no sum wraps.
 use Rattle.record.specs.Suffix.{flag}
-use Rattle.reading.specs.Fold.{Turned, turned}
+use Rattle.reading.specs.Fold.{turned}
 use Rattle.reading.specs.Seek.{Counted, count-start, count-over, count-one, count-none}
 use Rattle.spec.specs.Files.{live}
 use Rattle.reading.specs.Rest.{rest}
@@ -14,15 +15,6 @@ Inv-loop image start c₀ count₀ c count = Counted (live (rest image start .en
 
 abbrev μ-loop : tie.MeasureT-loop
 μ-loop image start c₀ count₀ c count = left c
-
--- the turn of the loop, once a record was found
-turn : (k : tie.After-known-told Inv-loop μ-loop)
-    → Turned (k .before .before .before .before .before .before .args .image .now) (k .before .before .before .before .loop .c)
-    (k .before .s .given .0 .0) (k .before .s .given .0 .1 .0)
-turn k =
-    let a = k .before .before .before .advance in
-    turned (k .before .before .before .before .before .before .args .image .now) (k .before .before .before .before .loop .c) (a .result)
-        (k .before .s .given .0 .0) (k .before .s .given .0 .1 .0) (a .ensures .0) (a .ensures .1) (k .before .s .given .1)
 
 loop-holds : tie.Need-loop-holds Inv-loop μ-loop
 loop-holds c = count-start _ (c .before .pre)
@@ -40,7 +32,9 @@ returns c =
         (c .before .advance .ensures .0) (other-step (c .before .advance .result) (c .match .keys2))
 
 is-live-requires : tie.Need-is-live-requires Inv-loop μ-loop
-is-live-requires c κs = let t = turn c in ((c .before .before .before .before .before .before .pre), t .whole)
+is-live-requires c κs =
+    let c3 = c .before .before .before in
+    (c3 .before .before .before .pre, turned (c3 .advance .ensures) (c .before .s .given .1) .whole)
 
 add-count : tie.Need-add-count Inv-loop μ-loop
 add-count c =
@@ -48,23 +42,31 @@ add-count c =
     omega (arith, c .before .before .before .before .before .before .loop .inv .few, p .inside, p .room, p .small)
 
 loop-less : tie.Need-loop-less Inv-loop μ-loop
-loop-less c = turn (c .before .before) .onward .less
+loop-less c =
+    let c3 = c .before .before .before in
+    turned (c3 .before .before .advance .ensures) (c3 .s .given .1) .onward .less
 
 loop-again : tie.Need-loop-again Inv-loop μ-loop
 loop-again c =
-    let c6 = c .before .before .before .before .before .before in
+    let c3 = c .before .before .before in
+    let c5 = c3 .before .before in
+    let c6 = c5 .before in
     let a = c6 .before .before .args in
-    let t = turn (c .before .before) in
+    let t = turned (c5 .advance .ensures) (c3 .s .given .1) in
     count-one (live (rest (a .image .now) (a .start) .entries)) (c6 .loop .inv) t (flag (c .before .is-live .ensures) (c .if1 .taken))
 
 loop-less-2 : tie.Need-loop-less-2 Inv-loop μ-loop
-loop-less-2 c = turn (c .before .before) .onward .less
+loop-less-2 c =
+    let c3 = c .before .before .before in
+    turned (c3 .before .before .advance .ensures) (c3 .s .given .1) .onward .less
 
 loop-again-2 : tie.Need-loop-again-2 Inv-loop μ-loop
 loop-again-2 c =
-    let c6 = c .before .before .before .before .before .before in
+    let c3 = c .before .before .before in
+    let c5 = c3 .before .before in
+    let c6 = c5 .before in
     let a = c6 .before .before .args in
-    let t = turn (c .before .before) in
+    let t = turned (c5 .advance .ensures) (c3 .s .given .1) in
     count-none (live (rest (a .image .now) (a .start) .entries)) (c6 .loop .inv) t (flag (c .before .is-live .ensures) (c .if1 .left))
 
 pub count-files-spec : {M : Type 1} → statement M

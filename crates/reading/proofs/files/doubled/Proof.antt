@@ -1,5 +1,6 @@
+-- doubled: what was passed doubles no name, so the answer is about the rest; a record is compared with those behind it only.
 use Rattle.record.specs.Suffix.{flag}
-use Rattle.reading.specs.Fold.{Turned, turned, Folded, fold-start}
+use Rattle.reading.specs.Fold.{turned, Folded, fold-start}
 use Rattle.reading.specs.Seek.{doubled-of, doubled-over, doubled-found, doubled-onward}
 use Rattle.reading.proofs.Others.{other-step}
 use Rattle.reading.specs.Cursor.{left}
@@ -11,15 +12,6 @@ Inv-loop image status c₀ c = Folded (doubled-of (status .byte)) image c₀ tt 
 
 abbrev μ-loop : tie.MeasureT-loop
 μ-loop image status c₀ c = left c
-
--- the turn of the loop, once a record was found
-turn : (k : tie.After-known-told Inv-loop μ-loop)
-    → Turned (k .before .before .before .before .before .before .args .image .now) (k .before .before .before .before .loop .c)
-    (k .before .s .given .0 .0) (k .before .s .given .0 .1 .0)
-turn k =
-    let a = k .before .before .before .advance in
-    turned (k .before .before .before .before .before .before .args .image .now) (k .before .before .before .before .loop .c) (a .result)
-        (k .before .s .given .0 .0) (k .before .s .given .0 .1 .0) (a .ensures .0) (a .ensures .1) (k .before .s .given .1)
 
 loop-holds : tie.Need-loop-holds Inv-loop μ-loop
 loop-holds c = fold-start _ _ _ _ (c .before .pre)
@@ -37,23 +29,31 @@ returns c =
         (other-step (c .before .advance .result) (c .match .keys2))
 
 again-requires : tie.Need-again-requires Inv-loop μ-loop
-again-requires c κs = let t = turn c in (t .onward .sound, t .whole)
+again-requires c κs =
+    let t = turned (c .before .before .before .advance .ensures) (c .before .s .given .1) in
+    (t .onward .sound, t .whole)
 
 returns-2 : tie.Need-returns-2 Inv-loop μ-loop
 returns-2 c =
-    let c6 = c .before .before .before .before .before .before in
+    let c3 = c .before .before .before in
+    let c5 = c3 .before .before in
+    let c6 = c5 .before in
     let c8 = c6 .before .before in
-    let t = turn (c .before .before) in
+    let t = turned (c5 .advance .ensures) (c3 .s .given .1) in
     doubled-found (c8 .args .status .byte) (c6 .loop .inv) t (flag (c .before .again .ensures) (c .if1 .taken))
 
 loop-less : tie.Need-loop-less Inv-loop μ-loop
-loop-less c = turn (c .before .before) .onward .less
+loop-less c =
+    let c3 = c .before .before .before in
+    turned (c3 .before .before .advance .ensures) (c3 .s .given .1) .onward .less
 
 loop-again : tie.Need-loop-again Inv-loop μ-loop
 loop-again c =
-    let c6 = c .before .before .before .before .before .before in
+    let c3 = c .before .before .before in
+    let c5 = c3 .before .before in
+    let c6 = c5 .before in
     let c8 = c6 .before .before in
-    let t = turn (c .before .before) in
+    let t = turned (c5 .advance .ensures) (c3 .s .given .1) in
     doubled-onward (c8 .args .status .byte) (c6 .loop .inv) t (flag (c .before .again .ensures) (c .if1 .left))
 
 pub doubled-spec : {M : Type 1} → statement M

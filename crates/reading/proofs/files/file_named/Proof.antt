@@ -1,5 +1,6 @@
+-- file_named: what was passed has no such file, so the answer is about the rest.
 use Rattle.record.specs.Suffix.{flag}
-use Rattle.reading.specs.Fold.{Turned, turned, Folded, fold-start}
+use Rattle.reading.specs.Fold.{turned, Folded, fold-start}
 use Rattle.reading.specs.FileLaws.{is-file}
 use Rattle.reading.specs.Seek.{first-of, first-over, first-found, first-other, first-skip}
 use Rattle.spec.specs.Files.{has-name}
@@ -13,15 +14,6 @@ Inv-loop image name c₀ c = Folded (first-of (has-name name) is-file) image c�
 
 abbrev μ-loop : tie.MeasureT-loop
 μ-loop image name c₀ c = left c
-
--- the turn of the loop, once a record was found
-turn : (k : tie.After-known-told Inv-loop μ-loop)
-    → Turned (k .before .before .before .before .before .before .before .args .image .now) (k .before .before .before .before .loop .c)
-    (k .before .s .given .0 .0) (k .before .s .given .0 .1 .0)
-turn k =
-    let a = k .before .before .before .advance in
-    turned (k .before .before .before .before .before .before .before .args .image .now) (k .before .before .before .before .loop .c) (a .result)
-        (k .before .s .given .0 .0) (k .before .s .given .0 .1 .0) (a .ensures .0) (a .ensures .1) (k .before .s .given .1)
 
 loop-holds : tie.Need-loop-holds Inv-loop μ-loop
 loop-holds c = fold-start _ _ _ _ (c .before .before .pre)
@@ -39,41 +31,51 @@ returns c =
         (other-step (c .before .advance .result) (c .match .keys2)), tt)
 
 is-file-requires : tie.Need-is-file-requires Inv-loop μ-loop
-is-file-requires c κs = turn c .whole
+is-file-requires c κs = turned (c .before .before .before .advance .ensures) (c .before .s .given .1) .whole
 
 has-name-requires : tie.Need-has-name-requires Inv-loop μ-loop
-has-name-requires c κs = turn (c .before .before) .whole
+has-name-requires c κs =
+    let c3 = c .before .before .before in
+    turned (c3 .before .before .advance .ensures) (c3 .s .given .1) .whole
 
 returns-2 : tie.Need-returns-2 Inv-loop μ-loop
 returns-2 c =
-    let c4 = c .before .before .before .before in
-    let c8 = c4 .before .before .before .before in
+    let c5 = c .before .before .before .before .before in
+    let c7 = c5 .before .before in
+    let c8 = c7 .before in
     let c11 = c8 .before .before .before in
-    let t = turn (c4) in
+    let t = turned (c7 .advance .ensures) (c5 .s .given .1) in
     (first-found (has-name (c11 .args .name .now)) is-file (c8 .loop .inv) t
         (flag (c .before .before .before .is-file .ensures) (c .before .before .if1 .taken)) (flag (c .before .has-name .ensures) (c .if2 .taken)),
         t .whole)
 
 loop-less : tie.Need-loop-less Inv-loop μ-loop
-loop-less c = turn (c .before .before .before .before) .onward .less
+loop-less c =
+    let c5 = c .before .before .before .before .before in
+    turned (c5 .before .before .advance .ensures) (c5 .s .given .1) .onward .less
 
 loop-again : tie.Need-loop-again Inv-loop μ-loop
 loop-again c =
-    let c4 = c .before .before .before .before in
-    let c8 = c4 .before .before .before .before in
+    let c5 = c .before .before .before .before .before in
+    let c7 = c5 .before .before in
+    let c8 = c7 .before in
     let c11 = c8 .before .before .before in
-    let t = turn (c4) in
+    let t = turned (c7 .advance .ensures) (c5 .s .given .1) in
     first-other (has-name (c11 .args .name .now)) is-file (c8 .loop .inv) t
         (flag (c .before .before .before .is-file .ensures) (c .before .before .if1 .taken)) (flag (c .before .has-name .ensures) (c .if2 .left))
 
 loop-less-2 : tie.Need-loop-less-2 Inv-loop μ-loop
-loop-less-2 c = turn (c .before .before) .onward .less
+loop-less-2 c =
+    let c3 = c .before .before .before in
+    turned (c3 .before .before .advance .ensures) (c3 .s .given .1) .onward .less
 
 loop-again-2 : tie.Need-loop-again-2 Inv-loop μ-loop
 loop-again-2 c =
-    let c6 = c .before .before .before .before .before .before in
+    let c3 = c .before .before .before in
+    let c5 = c3 .before .before in
+    let c6 = c5 .before in
     let c9 = c6 .before .before .before in
-    let t = turn (c .before .before) in
+    let t = turned (c5 .advance .ensures) (c3 .s .given .1) in
     first-skip (has-name (c9 .args .name .now)) is-file (c6 .loop .inv) t (flag (c .before .is-file .ensures) (c .if1 .left))
 
 pub file-named-spec : {M : Type 1} → statement M

@@ -1,3 +1,4 @@
+-- has_name: the bytes behind the header are the record's name.
 use mathlib.Core.Path.{ap, _∙_}
 use mathlib.Core.List.{List}
 use Prim.Native.Nat.{ℕ}

@@ -1,5 +1,6 @@
+-- has_named: what was passed has no such record, so the answer is about the rest; each turn drops one record of the rest.
 use Rattle.record.specs.Suffix.{flag}
-use Rattle.reading.specs.Fold.{Turned, turned, Folded, fold-start}
+use Rattle.reading.specs.Fold.{turned, Folded, fold-start}
 use Rattle.reading.specs.Seek.{any-of, any-over, any-found, any-onward}
 use Rattle.spec.specs.Files.{named-as, has-named}
 use Rattle.reading.specs.Rest.{entry-of}
@@ -13,15 +14,6 @@ Inv-loop image status e c₀ c = Folded (any-of (named-as (status .byte) (entry-
 
 abbrev μ-loop : tie.MeasureT-loop
 μ-loop image status e c₀ c = left c
-
--- the turn of the loop, once a record was found
-turn : (k : tie.After-known-told Inv-loop μ-loop)
-    → Turned (k .before .before .before .before .before .before .args .image .now) (k .before .before .before .before .loop .c)
-    (k .before .s .given .0 .0) (k .before .s .given .0 .1 .0)
-turn k =
-    let a = k .before .before .before .advance in
-    turned (k .before .before .before .before .before .before .args .image .now) (k .before .before .before .before .loop .c) (a .result)
-        (k .before .s .given .0 .0) (k .before .s .given .0 .1 .0) (a .ensures .0) (a .ensures .1) (k .before .s .given .1)
 
 loop-holds : tie.Need-loop-holds Inv-loop μ-loop
 loop-holds c = fold-start _ _ _ _ (c .before .pre .0)
@@ -41,26 +33,34 @@ returns c =
         (other-step (c .before .advance .result) (c .match .keys2))
 
 named-as-requires : tie.Need-named-as-requires Inv-loop μ-loop
-named-as-requires c κs = let t = turn c in (c .before .before .before .before .before .before .pre .1, t .whole)
+named-as-requires c κs =
+    let c3 = c .before .before .before in
+    (c3 .before .before .before .pre .1, turned (c3 .advance .ensures) (c .before .s .given .1) .whole)
 
 returns-2 : tie.Need-returns-2 Inv-loop μ-loop
 unfolding has-named
 returns-2 c =
-    let c6 = c .before .before .before .before .before .before in
+    let c3 = c .before .before .before in
+    let c5 = c3 .before .before in
+    let c6 = c5 .before in
     let a = c6 .before .before .args in
     let p = named-as (a .status .byte) (entry-of (a .image .now) (a .e)) in
-    let t = turn (c .before .before) in
+    let t = turned (c5 .advance .ensures) (c3 .s .given .1) in
     any-found p (c6 .loop .inv) t (flag (c .before .named-as .ensures) (c .if1 .taken))
 
 loop-less : tie.Need-loop-less Inv-loop μ-loop
-loop-less c = turn (c .before .before) .onward .less
+loop-less c =
+    let c3 = c .before .before .before in
+    turned (c3 .before .before .advance .ensures) (c3 .s .given .1) .onward .less
 
 loop-again : tie.Need-loop-again Inv-loop μ-loop
 loop-again c =
-    let c6 = c .before .before .before .before .before .before in
+    let c3 = c .before .before .before in
+    let c5 = c3 .before .before in
+    let c6 = c5 .before in
     let a = c6 .before .before .args in
     let p = named-as (a .status .byte) (entry-of (a .image .now) (a .e)) in
-    let t = turn (c .before .before) in
+    let t = turned (c5 .advance .ensures) (c3 .s .given .1) in
     any-onward p (c6 .loop .inv) t (flag (c .before .named-as .ensures) (c .if1 .left))
 
 pub has-named-spec : {M : Type 1} → statement M

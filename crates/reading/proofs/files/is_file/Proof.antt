@@ -1,3 +1,4 @@
+-- is_file: status FC or F8, asked one after the other.
 use Rattle.record.specs.Suffix.{flag}
 use Rattle.reading.specs.FileLaws.{is-file}
 use borrow.Author.Needs.{needs}

@@ -1,3 +1,5 @@
+-- is_live: by status; an F8 record is live if no FC record has its name.
+use mathlib.Core.Path.{sym}
 use Rattle.record.specs.Suffix.{flag}
 use Rattle.reading.specs.FileLaws.{live-fc, live-none, live-f8}
 use borrow.Author.Needs.{needs}
@@ -18,21 +20,14 @@ has-named-requires c κs = search needs
 
 returns-2 : tie.Need-returns-2
 returns-2 c =
-    let c4 = c .before .before .before .before in
-    let c5 = c4 .before in
-    live-f8 _ _ _ (flag (c5 .named .ensures) (c4 .if1 .left)) (flag (c .before .before .before .named2 .ensures) (c .before .before .if2 .taken))
-        (flag (c .before .has-named .ensures) (c .if3 .taken))
+    let c3 = c .before .before .before in
+    live-f8 _ _ _ (flag (c3 .before .named .ensures) (c3 .if1 .left)) (flag (c .before .before .named2 .ensures) (c .before .if2 .taken))
+        (sym (c .has-named .ensures))
 
 returns-3 : tie.Need-returns-3
 returns-3 c =
-    let c4 = c .before .before .before .before in
-    let c5 = c4 .before in
-    live-f8 _ _ _ (flag (c5 .named .ensures) (c4 .if1 .left)) (flag (c .before .before .before .named2 .ensures) (c .before .before .if2 .taken))
-        (flag (c .before .has-named .ensures) (c .if3 .left))
-
-returns-4 : tie.Need-returns-4
-returns-4 c =
-    live-none _ _ (flag (c .before .before .before .named .ensures) (c .before .before .if1 .left)) (flag (c .before .named2 .ensures) (c .if2 .left))
+    live-none _ _ (flag (c .before .before .before .named .ensures) (c .before .before .if1 .left))
+        (flag (c .before .named2 .ensures) (c .if2 .left))
 
 pub is-live-spec : {M : Type 1} → statement M
 is-live-spec =
@@ -43,5 +38,4 @@ is-live-spec =
     named-requires-2
     has-named-requires
     returns-2
-    returns-3
-    returns-4)
+    returns-3)

@@ -1,3 +1,4 @@
+-- is_superseded: only an F8 record is asked for an FC record of its name.
 use Rattle.record.specs.Suffix.{flag}
 use Rattle.spec.specs.Files.{named, has-named, superseded}
 use borrow.Author.Needs.{needs}

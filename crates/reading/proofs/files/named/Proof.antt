@@ -1,3 +1,4 @@
+-- named: the status byte, and a name that is not empty.
 use Rattle.reading.specs.FileLaws.{named-no, named-is}
 use borrow.Author.Needs.{needs}
 use Rattle.reading.proofs.files.named.Statement.{statement}

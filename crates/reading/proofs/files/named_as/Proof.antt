@@ -1,3 +1,4 @@
+-- named_as: a record that doesn't count is not compared.
 use Rattle.record.specs.Suffix.{flag}
 use borrow.Author.Needs.{needs}
 use Rattle.reading.proofs.files.named_as.Statement.{statement}

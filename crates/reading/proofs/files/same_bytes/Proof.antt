@@ -1,4 +1,4 @@
--- The invariant: the slices are the same if they are from here on.
+-- same_bytes: the slices are the same if they are from here on.
 use mathlib.Core.Path.{_≡_, refl, sym, _∙_}
 use Prim.Native.Nat.{_-_, _≤_}
 use lib.ListN.{length, drop}

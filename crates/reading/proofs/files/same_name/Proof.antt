@@ -1,3 +1,4 @@
+-- same_name: the bytes behind each header are its record's name.
 use mathlib.Core.Path.{ap₂, _∙_}
 use Rattle.spec.specs.Basics.{same}
 use Rattle.reading.specs.FileLaws.{name-part}

@@ -1,3 +1,4 @@
+-- blank_part: the part that is lent is the definition's; with b not past a there is none.
 use Rattle.reading.specs.FreeLaws.{part-blank, part-empty}
 use borrow.Author.Needs.{needs}
 use Rattle.reading.proofs.free.blank_part.Statement.{statement}

@@ -1,3 +1,4 @@
+-- free_ok: by whether the head is CLEAN.
 use borrow.Author.Needs.{needs}
 use Rattle.reading.proofs.free.free_ok.Statement.{statement}
 use Rattle.reading.proofs.free.free_ok.Tie as tie

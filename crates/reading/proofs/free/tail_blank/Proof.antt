@@ -1,3 +1,4 @@
+-- tail_blank: up to the end of the tail's sector or up to the limit, whichever comes first.
 use mathlib.Core.Path.{refl, ap, _∙_}
 use Rattle.reading.specs.FreeLaws.{tail-sector, tail-limit, limit-inside}
 use Prim.Native.Nat.{ℕ, _+_}

@@ -1,3 +1,4 @@
+-- byte: past the end a list reads as 0 too.
 use lib.ListN.{List·getD-eq-default}
 use lib.Seq.{getD-drop}
 use borrow.Author.Needs.{needs}

@@ -1,3 +1,4 @@
+-- chosen: by the magic at a and the CLEAN at 0; a magic that is there lies inside.
 use Rattle.record.specs.Suffix.{flag}
 use Rattle.spec.specs.Bytes.{is-start, is-clean, is-high}
 use Rattle.spec.specs.Head.{chosen}

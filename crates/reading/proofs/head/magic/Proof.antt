@@ -1,3 +1,4 @@
+-- magic: the two bytes one after the other.
 use borrow.Author.Tests.{eq-eqb, ne-eqb}
 use Rattle.record.specs.Suffix.{flag, unflag}
 use borrow.Author.Needs.{needs}

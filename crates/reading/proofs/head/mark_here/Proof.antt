@@ -1,3 +1,4 @@
+-- mark_here: START or CLEAN, asked one after the other.
 use borrow.Author.Tests.{eq-eqb, ne-eqb}
 use Rattle.record.specs.Suffix.{flag}
 use Rattle.spec.specs.Bytes.{is-start, is-clean, is-high}

@@ -1,4 +1,4 @@
--- The invariant: the search from here, with some fuel, finds what the search from the start does.
+-- search: the search from here, with some fuel, finds what the search from the start does.
 use Prim.Native.Nat.{_+_, _-_}
 use lib.ListN.{length}
 use Rattle.record.specs.Suffix.{flag}

@@ -1,3 +1,4 @@
+-- torn_here: byte against byte, as the code asks.
 use borrow.Author.Tests.{eq-eqb, ne-eqb}
 use Rattle.record.specs.Suffix.{flag, unflag}
 use Rattle.spec.specs.Bytes.{is-record, is-high-begun, is-erased}

@@ -1,4 +1,4 @@
--- The invariant: the walk from here, with some fuel, ends where the walk from 0 does.
+-- walk: the walk from here, with some fuel, ends where the walk from 0 does.
 use Prim.Native.Nat.{_-_}
 use lib.ListN.{length}
 use Rattle.record.specs.Suffix.{flag}

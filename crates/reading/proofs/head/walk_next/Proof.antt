@@ -1,3 +1,4 @@
+-- walk_next: the part from here to the image's end is the definition's.
 use mathlib.Core.Path.{subst}
 use Rattle.record.specs.Suffix.{flag}
 use Prim.Native.Nat.{ℕ}

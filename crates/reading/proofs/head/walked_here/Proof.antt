@@ -1,3 +1,4 @@
+-- walked_here: byte against byte, as the code asks; CLEAN counts at 0 only.
 use borrow.Author.Tests.{eq-eqb, ne-eqb}
 use Rattle.record.specs.Suffix.{flag, unflag}
 use Rattle.spec.specs.Bytes.{is-record, is-clean, is-high, is-erased}

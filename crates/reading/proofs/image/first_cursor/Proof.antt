@@ -1,3 +1,4 @@
+-- first_cursor: the callees' results, put together.
 use borrow.Author.Needs.{needs}
 use Rattle.reading.proofs.image.first_cursor.Statement.{statement}
 use Rattle.reading.proofs.image.first_cursor.Tie as tie

@@ -1,3 +1,4 @@
+-- read: the head's refusal, or the reading from the head on.
 use mathlib.Core.Path.{sym, ap, _∙_}
 use Rattle.reading.specs.RuleLaws.{reading-by, reading-refused}
 use Rattle.reading.specs.HeadLaws.{headed}

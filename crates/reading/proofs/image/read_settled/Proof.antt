@@ -1,3 +1,4 @@
+-- read_settled: a refusal stays; what was read is settled or refused, and a settled reading has nothing superseded.
 use mathlib.Core.Path.{sym, ap, _∙_}
 use mathlib.Core.Bool.{true, false}
 use Rattle.record.specs.Suffix.{flag}

@@ -1,4 +1,4 @@
--- What the pass found, as a survey.
+-- survey: the pass found the definitions' entries and how the chain ends, and nothing is judged.
 use Rattle.reading.specs.Survey.{first-sound, seen}
 use borrow.Author.Needs.{needs}
 use Rattle.reading.proofs.image.survey.Statement.{statement}

@@ -1,4 +1,4 @@
--- By how the chain ends.
+-- survey_of: by how the chain ends.
 use mathlib.Core.Path.{sym, ap, _∙_}
 use Rattle.reading.specs.Survey.{survey-of}
 use borrow.Author.Needs.{needs}

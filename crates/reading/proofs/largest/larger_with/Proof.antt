@@ -1,3 +1,4 @@
+-- larger_with: a record that is no file, or is replaced, changes nothing; another counts by its size.
 use Rattle.record.specs.Suffix.{flag}
 use Rattle.reading.specs.Largest.{larger-no-file, larger-replaced, larger-by}
 use native.Mathlib.Omega.{arith}

@@ -1,3 +1,4 @@
+-- largest_other: the largest of all is that of the rest, begun with the largest so far.
 use Rattle.reading.specs.Fold.{turned, Folded, fold-start}
 use Rattle.reading.specs.Largest.{largest-of, largest-over, largest-onward}
 use Rattle.reading.proofs.Others.{other-step}
@@ -28,18 +29,14 @@ returns c =
 larger-with-requires : tie.Need-larger-with-requires Inv-loop μ-loop
 larger-with-requires c κs =
     let c3 = c .before .before .before in
-    let t = turned _ _ (c3 .advance .result) (c .before .s .given .0 .0) (c .before .s .given .0 .1 .0) (c3 .advance .ensures .0)
-        (c3 .advance .ensures .1) (c .before .s .given .1) in
-    
+    let t = turned (c3 .advance .ensures) (c .before .s .given .1) in
     (t .whole, t .onward .name, t .onward .data-len)
 
 loop-less : tie.Need-loop-less Inv-loop μ-loop
 loop-less c =
     let c2 = c .before .before in
     let c4 = c2 .before .before in
-    let t = turned _ _ (c4 .advance .result) (c2 .s .given .0 .0) (c2 .s .given .0 .1 .0) (c4 .advance .ensures .0) (c4 .advance .ensures .1)
-        (c2 .s .given .1) in
-    
+    let t = turned (c4 .advance .ensures) (c2 .s .given .1) in
     t .onward .less
 
 loop-again : tie.Need-loop-again Inv-loop μ-loop
@@ -47,9 +44,7 @@ loop-again c =
     let c2 = c .before .before in
     let c4 = c2 .before .before in
     let c5 = c4 .before in
-    let t = turned _ _ (c4 .advance .result) (c2 .s .given .0 .0) (c2 .s .given .0 .1 .0) (c4 .advance .ensures .0) (c4 .advance .ensures .1)
-        (c2 .s .given .1) in
-    
+    let t = turned (c4 .advance .ensures) (c2 .s .given .1) in
     largest-onward _ (c5 .loop .inv) t _ (c .larger-with .ensures)
 
 pub largest-other-spec : {M : Type 1} → statement M

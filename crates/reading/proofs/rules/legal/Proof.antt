@@ -36,8 +36,9 @@ returns c =
     let start = c7 .before .before .before .before .before in
     let p = start .pre in
     let a = start .args in
-    legal-free (a .image .now) (reading-of (a .image .now) (a .s)) (flag (c7 .before .whole .ensures) (c7 .if1 .taken)) (c .before .head-clean .result) _
-        (flag (fine-is (p .0 .tallied)) (c6 .if2 .taken)) (flag (rw (p .1) at (c4 .before .single .ensures)) (c4 .if3 .taken))
+    legal-free (a .image .now) (reading-of (a .image .now) (a .s)) (flag (c7 .before .whole .ensures) (c7 .if1 .taken))
+        (c .before .head-clean .result) _ (flag (fine-is (p .0 .tallied)) (c6 .if2 .taken))
+        (flag (rw (p .1) at (c4 .before .single .ensures)) (c4 .if3 .taken))
         (flag (rw (p .1) at (c2 .before .marks-ok .ensures)) (c2 .if4 .taken)) (rw (p .1) at (c .before .head-clean .ensures)) (c .free-ok .ensures)
 
 returns-2 : tie.Need-returns-2

@@ -1,3 +1,4 @@
+-- marks_ok: the tally tells of all records but the first two, and these are compared.
 use mathlib.Core.Path.{_∙_}
 use Rattle.reading.specs.RuleLaws.{marks-none, marks-further, marks-second}
 use Rattle.reading.proofs.rules.marks_ok.Statement.{statement}

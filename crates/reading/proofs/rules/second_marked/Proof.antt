@@ -1,3 +1,4 @@
+-- second_marked: the tally names the second record, where there is one.
 use mathlib.Core.Path.{_∙_}
 use Rattle.reading.specs.RuleLaws.{second-none, second-low}
 use Rattle.reading.proofs.rules.second_marked.Statement.{statement}

@@ -30,7 +30,8 @@ returns-2 c =
     let c4 = c .before .before .before .before in
     let c5 = c4 .before in
     second-clean _ _ _ (flag (c5 .marked .ensures) (c4 .if1 .taken))
-        (flag (c .before .before .before .is-live .ensures) (c .before .before .if2 .left)) (rw (← c .before .low-of .ensures) (eq-eqb _ _ (c .if3 .taken)))
+        (flag (c .before .before .before .is-live .ensures) (c .before .before .if2 .left))
+        (rw (← c .before .low-of .ensures) (eq-eqb _ _ (c .if3 .taken)))
 
 floor-requires : tie.Need-floor-requires
 floor-requires c κs = search needs

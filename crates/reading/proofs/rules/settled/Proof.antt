@@ -1,4 +1,5 @@
-use mathlib.Core.Bool.{true, false}
+-- settled: a repair has a step exactly if its test says so, and the tests come in the repairs' order.
+use mathlib.Core.Path.{sym}
 use Rattle.record.specs.Suffix.{flag}
 use Rattle.reading.specs.RuleLaws.{open-is, unsettled-1, unsettled-2, unsettled-3, unsettled-wrap, settled-but}
 use Rattle.reading.specs.Read.{reading-of}
@@ -58,31 +59,16 @@ any-superseded-requires c κs =
 
 returns-5 : tie.Need-returns-5
 returns-5 c =
-    let c4 = c .before .before .before .before in
+    let c3 = c .before .before .before in
+    let c4 = c3 .before in
     let c5 = c4 .before in
     let c6 = c5 .before in
     let c7 = c6 .before in
-    let c8 = c7 .before in
-    let p = c8 .before .before .before .pre in
-    let a = c8 .before .before .before .args in
-    settled-but (a .image .now) (reading-of (a .image .now) (a .s)) (flag (rw (p .1) at (c8 .head-clean .ensures)) (c7 .if1 .left))
-        (flag (rw (p .1) at (c6 .second-marked .ensures)) (c5 .if2 .left)) (flag (open-is (p .0 .tallied)) (c4 .if3 .left)) true
-        (flag (c .before .before .before .wrap-torn .ensures) (c .before .before .if4 .left))
-    (flag (rw (p .1) at (c .before .any-superseded .ensures)) (c .if5 .taken))
-
-returns-6 : tie.Need-returns-6
-returns-6 c =
-    let c4 = c .before .before .before .before in
-    let c5 = c4 .before in
-    let c6 = c5 .before in
-    let c7 = c6 .before in
-    let c8 = c7 .before in
-    let p = c8 .before .before .before .pre in
-    let a = c8 .before .before .before .args in
-    settled-but (a .image .now) (reading-of (a .image .now) (a .s)) (flag (rw (p .1) at (c8 .head-clean .ensures)) (c7 .if1 .left))
-        (flag (rw (p .1) at (c6 .second-marked .ensures)) (c5 .if2 .left)) (flag (open-is (p .0 .tallied)) (c4 .if3 .left)) false
-        (flag (c .before .before .before .wrap-torn .ensures) (c .before .before .if4 .left))
-    (flag (rw (p .1) at (c .before .any-superseded .ensures)) (c .if5 .left))
+    let p = c7 .before .before .before .pre in
+    let a = c7 .before .before .before .args in
+    settled-but (a .image .now) (reading-of (a .image .now) (a .s)) (flag (rw (p .1) at (c7 .head-clean .ensures)) (c6 .if1 .left))
+        (flag (rw (p .1) at (c5 .second-marked .ensures)) (c4 .if2 .left)) (flag (open-is (p .0 .tallied)) (c3 .if3 .left)) _
+        (flag (c .before .before .wrap-torn .ensures) (c .before .if4 .left)) (sym (rw (p .1) at (c .any-superseded .ensures)))
 
 pub settled-spec : {M : Type 1} → statement M
 settled-spec =
@@ -96,5 +82,4 @@ settled-spec =
     wrap-torn-requires
     returns-4
     any-superseded-requires
-    returns-5
-    returns-6)
+    returns-5)

@@ -1,3 +1,4 @@
+-- single: FC, then F8.
 use Rattle.record.specs.Suffix.{flag}
 use Rattle.spec.specs.Reading.{single}
 use borrow.Author.Needs.{needs}
@@ -16,14 +17,7 @@ doubled-requires-2 c κs = search needs
 
 returns-2 : tie.Need-returns-2
 unfolding single
-returns-2 c =
-    rw (single, flag (c .before .before .before .doubled .ensures) (c .before .before .if1 .left), flag (c .before .doubled2 .ensures)
-        (c .if2 .taken))
-
-returns-3 : tie.Need-returns-3
-unfolding single
-returns-3 c =
-    rw (single, flag (c .before .before .before .doubled .ensures) (c .before .before .if1 .left), flag (c .before .doubled2 .ensures) (c .if2 .left))
+returns-2 c = rw (single, flag (c .before .before .doubled .ensures) (c .before .if1 .left), c .doubled2 .ensures)
 
 pub single-spec : {M : Type 1} → statement M
-single-spec = tie.close (tie.spec doubled-requires returns doubled-requires-2 returns-2 returns-3)
+single-spec = tie.close (tie.spec doubled-requires returns doubled-requires-2 returns-2)

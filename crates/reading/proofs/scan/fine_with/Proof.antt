@@ -1,3 +1,4 @@
+-- fine_with: once a name was bad the others don't matter.
 use borrow.Author.Needs.{needs}
 use Rattle.reading.proofs.scan.fine_with.Statement.{statement}
 use Rattle.reading.proofs.scan.fine_with.Tie as tie

@@ -1,3 +1,4 @@
+-- further_with: only a record behind the second one can count.
 use borrow.Author.Tests.{lt-ltb, le-ltb}
 use borrow.Author.Needs.{needs}
 use Rattle.reading.proofs.scan.further_with.Statement.{statement}

@@ -1,4 +1,4 @@
--- The first byte of the record.
+-- low_of: the byte at the record's address.
 use mathlib.Core.Path.{sym, ap, _∙_}
 use native.Mathlib.Nat.{add-zero}
 use lib.ListN.{getD}

@@ -1,3 +1,4 @@
+-- name_fine: only a file's name is checked, and it stands behind the header.
 use Rattle.record.specs.Suffix.{flag}
 use mathlib.Core.Path.{ap, _∙_}
 use Rattle.spec.specs.Record.{name-ok}

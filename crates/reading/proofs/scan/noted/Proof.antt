@@ -1,3 +1,4 @@
+-- noted: each field of the new tally is the definition's.
 use Rattle.reading.specs.Tally.{noted-is}
 use native.Mathlib.Omega.{arith}
 use borrow.Author.Needs.{needs}

@@ -1,5 +1,6 @@
+-- pass: the tally so far, gone on with over the rest, is the tally of all; the records are fewer than the bytes, so the count can't wrap.
 use Rattle.reading.specs.Cursor.{left}
-use Rattle.reading.specs.Fold.{Turned, turned, fold-end}
+use Rattle.reading.specs.Fold.{turned, fold-end}
 use Rattle.reading.specs.Tally.{none-yet, passed, Passing, passing-start, passing-step, end-inside}
 use Rattle.reading.proofs.Others.{other-step}
 use borrow.Author.Needs.{needs}
@@ -15,15 +16,6 @@ abbrev μ-loop : tie.MeasureT-loop
 
 none-yet-requires : tie.Need-none-yet-requires Inv-loop μ-loop
 none-yet-requires c κs = search needs
-
--- the turn of the loop, once a record was found
-turn : (k : tie.After-known-told Inv-loop μ-loop)
-    → Turned (k .before .before .before .before .before .before .before .args .image .now) (k .before .before .before .before .loop .c)
-    (k .before .s .given .0 .0) (k .before .s .given .0 .1 .0)
-turn k =
-    let a = k .before .before .before .advance in
-    turned (k .before .before .before .before .before .before .before .args .image .now) (k .before .before .before .before .loop .c) (a .result)
-        (k .before .s .given .0 .0) (k .before .s .given .0 .1 .0) (a .ensures .0) (a .ensures .1) (k .before .s .given .1)
 
 loop-holds : tie.Need-loop-holds Inv-loop μ-loop
 loop-holds c = rw (c .none-yet .ensures) (passing-start (c .before .before .pre .0) (c .before .before .pre .1))
@@ -45,14 +37,17 @@ returns c =
 noted-requires : tie.Need-noted-requires Inv-loop μ-loop
 noted-requires c κs =
     let p = c .before .before .before .before .before .before .before .pre in
-    let t = turn c in
+    let t = turned (c .before .before .before .advance .ensures) (c .before .s .given .1) in
     (t .whole, omega (arith, c .before .before .before .before .loop .inv .few, p .0 .inside, p .0 .room, p .0 .small), t .onward .held)
 
 loop-less : tie.Need-loop-less Inv-loop μ-loop
-loop-less c = turn (c .before) .onward .less
+loop-less c = turned (c .before .before .before .before .advance .ensures) (c .before .before .s .given .1) .onward .less
 
 loop-again : tie.Need-loop-again Inv-loop μ-loop
-loop-again c = let t = turn (c .before) in passing-step (c .before .before .before .before .before .loop .inv) t (c .noted .ensures)
+loop-again c =
+    let c2 = c .before .before in
+    let c4 = c2 .before .before in
+    passing-step (c4 .before .loop .inv) (turned (c4 .advance .ensures) (c2 .s .given .1)) (c .noted .ensures)
 
 pub pass-spec : {M : Type 1} → statement M
 pass-spec =

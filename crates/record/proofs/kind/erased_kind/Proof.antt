@@ -1,3 +1,4 @@
+-- erased_kind: byte against byte, as the code asks.
 use borrow.Author.Tests.{eq-eqb, ne-eqb}
 use Rattle.spec.specs.Bytes.{is-record, is-wrap, is-high-begun}
 use Rattle.record.specs.Suffix.{flag}

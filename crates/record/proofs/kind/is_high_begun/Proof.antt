@@ -1,3 +1,4 @@
+-- is_high_begun: byte against byte.
 use borrow.Author.Tests.{eq-eqb, ne-eqb}
 use Rattle.spec.specs.Bytes.{is-high-begun}
 use Rattle.record.proofs.kind.is_high_begun.Statement.{statement}

@@ -1,3 +1,4 @@
+-- is_low: byte against byte.
 use borrow.Author.Tests.{eq-eqb, ne-eqb}
 use Rattle.spec.specs.Bytes.{is-record, is-start, is-clean}
 use Rattle.record.proofs.kind.is_low.Statement.{statement}

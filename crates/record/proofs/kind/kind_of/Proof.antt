@@ -1,3 +1,4 @@
+-- kind_of: by the fourth byte and the status; the callees tell the rest.
 use borrow.Author.Tests.{eq-eqb, ne-eqb}
 use Rattle.spec.specs.Bytes.{is-erased, is-spare}
 use Rattle.spec.specs.Next.{kind}

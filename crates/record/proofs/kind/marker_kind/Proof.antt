@@ -1,3 +1,4 @@
+-- marker_kind: byte against byte.
 use borrow.Author.Tests.{eq-eqb, ne-eqb}
 use Rattle.spec.specs.Bytes.{is-wrapped}
 use Rattle.record.proofs.kind.marker_kind.Statement.{statement}

@@ -1,3 +1,4 @@
+-- record_kind: byte against byte.
 use borrow.Author.Tests.{eq-eqb, ne-eqb}
 use Rattle.spec.specs.Bytes.{is-reserved, is-committed, is-migrating, is-dead}
 use Rattle.record.proofs.kind.record_kind.Statement.{statement}

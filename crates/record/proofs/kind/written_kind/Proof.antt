@@ -1,3 +1,4 @@
+-- written_kind: byte against byte; the callees tell the status.
 use borrow.Author.Tests.{eq-eqb, ne-eqb}
 use Rattle.spec.specs.Bytes.{is-wrap, is-high}
 use Rattle.record.specs.Suffix.{flag}

@@ -1,4 +1,4 @@
--- The invariant: all bytes pass if all from here on do.
+-- all_printable: all bytes pass if all from here on do.
 use Prim.Native.Nat.{_-_, _≤_}
 use mathlib.Core.Path.{_≡_, refl, sym, _∙_}
 use lib.ListN.{length, drop}

@@ -1,3 +1,4 @@
+-- ends: byte against byte.
 use borrow.Author.Tests.{eq-eqb, ne-eqb}
 use Rattle.spec.specs.Bytes.{ends-name}
 use Rattle.record.proofs.name.ends.Statement.{statement}

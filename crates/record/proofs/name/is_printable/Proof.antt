@@ -1,3 +1,4 @@
+-- is_printable: the two bounds.
 use borrow.Author.Tests.{le-leb, lt-leb}
 use Rattle.spec.specs.Bytes.{is-printable}
 use Rattle.record.proofs.name.is_printable.Statement.{statement}

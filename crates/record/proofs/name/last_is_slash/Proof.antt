@@ -1,3 +1,4 @@
+-- last_is_slash: the definition goes to the last byte, which the code reads at once.
 use Rattle.record.specs.NameLaws.{slash-last}
 use borrow.Author.Needs.{needs}
 use Rattle.record.proofs.name.last_is_slash.Statement.{statement}

@@ -1,4 +1,4 @@
--- The invariant: the name has the bytes passed and those up to its end from here on.
+-- name_len: the name has the bytes passed and those up to its end from here on.
 use Prim.Native.Nat.{_+_, _-_, _≤_}
 use mathlib.Core.Path.{_≡_}
 use lib.ListN.{drop}

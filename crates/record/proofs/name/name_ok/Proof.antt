@@ -1,5 +1,6 @@
+-- name_ok: the rules one after the other.
 use Rattle.record.specs.Suffix.{flag}
-use Rattle.record.specs.NameLaws.{ok-empty, ok-long, ok-byte, ok-slash, ok-good}
+use Rattle.record.specs.NameLaws.{ok-empty, ok-long, ok-byte, ok-slash}
 use native.Mathlib.Omega.{arith}
 use borrow.Author.Needs.{needs}
 use Rattle.record.proofs.name.name_ok.Statement.{statement}
@@ -19,20 +20,11 @@ last-is-slash-requires c κs = search needs
 
 returns-3 : tie.Need-returns-3
 returns-3 c =
-    let c7 = c .before .before .before .before .before .before .before in
-    ok-slash (c7 .args .name .now) (omega arith) (omega arith)
-        (flag (c .before .before .before .all-printable .ensures) (c .before .before .if3 .taken))
-        (flag (c .before .last-is-slash .ensures) (c .if4 .taken))
+    ok-slash (c .before .before .before .before .before .before .args .name .now) (omega arith) (omega arith)
+        (flag (c .before .before .all-printable .ensures) (c .before .if3 .taken)) (c .last-is-slash .result) (c .last-is-slash .ensures)
 
 returns-4 : tie.Need-returns-4
 returns-4 c =
-    let c7 = c .before .before .before .before .before .before .before in
-    ok-good (c7 .args .name .now) (omega arith) (omega arith)
-        (flag (c .before .before .before .all-printable .ensures) (c .before .before .if3 .taken))
-        (flag (c .before .last-is-slash .ensures) (c .if4 .left))
-
-returns-5 : tie.Need-returns-5
-returns-5 c =
     ok-byte (c .before .before .before .before .before .args .name .now) (omega arith) (omega arith)
         (flag (c .before .all-printable .ensures) (c .if3 .left))
 
@@ -45,5 +37,4 @@ name-ok-spec =
     all-printable-requires
     last-is-slash-requires
     returns-3
-    returns-4
-    returns-5)
+    returns-4)

@@ -6,8 +6,8 @@ use borrow.Author.Needs.{needs}
 use Rattle.recovery.proofs.close.vacate.Statement.{statement}
 use Rattle.recovery.proofs.close.vacate.Tie as tie
 
-mul-from : tie.Need-mul-from
-mul-from c = search needs
+floor-requires : tie.Need-floor-requires
+floor-requires c κs = search needs
 
 vacated-end-requires : tie.Need-vacated-end-requires
 vacated-end-requires c κs = search needs
@@ -28,8 +28,8 @@ returns : tie.Need-returns
 returns c =
     let c7 = c .before .before .before .before .before .before .before in
     let c9 = c7 .before .before in
-    let a = c9 .before .before .args in
-    (left-erased (a .x) (a .y) (length (a .image .now)) (c9 .vacated-end .result) (c9 .vacated-end .ensures .0) (c7 .erase-sectors .ensures .0)
+    let a = c9 .before .before .before .args in
+    (left-erased (a .x) (a .y) (length (a .image .now)) (c9 .before .floor .ensures .0) (c9 .vacated-end .ensures .0) (c7 .erase-sectors .ensures .0)
         (c .before .before .before .program .ensures) (c .if1 .taken), omega arith)
 
 add-program : tie.Need-add-program
@@ -47,15 +47,15 @@ returns-2 c =
     let c7 = c4 .before .before .before in
     let c11 = c7 .before .before .before .before in
     let c13 = c11 .before .before in
-    let a = c13 .before .before .args in
-    (left-there (a .x) (a .y) (length (a .image .now)) (c13 .vacated-end .result) (c13 .vacated-end .ensures .0) (c11 .erase-sectors .ensures .0)
-        (c7 .program .ensures) (c4 .if1 .left) (c .before .before .program2 .ensures), omega arith)
+    let a = c13 .before .before .before .args in
+    (left-there (a .x) (a .y) (length (a .image .now)) (c13 .before .floor .ensures .0) (c13 .vacated-end .ensures .0)
+        (c11 .erase-sectors .ensures .0) (c7 .program .ensures) (c4 .if1 .left) (c .before .before .program2 .ensures), omega arith)
 
 pub vacate-spec : {M : Type 1} → statement M
 vacate-spec =
     tie.close
     (tie.spec
-    mul-from
+    floor-requires
     vacated-end-requires
     erase-sectors-requires
     program-requires

@@ -54,8 +54,7 @@ drop-one-requires c κs =
     let c6 = c4 .before .before in
     let c7 = c6 .before in
     let c10 = c7 .before .before .before in
-    let t = (turned (c6 .loop .image) (c6 .loop .c) (c4 .advance .result) (c2 .s .given .0 .0) (c2 .s .given .0 .1 .0) (c4 .advance .ensures .0)
-        (c4 .advance .ensures .1) (c2 .s .given .1)) in
+    let t = turned (c4 .advance .ensures) (c2 .s .given .1) in
     let a = c10 .args in
     (sound-same (a .image .now) (c6 .loop .image) (c7 .first-cursor .result)
         (rw (c7 .first-cursor .ensures) (first-sound (a .image .now) (a .h) (omega (arith, c10 .pre .0)) (c10 .pre .1))) (c6 .loop .inv .0), t .whole,
@@ -66,8 +65,7 @@ loop-less c =
     let c5 = c .before .before .before .before .before in
     let c7 = c5 .before .before in
     let c9 = c7 .before .before in
-    let t = (turned (c9 .loop .image) (c9 .loop .c) (c7 .advance .result) (c5 .s .given .0 .0) (c5 .s .given .0 .1 .0) (c7 .advance .ensures .0)
-        (c7 .advance .ensures .1) (c5 .s .given .1)) in
+    let t = turned (c7 .advance .ensures) (c5 .s .given .1) in
     t .onward .less
 
 loop-again : tie.Need-loop-again Inv-loop μ-loop
@@ -78,8 +76,7 @@ loop-again c =
     let c9 = c7 .before .before in
     let c10 = c9 .before in
     let c13 = c10 .before .before .before in
-    let t = (turned (c9 .loop .image) (c9 .loop .c) (c7 .advance .result) (c5 .s .given .0 .0) (c5 .s .given .0 .1 .0) (c7 .advance .ensures .0)
-        (c7 .advance .ensures .1) (c5 .s .given .1)) in
+    let t = turned (c7 .advance .ensures) (c5 .s .given .1) in
     let a = c13 .args in
     (omega (arith, c9 .loop .inv .0), sound-same (c9 .loop .image) (c2 .drop-one .last .0) (c5 .s .given .0 .1 .0) (t .onward .sound) (omega arith),
         omega (arith, c9 .loop .inv .2, t .onward .less, c2 .drop-one .ensures .1), dropping-more (c9 .loop .inv .3) (c5 .s .given .0 .0)

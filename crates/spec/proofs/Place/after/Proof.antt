@@ -30,8 +30,8 @@ returns-2 c =
     let a = c .before .before .before .args in
     sym (placed-turned (a .self) (a .size) (c .if2 .taken) (sym (c .before .before .fits-at-tail .ensures) ∙ c .before .if1 .left))
 
-mul-if3 : tie.Need-mul-if3
-mul-if3 c = search needs
+floor-requires : tie.Need-floor-requires
+floor-requires c κs = search needs
 
 moved-requires-2 : tie.Need-moved-requires-2
 moved-requires-2 c κs = search needs
@@ -61,7 +61,7 @@ after-spec =
     moved-requires
     returns
     returns-2
-    mul-if3
+    floor-requires
     moved-requires-2
     returns-3
     returns-4)
