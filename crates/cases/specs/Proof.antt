@@ -33,25 +33,56 @@ unfolding table Basics.long Basics.blank Basics.same Step.sector Geometry.good-l
     Place.with-marker Place.place-after Place.fits-all Place.largest-with Write.put-steps Write.format-steps Move.after Move.copy-steps
     Move.clean-steps Move.vacated-end Move.close-steps Move.hand-over Move.move Mount.free-sectors Mount.erase-steps Mount.repair-1 Mount.repair-2
     Mount.void-steps Mount.last-steps Mount.repair-3 Mount.drop-steps Mount.repair-4 Mount.mended Mount.settled Sweep.no-room Sweep.at-end
-        Sweep.stuck
+    Sweep.stuck
     Sweep.moves Answers.numbers-of Answers.carry-out Answers.if-settled Answers.settled-reading Answers.format-plan Answers.mount-plan
     Answers.put-into Answers.put-plan Answers.file-plan Answers.remove-plan Answers.get-plan Answers.list-plan Answers.sweep-of Answers.sweep-plan
     History.commit-place History.put-done History.fed
-cases-hold =
-    (record { answers = refl; leaves = refl },
-    (record { answers = refl; leaves = refl },
-    (record { answers = refl; leaves = refl },
-    (record { answers = refl; leaves = refl },
-    (record { answers = refl; leaves = refl },
-    (record { answers = refl; leaves = refl },
-    (record { answers = refl; leaves = refl },
-    (record { answers = refl; leaves = refl },
-    (record { answers = refl; leaves = refl },
-    (record { answers = refl; leaves = refl },
-    (record { answers = refl; leaves = refl },
-    (record { answers = refl; leaves = refl },
-    (record { answers = refl; leaves = refl },
-    (record { answers = refl; leaves = refl },
-    (record { answers = refl; leaves = refl },
-    (record { answers = refl; leaves = refl },
-    tt))))))))))))))))
+cases-hold = (
+  record { answers = refl; leaves = refl },
+  (
+    record { answers = refl; leaves = refl },
+    (
+      record { answers = refl; leaves = refl },
+      (
+        record { answers = refl; leaves = refl },
+        (
+          record { answers = refl; leaves = refl },
+          (
+            record { answers = refl; leaves = refl },
+            (
+              record { answers = refl; leaves = refl },
+              (
+                record { answers = refl; leaves = refl },
+                (
+                  record { answers = refl; leaves = refl },
+                  (
+                    record { answers = refl; leaves = refl },
+                    (
+                      record { answers = refl; leaves = refl },
+                      (
+                        record { answers = refl; leaves = refl },
+                        (
+                          record { answers = refl; leaves = refl },
+                          (
+                            record { answers = refl; leaves = refl },
+                            (
+                              record { answers = refl; leaves = refl },
+                              (
+                                record { answers = refl; leaves = refl },
+                                tt,
+                              ),
+                            ),
+                          ),
+                        ),
+                      ),
+                    ),
+                  ),
+                ),
+              ),
+            ),
+          ),
+        ),
+      ),
+    ),
+  ),
+)

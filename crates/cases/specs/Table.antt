@@ -38,11 +38,11 @@ table =
     ∷ row (filled 8193 255) [] mount (gives 22 0 0 0 0)
     -- "After format: h 0, T 16, 0 files", and the bytes at 0 that "Placing and writing" gives
     ∷ row-bytes formatted [] mount (gives 0 0 16 0 0) 0
-        (0x00 ∷ 0x5A ∷ 0x00 ∷ 0xFF ∷ 0 ∷ 0 ∷ 0 ∷ 0 ∷ 0 ∷ 0xFF ∷ 0xFF ∷ 0xFF ∷ 0xFF ∷ 0xFF ∷ 0xFF ∷ 0xFF ∷ 0xFF ∷ [])
+    (0x00 ∷ 0x5A ∷ 0x00 ∷ 0xFF ∷ 0 ∷ 0 ∷ 0 ∷ 0 ∷ 0 ∷ 0xFF ∷ 0xFF ∷ 0xFF ∷ 0xFF ∷ 0xFF ∷ 0xFF ∷ 0xFF ∷ 0xFF ∷ [])
     -- "Put "dose", 01 02 03: 16 steps, T 40. At 16: .."
     ∷ row-bytes formatted [] (uncut put-old) (gives 0 0 0 0 16) 16
     (0xA5 ∷ 0x5A ∷ 0xFC ∷ 0xFF ∷ 3 ∷ 0 ∷ 0 ∷ 0 ∷ 0x64 ∷ 0x6F ∷ 0x73 ∷ 0x65 ∷ 0 ∷ 0xFF ∷ 0xFF ∷ 0xFF ∷ 1 ∷ 2 ∷ 3 ∷ 0xFF ∷ 0xFF ∷ 0xFF ∷ 0xFF ∷ 0xFF ∷
-        [])
+    [])
     ∷ row formatted (uncut put-old ∷ []) mount (gives 0 0 40 1 0)
     -- "Cut after 1 step: mount takes 7, T 32. After 7: mount 2, T 40. After 12: mount 1, T 40"
     ∷ row formatted (with-allowance put-old 1 ∷ []) mount (gives 0 0 32 0 7)

@@ -81,7 +81,7 @@ unfolding clean-steps
 clean-done zero a p s q e l = record { now = s; is = refl; same-length = refl; markless = tt }
 clean-done (suc k) a p s q e l =
     go (mark-here s) (ltb (length s) 8) refl refl
-        (λ w i. clean-done k (a + 8) (p ++ w) (drop 8 s) q (length-append p w ∙ omega arith) (omega (arith, length-drop 8 s)))
+    (λ w i. clean-done k (a + 8) (p ++ w) (drop 8 s) q (length-append p w ∙ omega arith) (omega (arith, length-drop 8 s)))
   where
     none-left : (i : length s < 8) → (n : ℕ) → clean-steps n (a + 8) (drop 8 s) ≡ []
     none-left i n = ap (clean-steps n (a + 8)) (drop-of-length-le s {i = 8} (omega arith)) ∙ clean-nil n (a + 8)
@@ -95,7 +95,7 @@ clean-done (suc k) a p s q e l =
     go true true x y f =
         let i : length s < 8 = ltb-true (length s) 8 y in
         subst (λ (ss : List Step). Clean-now (suc k) p s q (run (p ++ (s ++ q)) ss))
-            (sym (clean-hit k a s x ∙ ap (λ (m : List Step). program (a + 1) 0 ∷ m) (none-left i k)))
+        (sym (clean-hit k a s x ∙ ap (λ (m : List Step). program (a + 1) 0 ∷ m) (none-left i k)))
         (record {
           now = set s 1 0;
           is = set-in p s q a e (mark-long s x);
@@ -110,10 +110,10 @@ clean-done (suc k) a p s q e l =
         let m : set s 1 0 ≡ U ++ drop 8 s = sym (take-append-drop 8 (set s 1 0)) ∙ ap (λ (l : List ℕ). U ++ l) (drop-set-lt 8 s 1 0 (omega arith)) in
         let n : set (p ++ (s ++ q)) (a + 1) 0 ≡ (p ++ U) ++ (drop 8 s ++ q) =
         set-in p s q a e (mark-long s x) ∙ ap (λ (l : List ℕ). p ++ (l ++ q)) m ∙ ap (λ (l : List ℕ). p ++ l) (append-assoc U (drop 8 s) q)
-            ∙ sym (append-assoc p U (drop 8 s ++ q)) in
+        ∙ sym (append-assoc p U (drop 8 s ++ q)) in
         subst (λ (ss : List Step). Clean-now (suc k) p s q (run (p ++ (s ++ q)) ss)) (sym (clean-hit k a s x))
         (word-more k p s q _ (take 8 s) (drop 8 s) U (sym (take-append-drop 8 s)) (lu ∙ sym (length-take-le 8 s i)) lu
-            (mark-take (set s 1 0) i′ ∙ mark-set s (mark-long s x))
+        (mark-take (set s 1 0) i′ ∙ mark-set s (mark-long s x))
         (subst (λ (l : List ℕ). Clean-now k (p ++ U) (drop 8 s) q (run l (clean-steps k (a + 8) (drop 8 s)))) (sym n) (f U lu)))
     go false true x y f =
         let i : length s < 8 = ltb-true (length s) 8 y in
@@ -124,7 +124,7 @@ clean-done (suc k) a p s q e l =
         let lu : length (take 8 s) ≡ 8 = length-take-le 8 s i in
         let n : p ++ (s ++ q) ≡ (p ++ take 8 s) ++ (drop 8 s ++ q) =
         ap (λ (l : List ℕ). p ++ (l ++ q)) (sym (take-append-drop 8 s)) ∙ ap (λ (l : List ℕ). p ++ l) (append-assoc (take 8 s) (drop 8 s) q)
-            ∙ sym (append-assoc p (take 8 s) (drop 8 s ++ q)) in
+        ∙ sym (append-assoc p (take 8 s) (drop 8 s ++ q)) in
         subst (λ (ss : List Step). Clean-now (suc k) p s q (run (p ++ (s ++ q)) ss)) (sym (clean-miss k a s x))
         (word-more k p s q _ (take 8 s) (drop 8 s) (take 8 s) (sym (take-append-drop 8 s)) refl lu (mark-take s i ∙ x)
         (subst (λ (l : List ℕ). Clean-now k (p ++ take 8 s) (drop 8 s) q (run l (clean-steps k (a + 8) (drop 8 s)))) (sym n) (f (take 8 s) lu)))

@@ -51,7 +51,7 @@ rests-append {l} {im} ss ts {h} s r =
 pub both-rests :
     {l : Ledger} {im : Image} {h S T : ℕ} (B F : ℕ) {t u : Bool} {x y : Entry} {es : List Entry} → good-length (length im) ≡ true →
     Laid im h S t (x ∷ y ∷ es) seg-none (blanks B) (blanks F) → Tail h S t seg-none (blanks B) (blanks F) T u → x .it .low ≡ 0 → alive x ≡ false
-        → Cleaned (x .it) → y .it .low ≡ 0 →
+    → Cleaned (x .it) → y .it .low ≡ 0 →
     floor (y .at) ≡ floor h → Each Unmarked es → Ok (x ∷ y ∷ es) l → Rests l im (program (x .at + 1) 0 ∷ []) (y .at)
 both-rests {l} {im} B F {x = x} {y} {es} g d e a b c y₀ f m o =
     let r : Rested l (set im (x .at + 1) 0) (reading-from (set im (x .at + 1) 0) (y .at)) =
@@ -78,7 +78,7 @@ vacate-anew x y c (z ∷ zs) = refl
 vacate-rests :
     {l : Ledger} {im : Image} {h S : ℕ} (B F : ℕ) {t : Bool} {x y : Entry} {es : List Entry} → good-length (length im) ≡ true →
     Laid im h S t (x ∷ y ∷ es) seg-none (blanks B) (blanks F) → Tail h S t seg-none (blanks B) (blanks F) S t → x .it .low ≡ 0 → alive x ≡ false
-        → Cleaned (x .it) → y .it .low ≡ 0xA0 →
+    → Cleaned (x .it) → y .it .low ≡ 0xA0 →
     Each Unmarked es → Ok (x ∷ y ∷ es) l → Rests l im (vacate-steps x y (vacated (length im) x y)) (y .at)
 vacate-rests {l} {im} {h} {S} B F {t} {x} {y} {es} g d e a b c y₁ m o = go (leaves B F g d e c)
   where
@@ -90,7 +90,7 @@ vacate-rests {l} {im} {h} {S} B F {t} {x} {y} {es} g d e a b c y₁ m o = go (le
         let Y : Entry = record { at = y .at; it = relow 0 (y .it) } in
         let r : Rests l (set im (y .at) 0) (program (x .at + 1) 0 ∷ []) (y .at) =
         both-rests B F (rw (length-set im (y .at) 0) g) (relow-laid (x ∷ []) es y d 0 low-start (low-high (omega (arith, first-is d)))) e a b c refl
-            (p ∙ ap floor (first-is d)) m
+        (p ∙ ap floor (first-is d)) m
         (ok-same (x ∷ []) es y Y l o (relow-alive y 0) refl refl) in
         subst (λ (zs : List ℕ). Rests l im (vacate-steps x y zs) (y .at)) (sym n)
         (record { safe = (here, (omega (arith, entry-inside (x ∷ []) es y d), refl), r .safe); rested = r .rested })
@@ -102,8 +102,8 @@ vacate-rests {l} {im} {h} {S} B F {t} {x} {y} {es} g d e a b c y₁ m o = go (le
         let g₁ : good-length (length (run im (erases A (suc k)))) ≡ true =
         subst (λ (ss : List Step). good-length (length (run im ss)) ≡ true) (take-erases (suc k) (suc k) A (omega arith)) (good-cut (suc k)) in
         let r : Rested l (set (run im (erases A (suc k))) (y .at) 0) (reading-from (set (run im (erases A (suc k))) (y .at) 0) (y .at)) =
-            start-rested
-            g₁ y₁ m ok₁ w in
+        start-rested
+        g₁ y₁ m ok₁ w in
         subst (λ (ss : List Step). Rests l im ss (y .at)) (sym (vacate-are x y A k (vacated (length im) x y) p))
         (rests-append (erases A (suc k)) (program (y .at) 0 ∷ []) (safe-from (Inv l) im (erases A (suc k)) cuts (erases-sound A (suc k) im z i))
         (record { safe = start-safe g₁ y₁ m ok₁ w (rested-inv r); rested = r }))
@@ -117,7 +117,7 @@ vacate-rests {l} {im} {h} {S} B F {t} {x} {y} {es} g d e a b c y₁ m o = go (le
 pub close-rests :
     {l : Ledger} {im : Image} {h S T : ℕ} (B F : ℕ) {t u : Bool} {x y : Entry} {es : List Entry} → good-length (length im) ≡ true →
     Laid im h S t (x ∷ y ∷ es) seg-none (blanks B) (blanks F) → Tail h S t seg-none (blanks B) (blanks F) T u → x .it .low ≡ 0 → alive x ≡ false
-        → y .it .low ≡ 0xA0 → Each Unmarked es →
+    → y .it .low ≡ 0xA0 → Each Unmarked es →
     Ok (x ∷ y ∷ es) l → Rests l im (close-steps (length im) x y) (y .at)
 unfolding close-steps
 close-rests {l} {im} {h} {S} B F {t} {x = x} {y} {es} g d e a b c m o =
@@ -126,13 +126,13 @@ close-rests {l} {im} {h} {S} B F {t} {x = x} {y} {es} g d e a b c m o =
     let w : Cleans l im cs h S B F t x y es = clean-data B F g d tl a b c m o in
     rests-append cs (vacate-steps x y (vacated (length im) x y)) (w .safe)
     (subst (λ (ss : List Step). Rests l (run im cs) ss (y .at))
-        (vacate-anew x y (w .now) (vacated (length (run im cs)) x y) ∙ ap (λ (n : ℕ). vacate-steps x y (vacated n x y)) (w .same))
+    (vacate-anew x y (w .now) (vacated (length (run im cs)) x y) ∙ ap (λ (n : ℕ). vacate-steps x y (vacated n x y)) (w .same))
     (vacate-rests B F {x = anew x (w .now)} (rw (w .same) g) (w .laid) tl a (w .dead) (w .cleaned) c m (w .ok)))
 
 -- kind vacated: repair 1
 pub vacated-rests :
     {l : Ledger} {im : Image} {h S T : ℕ} {t u : Bool} {x : Entry} {es : List Entry} {below free : List ℕ} → good-length (length im) ≡ true
-        → Laid im h S t (x ∷ es) seg-none below free →
+    → Laid im h S t (x ∷ es) seg-none below free →
     Tail h S t seg-none below free T u → tail-blank im (place im h T u) ≡ true → x .it .low ≡ 0xA0 → Each Unmarked es → Ok (x ∷ es) l →
     Rests l im (erase-steps im (place im h T u) ++ (program h 0 ∷ [])) h
 vacated-rests {l} {im} {h} {S} {T} {t} {u} {x} {es} {below} {free} g d e b a m o =

@@ -68,8 +68,8 @@ head-read : {l : Ledger} {im : Image} {r : Reading} {h : ℕ} → Rested l im r 
 head-read {l} {im} {r} {h} q e =
     let k : q .h ≡ h = sym (ap (λ (x : Reading). x .place .head) (q .is)) ∙ e in
     q .is ∙ sym (laid-reads (q .laid) (q .tail)
-        ∙ ap (λ (fs : List Entry). read (length im) (q .h) (q .S) (q .t) fs Ending.Tail) (append-nil (q .es)))
-        ∙ ap (reading-from im) k
+    ∙ ap (λ (fs : List Entry). read (length im) (q .h) (q .S) (q .t) fs Ending.Tail) (append-nil (q .es)))
+    ∙ ap (reading-from im) k
 
 -- the records: the first dead, and a second
 pub record Dead-first (es : List Entry) : Type 0 where
@@ -83,7 +83,7 @@ pub record Dead-first (es : List Entry) : Type 0 where
 dead-first : (x : Entry) (zs : List Entry) (f : File) (l : Ledger) → alive x ≡ false → Matches (x ∷ zs) (f ∷ l) → Dead-first (x ∷ zs)
 dead-first x [] f l d m =
     absurd (let n : length (contents (x ∷ [])) ≡ 0 =
-        ap (λ (es : List Entry). length (map as-file es)) (keep-no alive x [] d) in omega (arith, perm-length m))
+    ap (λ (es : List Entry). length (map as-file es)) (keep-no alive x [] d) in omega (arith, perm-length m))
 dead-first x (y ∷ zs) f l d m = record { x = x; y = y; rest = zs; is = refl; dead = d }
 
 -- ---- the copy
@@ -145,8 +145,8 @@ module _ {l : Ledger} {im : Image} {r : Reading} (q : Rested l im r) (x : Entry)
   pub copy-safe : Safe (Inv l) im ss
   copy-safe =
       let k : Commits l (with-file n c l) im ss
-          (length n + length c + 9 + one-if-fc (some x) + three-if (with-marker (r .place) (size-of (length n) (length c))))
-          (r .place .head) = commits in
+      (length n + length c + 9 + one-if-fc (some x) + three-if (with-marker (r .place) (size-of (length n) (length c))))
+      (r .place .head) = commits in
       subst (Safe (Inv l) im) (sym (k .is))
       (safe-append (Inv l) im (k .before) (k .commit ∷ k .behind) (k .safe-before) (
         safe-end (Inv l) im (k .before) (k .safe-before),
@@ -168,7 +168,7 @@ module _ {l : Ledger} {im : Image} {r : Reading} (q : Rested l im r) (x : Entry)
       same-head : commits .rested .h ≡ x .at
       same-head =
           sym (ap (λ (y : Reading). y .place .head) (commits .rested .is)) ∙ commits .head ∙ ap (λ (y : Reading). y .place .head) (q .is)
-              ∙ sym (first-is here)
+          ∙ sym (first-is here)
 
       ends : run im ss ≡ set (run im (last-delete (r .place) x n c .0)) (x .at + 2) 0
       ends = ap (run im) (last-delete (r .place) x n c .1) ∙ run-append im (last-delete (r .place) x n c .0) (program (x .at + 2) 0 ∷ [])
@@ -181,7 +181,7 @@ module _ {l : Ledger} {im : Image} {r : Reading} (q : Rested l im r) (x : Entry)
           let f : Entry = record { at = commits .rested .h; it = w .0 } in
           subst Dead-first (sym (w .2))
           (dead-first f (w .1) (record { name = n; content = c }) (without n l)
-              (head-dead (commits .rested) (x .at) (run im (last-delete (r .place) x n c .0)) same-head ends (w .0) (w .1) (w .2))
+          (head-dead (commits .rested) (x .at) (run im (last-delete (r .place) x n c .0)) same-head ends (w .0) (w .1) (w .2))
           (subst (λ (fs : List Entry). Matches fs (with-file n c l)) (w .2) (commits .rested .ok .matches)))
 
   -- at the end: rested, and the head's record is dead

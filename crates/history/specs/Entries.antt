@@ -97,7 +97,7 @@ module _ {at : ℕ} {rs : List Rec} {xs ys : List Entry} {e : Entry} (m : Among 
     pub entries-with : xs ++ (record { at = e .at; it = r } ∷ ys) ≡ entries-of at (m .before ++ (r ∷ m .after))
     entries-with =
         ap₂ (λ (l k : List Entry). l ++ (record { at = e .at; it = r } ∷ k)) (m .left)
-            (m .right ∙ ap (λ (n : ℕ). entries-of (e .at + n) (m .after)) (sym same))
+        (m .right ∙ ap (λ (n : ℕ). entries-of (e .at + n) (m .after)) (sym same))
         ∙ ap (λ (n : ℕ). entries-of at (m .before) ++ entries-of n (r ∷ m .after)) (m .there)
         ∙ sym (entries-append at (m .before) (r ∷ m .after))
 
@@ -106,10 +106,10 @@ module _ {at : ℕ} {rs : List Rec} {xs ys : List Entry} {e : Entry} (m : Among 
     sizes-with =
         let k : rsize r + sizes (m .after) ≡ rsize (e .it) + sizes (m .after) = ap (λ (n : ℕ). n + sizes (m .after)) same in
         sizes-append (m .before) (r ∷ m .after) ∙ ap (λ (n : ℕ). sizes (m .before) + n) k ∙ sym (sizes-append (m .before) (e .it ∷ m .after))
-            ∙ ap sizes (sym (m .is))
+        ∙ ap sizes (sym (m .is))
 
     -- the records are still fine
     pub fine-with : All-fine rs → Fine r → All-fine (m .before ++ (r ∷ m .after))
     fine-with f g =
         fine-append (m .before) (r ∷ m .after) (fine-left (m .before) (e .it ∷ m .after) (fine-all f))
-            (g, fine-right (m .before) (e .it ∷ m .after) (fine-all f) .1)
+        (g, fine-right (m .before) (e .it ∷ m .after) (fine-all f) .1)

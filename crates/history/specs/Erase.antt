@@ -25,8 +25,7 @@ use Rattle.history.specs.Markless.{markless-blanks, markless-append, mar
 pub good-is : (n : ℕ) → good-length n ≡ true → (n % 4096 ≡ 0) × (8192 ≤ n) × (n ≤ 16777216)
 unfolding good-length
 good-is n g =
-    let a : (eqb (n % 4096) 0 && leb 8192 n) ≡ true = and-left (eqb (n % 4096) 0 && leb 8192 n) (leb n 16777216) g in
-    (
+    let a : (eqb (n % 4096) 0 && leb 8192 n) ≡ true = and-left (eqb (n % 4096) 0 && leb 8192 n) (leb n 16777216) g in (
       eqb-true (n % 4096) 0 (and-left (eqb (n % 4096) 0) (leb 8192 n) a),
       leb-true 8192 n (and-right (eqb (n % 4096) 0) (leb 8192 n) a),
       leb-true n 16777216 (and-right (eqb (n % 4096) 0 && leb 8192 n) (leb n 16777216) g),
@@ -64,10 +63,10 @@ erase-run (suc j) a p q s e l =
     let q₂ : List ℕ = drop 4096 q in
     let i : 4096 + 4096 * j ≡ 4096 * suc j = omega arith in
     let c : p ++ (q ++ s) ≡ p ++ (q₁ ++ (q₂ ++ s)) = ap (λ (l : List ℕ). p ++ l)
-        (ap (λ (l : List ℕ). l ++ s) (sym (take-append-drop 4096 q)) ∙ append-assoc q₁ q₂ s) in
+    (ap (λ (l : List ℕ). l ++ s) (sym (take-append-drop 4096 q)) ∙ append-assoc q₁ q₂ s) in
     ap (λ (m : List ℕ). run m (erases a (suc j))) c
     ∙ ap (λ (m : List ℕ). run m (erases (a + 4096) j))
-        (erase-mid p q₁ (q₂ ++ s) a e (length-take-le 4096 q (omega arith)) ∙ sym (append-assoc p sector (q₂ ++ s)))
+    (erase-mid p q₁ (q₂ ++ s) a e (length-take-le 4096 q (omega arith)) ∙ sym (append-assoc p sector (q₂ ++ s)))
     ∙ erase-run j (a + 4096) (p ++ sector) q₂ s (omega (arith, length-append p sector, length-sector)) (omega (arith, length-drop 4096 q))
     ∙ append-assoc p sector (blanks (4096 * j) ++ (drop (4096 * j) q₂ ++ s))
     ∙ ap (λ (m : List ℕ). p ++ m) (sym (append-assoc sector (blanks (4096 * j)) (drop (4096 * j) q₂ ++ s))
@@ -81,7 +80,7 @@ sectors-more (suc n) zero a b e l = rw (sectors-by, lt-leb (a + 4096) b (omega a
 sectors-more zero (suc k) a b e l = absurd (not-suc-le-zero l)
 sectors-more (suc n) (suc k) a b e l =
     rw (sectors-by, le-leb (a + 4096) b (omega arith))
-        (ap (λ (m : List Step). erase a ∷ m) (sectors-more n k (a + 4096) b (omega arith) (omega arith)))
+    (ap (λ (m : List Step). erase a ∷ m) (sectors-more n k (a + 4096) b (omega arith) (omega arith)))
 
 -- from a to b, in sectors
 pub sectors-are : (k a b : ℕ) → a + 4096 * k ≡ b → map erase (sectors a b) ≡ erases a k
@@ -102,7 +101,7 @@ length-erases a (suc k) = ap suc (length-erases (a + 4096) k)
 pub erase-length : (im : Image) (a : ℕ) → a + 4096 ≤ length im → length (apply im (erase a)) ≡ length im
 erase-length im a h =
     length-append (take a im) (sector ++ drop 4096 (drop a im))
-        ∙ ap (λ (n : ℕ). length (take a im) + n) (length-append sector (drop 4096 (drop a im)))
+    ∙ ap (λ (n : ℕ). length (take a im) + n) (length-append sector (drop 4096 (drop a im)))
     ∙ omega (arith, length-take-le a im (omega arith), length-sector, length-drop 4096 (drop a im), length-drop a im)
 
 -- erases keep the length
@@ -136,7 +135,7 @@ pub half-erased-length : (i k : ℕ) (q : List ℕ) → i ≤ k → 4096 * k ≤
 half-erased-length i k q h l =
     length-append (blanks (4096 * i)) (take (4096 * (k - i)) (drop (4096 * i) q))
     ∙ ap₂ _+_ (length-replicate (4096 * i) 0xFF) (length-take-le (4096 * (k - i)) (drop (4096 * i) q) (omega (arith, length-drop (4096 * i) q)))
-        ∙ omega arith
+    ∙ omega arith
 
 -- all k of them: FF
 pub all-erased : (k : ℕ) (q : List ℕ) → half-erased k k q ≡ blanks (4096 * k)
@@ -156,7 +155,7 @@ erase-cut i k a pre q s e l h =
     ∙ ap (λ (x : List ℕ). take m d ++ (x ++ s)) (drop-drop m (4096 * i) q ∙ ap (λ (y : ℕ). drop y q) n) in
     ap (run (pre ++ (q ++ s))) (take-erases i k a h) ∙ erase-run i a pre q s e (omega arith)
     ∙ ap (λ (x : List ℕ). pre ++ (blanks (4096 * i) ++ x)) c
-        ∙ ap (λ (x : List ℕ). pre ++ x) (sym (append-assoc (blanks (4096 * i)) (take m d) (drop (4096 * k) q ++ s)))
+    ∙ ap (λ (x : List ℕ). pre ++ x) (sym (append-assoc (blanks (4096 * i)) (take m d) (drop (4096 * k) q ++ s)))
 
 -- from the second sector on q has no mark: so neither has what is left
 module _ (k r : ℕ) (q : List ℕ) (long : length q ≡ 4096 * suc k + 8 * r) (markless : Markless (512 * k + r) (drop 4096 q)) where
@@ -166,7 +165,7 @@ module _ (k r : ℕ) (q : List ℕ) (long : length q ≡ 4096 * suc k + 8 * r) (
       let d : 4096 + 8 * (512 * i) ≡ 4096 * suc i = omega arith in
       subst (λ (n : ℕ). Markless (512 * (k - i) + r) (drop n q)) d
       (rw (drop-drop (8 * (512 * i)) 4096 q) at
-          (markless-drop (512 * i) (512 * (k - i) + r) (drop 4096 q) (subst (λ (n : ℕ). Markless n (drop 4096 q)) e markless)))
+      (markless-drop (512 * i) (512 * (k - i) + r) (drop 4096 q) (subst (λ (n : ℕ). Markless n (drop 4096 q)) e markless)))
 
   -- what is left behind the sectors has no mark
   pub markless-lost : Markless r (drop (4096 * suc k) q)
@@ -179,11 +178,11 @@ module _ (k r : ℕ) (q : List ℕ) (long : length q ≡ 4096 * suc k + 8 * r) (
       let m : ℕ = 4096 * (suc k - suc i) in
       let lm : length (take m d) ≡ 8 * (512 * (k - i)) = length-take-le m d (omega (arith, length-drop (4096 * suc i) q)) ∙ omega arith in
       let a : Markless (512 * (k - i)) (take m d) =
-          markless-take (512 * (k - i)) r (take m d) (drop m d) lm (rw (take-append-drop m d) (later i h)) in
+      markless-take (512 * (k - i)) r (take m d) (drop m d) lm (rw (take-append-drop m d) (later i h)) in
       let u : 8 * (512 * suc i) ≡ 4096 * suc i = omega arith in
       let v : 512 * suc i + 512 * (k - i) ≡ 512 * suc k = omega arith in
       let b : Markless (512 * suc i) (blanks (4096 * suc i)) =
-          subst (λ (n : ℕ). Markless (512 * suc i) (blanks n)) u (markless-blanks (512 * suc i)) in
+      subst (λ (n : ℕ). Markless (512 * suc i) (blanks n)) u (markless-blanks (512 * suc i)) in
       subst (λ (n : ℕ). Markless n (half-erased (suc i) (suc k) q)) v
       (markless-append (512 * suc i) (512 * (k - i)) (blanks (4096 * suc i)) (take m d) (length-replicate (4096 * suc i) 0xFF ∙ omega arith) b a)
 

@@ -37,7 +37,7 @@ markless-swap : (j n r : ℕ) (u q w s : List ℕ) → length u ≡ 8 * j → le
 markless-swap j n r u q w s lu lq ls qs h =
     let a : Markless j u = markless-take j (n + r) u (q ++ w) lu h in
     let d : Markless (n + r) (q ++ w) =
-        subst (λ (m : List ℕ). Markless (n + r) m) (drop-at u (q ++ w) (8 * j) lu) (markless-drop j (n + r) (u ++ (q ++ w)) h) in
+    subst (λ (m : List ℕ). Markless (n + r) m) (drop-at u (q ++ w) (8 * j) lu) (markless-drop j (n + r) (u ++ (q ++ w)) h) in
     let b : Markless r w = subst (λ (m : List ℕ). Markless r m) (drop-at q w (8 * n) lq) (markless-drop n r (q ++ w) d) in
     markless-append j (n + r) u (s ++ w) lu a (markless-append n r s w ls qs b)
 
@@ -71,7 +71,7 @@ module _ {s : List ℕ} {j : ℕ} (c : Cut s j) where
   blanked-length =
       length-append (c .u) (sector ++ c .w)
       ∙ ap (λ (n : ℕ). length (c .u) + n)
-          (length-append sector (c .w) ∙ ap (λ (n : ℕ). n + length (c .w)) (length-sector ∙ sym (c .lq)) ∙ sym (length-append (c .q) (c .w)))
+      (length-append sector (c .w) ∙ ap (λ (n : ℕ). n + length (c .w)) (length-sector ∙ sym (c .lq)) ∙ sym (length-append (c .q) (c .w)))
       ∙ sym (length-append (c .u) (c .q ++ c .w)) ∙ ap length (sym (c .is))
 
   blanked-markless : (f : ℕ) → length s ≡ 8 * f → j % 8 ≡ 0 → Markless f s → Markless f blanked
@@ -80,7 +80,7 @@ module _ {s : List ℕ} {j : ℕ} (c : Cut s j) where
       omega (arith, ap length (c .is), length-append (c .u) (c .q ++ c .w), length-append (c .q) (c .w), c .lu, c .lq) in
       subst (λ (m : ℕ). Markless m blanked) (sym n)
       (markless-swap (j / 8) 512 (f - 512 - j / 8) (c .u) (c .q) (c .w) sector (omega (arith, c .lu)) (c .lq) length-sector
-          (markless-ff 512 sector sector-is)
+      (markless-ff 512 sector sector-is)
       (subst (λ (m : ℕ). Markless m (c .u ++ (c .q ++ c .w))) n (subst (λ (m : List ℕ). Markless f m) (c .is) h)))
 
   -- the erase, in an image where the part stands at address a
@@ -88,13 +88,13 @@ module _ {s : List ℕ} {j : ℕ} (c : Cut s j) where
   blanked-is pre post a z p e =
       ap (λ (l : List ℕ). apply l (erase z))
       (ap (λ (l : List ℕ). pre ++ (l ++ post)) (c .is)
-          ∙ ap (λ (l : List ℕ). pre ++ l)
-              (append-assoc (c .u) (c .q ++ c .w) post ∙ ap (λ (l : List ℕ). c .u ++ l) (append-assoc (c .q) (c .w) post))
+      ∙ ap (λ (l : List ℕ). pre ++ l)
+      (append-assoc (c .u) (c .q ++ c .w) post ∙ ap (λ (l : List ℕ). c .u ++ l) (append-assoc (c .q) (c .w) post))
       ∙ sym (append-assoc pre (c .u) (c .q ++ (c .w ++ post))))
       ∙ erase-mid (pre ++ c .u) (c .q) (c .w ++ post) z (length-append pre (c .u) ∙ omega (arith, c .lu)) (c .lq)
       ∙ append-assoc pre (c .u) (sector ++ (c .w ++ post))
       ∙ ap (λ (l : List ℕ). pre ++ l)
-          (ap (λ (l : List ℕ). c .u ++ l) (sym (append-assoc sector (c .w) post)) ∙ sym (append-assoc (c .u) (sector ++ c .w) post))
+      (ap (λ (l : List ℕ). c .u ++ l) (sym (append-assoc sector (c .w) post)) ∙ sym (append-assoc (c .u) (sector ++ c .w) post))
 
 -- ---- one erase of a vacant image
 
@@ -183,7 +183,7 @@ mid-erase {N} {h} {S} {lim} {t} {es} {im} {z} d (high-sector m g l) =
     let e : length (blanked c) ≡ length (v .free) = blanked-length c in
     let own : take (v .m) (blanked c) ≡ blanks (v .m) = own-after S (v .m) z (v .free) c (v .own) m (v .ff) in
     let i : apply im (erase z) ≡ k .pre ++ (blanked c ++ k .post) = ap (λ (x : Image). apply x (erase z)) (k .is)
-        ∙ blanked-is c (k .pre) (k .post) S z (k .at) (omega arith) in
+    ∙ blanked-is c (k .pre) (k .post) S z (k .at) (omega arith) in
     record {
       len = erase-length im z (omega (arith, laid-length (v .laid), d .ends)) ∙ d .len;
       vac = record {
@@ -192,9 +192,9 @@ mid-erase {N} {h} {S} {lim} {t} {es} {im} {z} d (high-sector m g l) =
         m = v .m;
         laid = subst (λ (x : Image). Laid x h S t es seg-none (v .below) (blanked c)) (sym i)
             (k .plug seg-none (f .0) (blanked c) Next.Clear (e ∙ f .1)
-                (blanked-markless c (f .0) (f .1) (omega (arith, laid-eight (v .laid))) (f .2))
+            (blanked-markless c (f .0) (f .1) (omega (arith, laid-eight (v .laid))) (f .2))
             (open-ff (v .m) (drop (v .m) (blanked c)) (blanked c)
-                (sym (take-append-drop (v .m) (blanked c)) ∙ ap (λ (x : List ℕ). x ++ drop (v .m) (blanked c)) own) (vacant-long v))
+            (sym (take-append-drop (v .m) (blanked c)) ∙ ap (λ (x : List ℕ). x ++ drop (v .m) (blanked c)) own) (vacant-long v))
             (ap (λ (n : ℕ). 0 + n) e));
         own = v .own;
         whole = omega (arith, v .whole);
@@ -215,8 +215,11 @@ sectors-between (suc n) a b = go (leb (a + 4096) b) refl (sectors-between n (a +
   where
     go : (t : Bool) → leb (a + 4096) b ≡ t → Each (Between (a + 4096) b) (sectors-by n (a + 4096) b) → Each (Between a b) (sectors-by (suc n) a b)
     go true e i =
-        rw (sectors-by, e) ((omega arith, leb-true (a + 4096) b e, refl), each-map (sectors-by n (a + 4096) b)
-            (λ z p. (omega (arith, p .0), p .1, p .2 ∙ omega arith)) i)
+        rw (sectors-by, e) (
+          (omega arith, leb-true (a + 4096) b e, refl),
+          each-map (sectors-by n (a + 4096) b)
+              (λ z p. (omega (arith, p .0), p .1, p .2 ∙ omega arith)) i,
+        )
     go false e i = rw (sectors-by, e) tt
 
 free-erasable : (im : Image) (h S : ℕ) (t : Bool)
@@ -224,12 +227,12 @@ free-erasable : (im : Image) (h S : ℕ) (t : Bool)
 unfolding free-sectors Between
 free-erasable im h S true =
     each-map (sectors (ceiling S) (floor h)) (λ z p. high-sector (p .2 ∙ omega arith) (p .0) (p .1))
-        (sectors-between (floor h) (ceiling S) (floor h))
+    (sectors-between (floor h) (ceiling S) (floor h))
 free-erasable im h S false =
     each-append (Erasable h S (length im) false) (sectors 0 (floor h)) (sectors (ceiling S) (length im))
     (each-map (sectors 0 (floor h)) (λ z p. low-sector refl (p .2 ∙ omega arith) (p .1)) (sectors-between (floor h) 0 (floor h)))
     (each-map (sectors (ceiling S) (length im)) (λ z p. high-sector (p .2 ∙ omega arith) (p .0) (p .1))
-        (sectors-between (length im) (ceiling S) (length im)))
+    (sectors-between (length im) (ceiling S) (length im)))
 
 mid-safe : {N h S lim : ℕ} {t : Bool} {es : List Entry} (zs : List ℕ) (im : Image) → Each (Erasable h S lim t) zs → Mid N h S lim t es im
     → Safe (Mid N h S lim t es) im (map erase zs)
@@ -248,4 +251,4 @@ unfolding erase-steps
 erase-safe {im} {h} {S} {t} d =
     mid-safe (keep (dirty im) (free-sectors (place im h S t))) im
     (each-keep (Erasable h S (limit (place im h S t)) t) (dirty im) (free-sectors (place im h S t))
-        (each-map (free-sectors (place im h S t)) (λ z e k. e) (free-erasable im h S t))) d
+    (each-map (free-sectors (place im h S t)) (λ z e k. e) (free-erasable im h S t))) d

@@ -47,7 +47,7 @@ format-run raw k f e g =
     ∙ ap (λ (i : Image). run i first-steps)
     (ap₂ run (sym (append-nil raw)) (sectors-are k 0 (length raw) (omega arith)) ∙ erase-run k 0 [] raw [] refl (omega arith)
     ∙ ap₂ (λ (x y : List ℕ). x ++ (y ++ [])) (blank-split 16 (8 * f) (4096 * k) (omega arith)) (ap (λ (n : ℕ). drop n raw) (sym e) ∙ drop-length raw)
-        ∙ append-nil (blanks 16 ++ blanks (8 * f)))
+    ∙ append-nil (blanks 16 ++ blanks (8 * f)))
     ∙ first-written (blanks (8 * f))
 
 -- ---- the image

@@ -58,8 +58,8 @@ module _ {l : Ledger} {im : Image} (a m c k : ℕ) {h : ℕ} {lost : List ℕ} {
   sound =
       subst (λ (i : Image). Steps-sound i (moved at finish)) (sym (split-at (x ∷ ys) [] (sym (append-nil (x ∷ ys))) s))
       (sound-past (front-part (blanks (4096 * a)) lost (x ∷ ys)) (torn-wrap c k) finish at
-          (front-length (x ∷ ys) [] (sym (append-nil (x ∷ ys))) s) tt
-          (finish-sound k b))
+      (front-length (x ∷ ys) [] (sym (append-nil (x ∷ ys))) s) tt
+      (finish-sound k b))
 
   -- 5A written
   half-inv : Inv l (set im (at + 1) 0x5A)
@@ -90,7 +90,7 @@ third-finishes w a f e =
 -- the kind half: mount finishes the marker
 pub mends-half :
     {l : Ledger} {im : Image} (a m c k : ℕ) {h : ℕ} {lost : List ℕ} {x : Rec} {ys : List Rec} → Inv l im
-        → Straight im a m (blanks (4096 * a)) lost h (x ∷ ys) seg-none (torn-wrap c k) →
+    → Straight im a m (blanks (4096 * a)) lost h (x ∷ ys) seg-none (torn-wrap c k) →
     Begun c → 1 ≤ a →
     Starts (entries-of h (x ∷ ys)) → Ok (entries-of h (x ∷ ys)) l → Mends l im
 mends-half {l} {im} a m c k {h} {lost} {x} {ys} i s b z st ok =
@@ -101,8 +101,7 @@ mends-half {l} {im} a m c k {h} {lost} {x} {ys} i s b z st ok =
     subst (Each (λ e. Fine (e .it))) (append-nil es) (entries-fine h (x ∷ ys) [] (s .fine) tt) in
     let d : Steps-sound im (moved at finish) = sound a m c k s b z st ok (i .good) in
     let q : Rested l (run im (moved at finish)) (reading-from (run im (moved at finish)) h) = rested a m c k s b z st ok (i .good) in
-    let p : Rests l im (moved at finish) h = record { safe = (i, d .0, (half-inv a m c k s b z st ok (i .good), d .1 .0, rested-inv q)); rested = q }
-        in
+    let p : Rests l im (moved at finish) h = record { safe = (i, d .0, (half-inv a m c k s b z st ok (i .good), d .1 .0, rested-inv q)); rested = q } in
     mends-3 {r = r} (torn-wrap-whole k s b z refl (st .0) (starts-ruled es l ok st)) p
-        (some-behind [] (program (at + 2) 0xF0 ∷ []) (program (at + 1) 0x5A))
+    (some-behind [] (program (at + 2) 0xF0 ∷ []) (program (at + 1) 0x5A))
     (one-none (begin im r) (starts-clean es st)) (two-plain (begin im r) es st) (third-finishes (begin im r) at (fine-finished es f) refl)

@@ -46,31 +46,31 @@ close-same N x y r = refl
 
 module _ {l : Ledger} {im : Image} {r : Reading} (q : Rested l im r) (x y : Entry) (es : List Entry) (i : q .es ≡ x ∷ y ∷ es)
     (dead : alive x ≡ false)
-    where
-  d : Laid im (q .h) (q .S) (q .t) (x ∷ y ∷ es) seg-none (blanks (q .B)) (blanks (q .F))
-  d = subst (λ (fs : List Entry). Laid im (q .h) (q .S) (q .t) fs seg-none (blanks (q .B)) (blanks (q .F))) i (q .laid)
+  where
+    d : Laid im (q .h) (q .S) (q .t) (x ∷ y ∷ es) seg-none (blanks (q .B)) (blanks (q .F))
+    d = subst (λ (fs : List Entry). Laid im (q .h) (q .S) (q .t) fs seg-none (blanks (q .B)) (blanks (q .F))) i (q .laid)
 
-  st : Starts (x ∷ y ∷ es)
-  st = subst Starts i (q .starts)
+    st : Starts (x ∷ y ∷ es)
+    st = subst Starts i (q .starts)
 
-  low-plain-is : y .it .low ≡ 0xA5
-  low-plain-is = low-plain (laid-fine d .1 .0 .low-ok) (st .1 .0)
+    low-plain-is : y .it .low ≡ 0xA5
+    low-plain-is = low-plain (laid-fine d .1 .0 .low-ok) (st .1 .0)
 
-  sound : Sound im (program (y .at) 0xA0)
-  sound = (omega (arith, entry-inside (x ∷ []) es y d), subst (λ (b : ℕ). bitAnd 0xA0 b ≡ 0xA0) (sym (low-at (x ∷ []) es y d ∙ low-plain-is)) refl)
+    sound : Sound im (program (y .at) 0xA0)
+    sound = (omega (arith, entry-inside (x ∷ []) es y d), subst (λ (b : ℕ). bitAnd 0xA0 b ≡ 0xA0) (sym (low-at (x ∷ []) es y d ∙ low-plain-is)) refl)
 
-  cleaned : Entry
-  cleaned = record { at = y .at; it = relow 0xA0 (y .it) }
+    cleaned : Entry
+    cleaned = record { at = y .at; it = relow 0xA0 (y .it) }
 
-  rests : Rests l (set im (y .at) 0xA0) (close-steps (length im) x y) (y .at)
-  unfolding cleaned
-  rests =
-      subst (λ (ss : List Step). Rests l (set im (y .at) 0xA0) ss (y .at))
-          (ap (λ (N : ℕ). close-steps N x cleaned) (length-set im (y .at) 0xA0) ∙ close-same (length im) x y (relow 0xA0 (y .it)))
-      (close-rests (q .B) (q .F) (ap good-length (length-set im (y .at) 0xA0) ∙ q .good) (relow-laid (x ∷ []) es y d 0xA0 low-clean (second-low d))
-          (q .tail) (st .0) dead refl (st .1 .1)
-      (ok-same (x ∷ []) es y cleaned l (subst (λ (fs : List Entry). Ok fs l) i (q .ok)) (relow-alive y 0xA0) refl refl))
+    rests : Rests l (set im (y .at) 0xA0) (close-steps (length im) x y) (y .at)
+    unfolding cleaned
+    rests =
+        subst (λ (ss : List Step). Rests l (set im (y .at) 0xA0) ss (y .at))
+        (ap (λ (N : ℕ). close-steps N x cleaned) (length-set im (y .at) 0xA0) ∙ close-same (length im) x y (relow 0xA0 (y .it)))
+        (close-rests (q .B) (q .F) (ap good-length (length-set im (y .at) 0xA0) ∙ q .good) (relow-laid (x ∷ []) es y d 0xA0 low-clean (second-low d))
+        (q .tail) (st .0) dead refl (st .1 .1)
+        (ok-same (x ∷ []) es y cleaned l (subst (λ (fs : List Entry). Ok fs l) i (q .ok)) (relow-alive y 0xA0) refl refl))
 
-  -- steps (b) to (f)
-  pub hands-over : Rests l im (program (y .at) 0xA0 ∷ close-steps (length im) x y) (y .at)
-  hands-over = record { safe = (rested-inv q, sound, rests .safe); rested = rests .rested }
+    -- steps (b) to (f)
+    pub hands-over : Rests l im (program (y .at) 0xA0 ∷ close-steps (length im) x y) (y .at)
+    hands-over = record { safe = (rested-inv q, sound, rests .safe); rested = rests .rested }

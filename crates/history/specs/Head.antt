@@ -49,20 +49,20 @@ chosen-none image a e₁ e₂ e₃ = rw (chosen, e₁, e₂, e₃)
 -- where the walk of the whole image ends
 module _ (low : List Rec) (by : ℕ) (s g : List ℕ) (f : All-fine low) (w : Walked 0 low) (l : Lands (sizes low) by s g)
     (room : 1 ≤ length (lay low s))
-    where
-  walked : walk (suc (length (lay low s))) 0 (lay low s) ≡ sizes low + by
-  walked =
-      let m : ℕ = length (lay low s) - suc (length low) in
-      let i : suc (length (lay low s)) ≡ length low + suc (suc m) = omega (arith, length-lay low s, sizes-least low) in
-      ap (λ (k : ℕ). walk k 0 (lay low s)) i ∙ walk-lay low (suc (suc m)) 0 s f w ∙ ap (λ (a : ℕ). walk (suc (suc m)) a s) (zero-add (sizes low))
-          ∙ l .lands m
+  where
+    walked : walk (suc (length (lay low s))) 0 (lay low s) ≡ sizes low + by
+    walked =
+        let m : ℕ = length (lay low s) - suc (length low) in
+        let i : suc (length (lay low s)) ≡ length low + suc (suc m) = omega (arith, length-lay low s, sizes-least low) in
+        ap (λ (k : ℕ). walk k 0 (lay low s)) i ∙ walk-lay low (suc (suc m)) 0 s f w ∙ ap (λ (a : ℕ). walk (suc (suc m)) a s) (zero-add (sizes low))
+        ∙ l .lands m
 
-  left : drop (walk (suc (length (lay low s))) 0 (lay low s)) (lay low s) ≡ g
-  left = ap (λ (a : ℕ). drop a (lay low s)) walked ∙ drop-lay low s (by) ∙ l .there
+    left : drop (walk (suc (length (lay low s))) 0 (lay low s)) (lay low s) ≡ g
+    left = ap (λ (a : ℕ). drop a (lay low s)) walked ∙ drop-lay low s (by) ∙ l .there
 
-  searched : (a : ℕ) → search (length (lay low s)) (sizes low + by) g ≡ a →
-      sought-at (lay low s) ≡ a
-  searched a e = ap₂ (λ (x : ℕ) (y : List ℕ). search (length (lay low s)) x y) walked left ∙ e
+    searched : (a : ℕ) → search (length (lay low s)) (sizes low + by) g ≡ a →
+        sought-at (lay low s) ≡ a
+    searched a e = ap₂ (λ (x : ℕ) (y : List ℕ). search (length (lay low s)) x y) walked left ∙ e
 
 -- ---- from the records' end to the head
 
@@ -224,11 +224,11 @@ found : {b : ℕ} (low : List Rec) (s t : List ℕ) (m : ℕ) → All-fine low �
     sought-at (lay low s) ≡ sizes low + m
 found {b} low s t m f w h r =
     let e : length s - r .by ≡ length (r .g) + length (b ∷ 0x5A ∷ t) = sym (length-drop (r .by) s) ∙ ap length (r .land .there)
-        ∙ length-append (r .g) (b ∷ 0x5A ∷ t) in
+    ∙ length-append (r .g) (b ∷ 0x5A ∷ t) in
     let p : 8 * r .j + 2 + length t + r .by ≤ length s = omega (arith, r .whole) in
     searched low (r .by) s (r .g ++ (b ∷ 0x5A ∷ t)) f w (r .land) (omega (arith, length-lay low s)) (sizes low + m)
     (search-found (r .j) (length (lay low s)) (sizes low + r .by) (r .g) t (r .whole) (r .markless) h (omega (arith, length-lay low s))
-        ∙ omega (arith, r .far))
+    ∙ omega (arith, r .far))
 
 -- what stands there
 there-is : (low : List Rec) (s t : List ℕ) (m : ℕ) → Reaches (sizes low) s t m → drop (sizes low + m) (lay low s) ≡ t
@@ -263,7 +263,7 @@ pub head-clean : (low : List Rec) (s t : List ℕ) (m : ℕ) → All-fine low �
 head-clean low s t m f w p c r =
     head-by (lay low s) (sizes low + m) (give (sizes low + m)) (front-start p w) (front-wrap p w) (found low s t m f w is-CLEAN r)
     (chosen-clean (lay low s) (sizes low + m) (ap start-here (there-is low s _ m r) ∙ clean-no-start t)
-        (ap clean-here (there-is low s _ m r) ∙ clean-is t) c)
+    (ap clean-here (there-is low s _ m r) ∙ clean-is t) c)
 
 -- START at 0
 pub head-zero : (t : List ℕ) → head (0 ∷ 0x5A ∷ t) ≡ give 0
@@ -296,7 +296,7 @@ nothing low s m f w l r =
     searched low (r .by) s (r .g ++ []) f w (r .land) l (sizes low + m)
     (ap (search (length (lay low s)) (sizes low + r .by)) (append-nil (r .g))
     ∙ search-none (r .j) (length (lay low s)) (sizes low + r .by) (r .g) (r .whole) (r .markless) (omega (arith, length-lay low s, r .whole))
-        ∙ omega (arith, r .far))
+    ∙ omega (arith, r .far))
 
 -- no head is found, and CLEAN stands at 0: 0 is the head
 pub head-none : (low : List Rec) (s : List ℕ) (m : ℕ) → All-fine low → Walked 0 low → Front low s → clean-here (lay low s) ≡ true
@@ -305,4 +305,4 @@ pub head-none : (low : List Rec) (s : List ℕ) (m : ℕ) → All-fine low → W
 head-none low s m f w p c l r =
     head-by (lay low s) (sizes low + m) (give 0) (front-start p w) (front-wrap p w) (nothing low s m f w l r)
     (chosen-none (lay low s) (sizes low + m) (ap start-here (there-is low s [] m r) ∙ no-start [] mark-nil)
-        (ap clean-here (there-is low s [] m r) ∙ no-clean [] mark-nil) c)
+    (ap clean-here (there-is low s [] m r) ∙ no-clean [] mark-nil) c)

@@ -31,7 +31,7 @@ pub carried-done : (im : Image) (k : ℕ) (p : Plan) → length (p .steps) ≤ k
 carried-done im k p h =
     carried im k p
     ∙ ap₂ (λ (n : Numbers) (i : Image). record { numbers = n; image = i }) (numbers-by k p true (le-leb (length (p .steps)) k h))
-        (ap (run im) (take-all k (p .steps) h))
+    (ap (run im) (take-all k (p .steps) h))
 
 -- less: cut
 pub carried-cut : (im : Image) (k : ℕ) (p : Plan) → k < length (p .steps) → carry-out im k (give p) ≡ record {
@@ -58,12 +58,12 @@ module _ (Inv : Ledger → Image → Type 0) where
   still-keeps im l c s e =
       subst (λ (m : Ledger). Inv m (outcome im c .image)) (sym e)
       (subst (Inv l) (sym (carried-image im (c .allowance) (plan im (c .request))))
-          (safe-cut (Inv l) im (steps-of (plan im (c .request))) s (c .allowance)))
+      (safe-cut (Inv l) im (steps-of (plan im (c .request))) s (c .allowance)))
 
   module _
       (formatted : (raw : Image) (k : ℕ) → format raw k .numbers .answer ≡ 0 → Inv [] (format raw k .image))
       (keeps : (im : Image) (l : Ledger) (c : Call) → Inv l im → Bytes-put (c .request)
-          → Inv (fed im (c .request) (outcome im c .numbers) l) (outcome im c .image))
+      → Inv (fed im (c .request) (outcome im c .numbers) l) (outcome im c .image))
       (sound : (im : Image) (l : Ledger) (r : Request) → Inv l im → Bytes-put r → Steps-sound im (steps-of (plan im r)))
       (mounts : (im : Image) (l : Ledger) → Inv l im → (k : ℕ) → length (steps-of (mount-plan im)) ≤ k → Mounted im k l) where
     all-calls : (im : Image) (l : Ledger) (cs : List Call) → Inv l im → Each (λ c. Bytes-put (c .request)) cs → Inv (ledger im cs l) (replay im cs)

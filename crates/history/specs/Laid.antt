@@ -29,12 +29,12 @@ place im h T t = record { head = h; tail = T; turned = t; length = length im }
 pub data Laid (im : Image) (h S : ℕ) (t : Bool) (es : List Entry) (seg : Seg) (below free : List ℕ) : Type 0 where
   laid-straight :
       {a l : ℕ} {lost : List ℕ} {x : Rec} {ys : List Rec} (f : ℕ) → Straight im a l below lost h (x ∷ ys) seg free → t ≡ false
-          → S ≡ h + sizes (x ∷ ys) →
+      → S ≡ h + sizes (x ∷ ys) →
       es ≡ entries-of h (x ∷ ys) → length free ≡ 8 * f → Markless f free → Laid im h S t es seg below free
   laid-turned :
       {a l f : ℕ} {lost : List ℕ} {low : List Rec} {x : Rec} {ys : List Rec} {end : End} → Turned im a l lost h low seg f free (x ∷ ys) end
-          → t ≡ true
-          → S ≡ sizes low →
+      → t ≡ true
+      → S ≡ sizes low →
       es ≡ entries-of h (x ∷ ys) ++ entries-of 0 low → below ≡ [] → Laid im h S t es seg below free
 
 -- ---- the hole at S
@@ -47,11 +47,11 @@ pub record Hole (im : Image) (h S : ℕ) (t : Bool) (es : List Entry) (seg : Seg
   pub at : length pre ≡ S
   pub plug :
       (g : Seg) (f : ℕ) (new : List ℕ) (x : Next) → length new ≡ 8 * f → Markless f new → Opens new x
-          → seg-size g + length new ≡ seg-size seg + length free →
+      → seg-size g + length new ≡ seg-size seg + length free →
       Laid (pre ++ seg-onto g (new ++ post)) h S t es g below new
   pub grow :
       (r : Rec) (f : ℕ) (new : List ℕ) (x : Next) → Fine r → r .low ≡ 0xA5 → length new ≡ 8 * f → Markless f new → Opens new x
-          → rsize r + length new ≡ seg-size seg + length free →
+      → rsize r + length new ≡ seg-size seg + length free →
       Laid (pre ++ onto r (new ++ post)) h (S + rsize r) t (es ++ (record { at = S; it = r } ∷ [])) seg-none below new
 
 -- ---- one record

@@ -66,14 +66,16 @@ set-data : (P Q c : List ℕ) (a b : ℕ) → length P ≡ a → a ≤ b → b <
 set-data P Q c a b e l h =
     let n : b ≡ length P + (b - a) = omega arith in
     ap (λ (m : ℕ). set (P ++ (c ++ Q)) m 0) n ∙ set-past P (c ++ Q) (b - a) 0
-        ∙ ap (λ (m : List ℕ). P ++ m) (set-append-left c Q (b - a) 0 (omega arith))
+    ∙ ap (λ (m : List ℕ). P ++ m) (set-append-left c Q (b - a) 0 (omega arith))
 
 zeros-safe : (P Q : List ℕ) (a d : ℕ) → length P ≡ a → (ss : List Step) → Each (Zero a d) ss → (im : Image) → Data P Q d im → Safe (Data P Q d) im ss
 zeros-safe P Q a d e [] z im c = c
 zeros-safe P Q a d e (program b zero ∷ ss) z im c = (
   c,
-  (subst (λ (i : Image). b < length i) (sym (c .is)) (omega (arith, length-append P (c .now ++ Q), length-append (c .now) Q, z .0 .1, c .sized)),
-      refl),
+  (
+    subst (λ (i : Image). b < length i) (sym (c .is)) (omega (arith, length-append P (c .now ++ Q), length-append (c .now) Q, z .0 .1, c .sized)),
+    refl,
+  ),
   zeros-safe P Q a d e ss (z .1) (set im b 0)
       (record {
         now = set (c .now) (b - a) 0;
@@ -87,13 +89,13 @@ zeros-safe P Q a d e (erase b ∷ ss) z im c = absurd (z .0)
 same-mid : (P Q u v : List ℕ) → P ++ (u ++ Q) ≡ P ++ (v ++ Q) → length u ≡ length v → u ≡ v
 same-mid P Q u v e l =
     sym (take-at u Q (length u) refl)
-        ∙ ap (take (length u)) (sym (drop-at P (u ++ Q) (length P) refl) ∙ ap (drop (length P)) e ∙ drop-at P (v ++ Q) (length P) refl)
-        ∙ take-at v Q (length u) (sym l)
+    ∙ ap (take (length u)) (sym (drop-at P (u ++ Q) (length P) refl) ∙ ap (drop (length P)) e ∙ drop-at P (v ++ Q) (length P) refl)
+    ∙ take-at v Q (length u) (sym l)
 
 mid-length : (P Q u v : List ℕ) → length u ≡ length v → length (P ++ (u ++ Q)) ≡ length (P ++ (v ++ Q))
 mid-length P Q u v e =
     length-append P (u ++ Q) ∙ ap (λ (n : ℕ). length P + n) (length-append u Q ∙ ap (λ (n : ℕ). n + length Q) e ∙ sym (length-append v Q))
-        ∙ sym (length-append P (v ++ Q))
+    ∙ sym (length-append P (v ++ Q))
 
 -- ---- no mark: from the data to the record
 
@@ -132,12 +134,12 @@ cleaned-by x p q =
     let d : ℕ = length (x .content) in
     let n : d ≡ up8 d / 8 + (d - up8 d / 8) = omega arith in
     let r : Markless (up8 d / 8) (x .content) =
-        markless-fewer (up8 d / 8) (d - up8 d / 8) (x .content) (subst (λ (m : ℕ). Markless m (x .content)) n q) in
+    markless-fewer (up8 d / 8) (d - up8 d / 8) (x .content) (subst (λ (m : ℕ). Markless m (x .content)) n q) in
     let w : up8 (length (x .name) + 1) / 8 + up8 d / 8 ≡ rsize x / 8 - 1 = omega arith in
     subst (λ (m : ℕ). Markless m (body (x .name) (x .content) [])) w
     (markless-body (x .name) (x .content) p
     (subst (λ (s : List ℕ). Markless (up8 d / 8) (x .content ++ s)) (sym (append-nil (blanks (pad d))))
-        (markless-pad (up8 d / 8) (x .content) (pad d) r)))
+    (markless-pad (up8 d / 8) (x .content) (pad d) r)))
 
 -- ---- a record up to its data
 
@@ -184,7 +186,7 @@ module _ {im : Image} {h S : ℕ} {t : Bool} {x : Entry} {ys : List Entry} {seg 
   back c e =
       append-assoc (I .pre) (data-front (x .it) d) (c ++ Q)
       ∙ ap (λ (m : List ℕ). I .pre ++ m)
-          (ap (λ (n : ℕ). data-front (x .it) n ++ (c ++ (blanks (pad n) ++ I .post))) (sym e) ∙ sym (front-split (recontent c (x .it)) (I .post)))
+      (ap (λ (n : ℕ). data-front (x .it) n ++ (c ++ (blanks (pad n) ++ I .post))) (sym e) ∙ sym (front-split (recontent c (x .it)) (I .post)))
 
   start : im ≡ P ++ (content-of x ++ Q)
   start = I .is ∙ sym (back (content-of x) refl)
@@ -211,10 +213,10 @@ module _ {im : Image} {h S : ℕ} {t : Bool} {x : Entry} {ys : List Entry} {seg 
   all-clean c =
       let done : Clean-now d P (content-of x) Q (run im steps) =
       subst (λ (i : Image). Clean-now d P (content-of x) Q (run i steps)) (sym start)
-          (clean-done d (data-at x) P (content-of x) Q P-length (omega arith)) in
+      (clean-done d (data-at x) P (content-of x) Q P-length (omega arith)) in
       let same : done .now ≡ c .now = same-mid P Q (done .now) (c .now) (sym (done .is) ∙ c .is) (done .same-length ∙ sym (c .sized)) in
       cleaned-by (recontent (c .now) (x .it)) (I .fine .fit .printable)
-          (subst₂ (λ (n : ℕ) (s : List ℕ). Markless n s) (sym (c .sized)) same (done .markless))
+      (subst₂ (λ (n : ℕ) (s : List ℕ). Markless n s) (sym (c .sized)) same (done .markless))
 
 -- ---- step (c) on a laid image
 
@@ -232,7 +234,7 @@ pub record Cleans (l : Ledger) (im : Image) (ss : List Step) (h S B F : ℕ) (t 
 pub clean-data :
     {l : Ledger} {im : Image} {h S : ℕ} (B F : ℕ) {t : Bool} {x y : Entry} {es : List Entry} → good-length (length im) ≡ true →
     Laid im h S t (x ∷ y ∷ es) seg-none (blanks B) (blanks F) → Tail h S t seg-none (blanks B) (blanks F) S t → x .it .low ≡ 0 → alive x ≡ false
-        → y .it .low ≡ 0xA0 → Each Unmarked es →
+    → y .it .low ≡ 0xA0 → Each Unmarked es →
     Ok (x ∷ y ∷ es) l → Cleans l im (clean-steps (length (content-of x)) (data-at x) (content-of x)) h S B F t x y es
 clean-data {l} {im} {h} {S} B F {t} {x} {y} {es} g ld tl lx dead ly un ok = go (inside-of ld [] (y ∷ es) x refl)
   where

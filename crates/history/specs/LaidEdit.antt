@@ -54,7 +54,7 @@ module _ {im : Image} {h S : ℕ} {t : Bool} {es : List Entry} {seg : Seg} {belo
       go (laid-turned {low = low} {x = x} {ys = ys} s p q r b) =
           subst (Each (λ (e : Entry). Fine (e .it))) (sym r)
           (entries-fine h (x ∷ ys) (entries-of 0 low) (s .fine-high)
-              (subst (Each (λ (e : Entry). Fine (e .it))) (append-nil (entries-of 0 low)) (entries-fine 0 low [] (s .fine-low) tt)))
+          (subst (Each (λ (e : Entry). Fine (e .it))) (append-nil (entries-of 0 low)) (entries-fine 0 low [] (s .fine-low) tt)))
 
   -- free ends where the place's stretch does
   pub laid-limit : limit (place im h (S + seg-size seg) t) ≡ S + seg-size seg + length free
@@ -65,7 +65,7 @@ module _ {im : Image} {h S : ℕ} {t : Bool} {es : List Entry} {seg : Seg} {belo
           limit-by im h (S + seg-size seg) (S + seg-size seg + length free) t (λ u. absurd (not-both t p u)) (λ u. straight-length s ∙ omega arith)
       go (laid-turned s p q r b) =
           limit-by im h (S + seg-size seg) (S + seg-size seg + length free) t (λ u. omega (arith, s .at, s .lost-small, s .below, s .free-length))
-              (λ u. absurd (not-both t u p))
+          (λ u. absurd (not-both t u p))
 
   -- before the turn: the bytes below the head's sector
   pub laid-below : t ≡ false → length below ≡ floor h
@@ -109,7 +109,7 @@ module _ {im : Image} {h S : ℕ} {t : Bool} {es : List Entry} {seg : Seg} {belo
       go : Laid im h S t es seg below free → Inside im h S t xs e zs seg below free
       go (laid-straight {x = x} {ys = ys} f s p q r m n) =
           subst₂ (λ (n : ℕ) (u : Bool). Inside im h n u xs e zs seg below free) (sym q) (sym p)
-              (straight-inside s f m n (among h (x ∷ ys) xs zs e (sym r ∙ k)))
+          (straight-inside s f m n (among h (x ∷ ys) xs zs e (sym r ∙ k)))
       go (laid-turned {low = low} {x = x} {ys = ys} s p q r b) =
           subst (λ (g : List ℕ). Inside im h S t xs e zs seg g free) (sym b)
           (subst₂ (λ (n : ℕ) (u : Bool). Inside im h n u xs e zs seg [] free) (sym q) (sym p)
@@ -155,7 +155,7 @@ module _ {im : Image} {h S : ℕ} {t : Bool} {seg : Seg} {below free : List ℕ}
   } ∷ ys)) seg below free
   relow-laid b s l =
       subst (λ (l : List ℕ). Laid l h S t (xs ++ (record { at = e .at; it = relow b (e .it) } ∷ ys)) seg below free)
-          (sym (set-here 0 b) ∙ ap (λ (n : ℕ). set im n b) (add-zero (e .at)))
+      (sym (set-here 0 b) ∙ ap (λ (n : ℕ). set im n b) (add-zero (e .at)))
       (here .swap (relow b (e .it)) refl (record { low-ok = s; status-ok = here .fine .status-ok; fit = here .fine .fit }) l)
 
   -- the status byte as it is on the image
@@ -180,7 +180,7 @@ turn-laid {im} {h} {S} {B} {F} {es} (laid-straight {a = a} {x = x} {ys = ys} g s
     let k : B ≡ 4096 * a = sym (length-replicate {A = ℕ} B 0xFF) ∙ s .gap-length in
     subst (λ (i : ℕ). Laid (run im (moved i marker-steps)) h 0 true es seg-none [] (blanks B)) (sym q)
     (laid-turned {low = []} (turned-by s f (opens-blanks B (omega arith)) (omega arith)) refl refl (r ∙ sym (append-nil (entries-of h (x ∷ ys))))
-        refl)
+    refl)
 turn-laid (laid-turned s p q r e) f b = absurd (not-both false refl p)
 
 -- at N exactly
@@ -189,7 +189,7 @@ pub turn-exact : {im : Image} {h S B : ℕ} {es : List Entry} → Laid im h S fa
 turn-exact {B = B} (laid-straight {a = a} {x = x} {ys = ys} g s p q r m n) b =
     let k : B ≡ 4096 * a = sym (length-replicate {A = ℕ} B 0xFF) ∙ s .gap-length in
     laid-turned {low = []} (turned-exact s (opens-blanks B (omega arith)) (omega arith)) refl refl (r ∙ sym (append-nil (entries-of _ (x ∷ ys))))
-        refl
+    refl
 turn-exact (laid-turned s p q r e) b = absurd (not-both false refl p)
 
 -- the free run is words and has no mark

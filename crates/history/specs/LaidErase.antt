@@ -34,7 +34,7 @@ pub data Leaves (im : Image) (x y : Entry) (es : List Entry) : Type 0 where
   far :
       (A k S : ℕ) (t : Bool) → map erase (vacated (length im) x y) ≡ erases A (suc k) → A % 4096 ≡ 0 → A + 4096 * suc k ≤ length im →
       ((i : ℕ) → i ≤ k → Vacant (y .at) S t (y ∷ es) (run im (take (suc i) (erases A (suc k))))) → Bare (y .at) (y ∷ es) (run im (erases A (suc k)))
-          → Leaves im x y es
+      → Leaves im x y es
 
 -- ---- the sectors
 
@@ -50,7 +50,7 @@ vacated-none : (N : ℕ) (x y : Entry) → (y .at ≡ 0 → ⊥) → floor (y .a
 unfolding vacated-end
 vacated-none N x y n e =
     rw (vacated-end, ne-eqb (y .at) 0 n)
-        (no-map (sectors (floor (x .at)) (floor (y .at))) (sectors-are 0 (floor (x .at)) (floor (y .at)) (omega arith)))
+    (no-map (sectors (floor (x .at)) (floor (y .at))) (sectors-are 0 (floor (x .at)) (floor (y .at)) (omega arith)))
 
 vacated-all : (N : ℕ) (x y : Entry) (a k : ℕ) → y .at ≡ 0 → floor (x .at) ≡ 4096 * a → N ≡ 4096 * (a + suc k)
     → map erase (vacated N x y) ≡ erases (4096 * a) (suc k)
@@ -74,70 +74,70 @@ module _ {im : Image} {a l : ℕ} {lost : List ℕ} {h : ℕ} {x y : Rec} {ys : 
 
   module _ (k r : ℕ) (all : 512 * suc k + r ≡ l + rsize x / 8) (short : r < 512) (f : ℕ) (lf : length (blanks F) ≡ 8 * f)
       (qf : Markless f (blanks F))
-      where
-    abbrev A : ℕ
-    A = 4096 * a
+    where
+      abbrev A : ℕ
+      A = 4096 * a
 
-    abbrev q : List ℕ
-    q = old-head lost x []
+      abbrev q : List ℕ
+      q = old-head lost x []
 
-    abbrev rest : ℕ → List ℕ
-    rest i = take (4096 * (suc k - suc i)) (drop (4096 * suc i) q)
+      abbrev rest : ℕ → List ℕ
+      rest i = take (4096 * (suc k - suc i)) (drop (4096 * suc i) q)
 
-    sectors-in : A + 4096 * suc k ≤ length im
-    sectors-in = omega (arith, s .at, rsize-words x, straight-length s)
+      sectors-in : A + 4096 * suc k ≤ length im
+      sectors-in = omega (arith, s .at, rsize-words x, straight-length s)
 
-    all-ff : Straight (run im (erases A (suc k))) (a + suc k) r (blanks (B + 4096 * suc k)) (drop (4096 * suc k) q) (h + rsize x) (y ∷ ys) seg-none
-        (blanks F)
-    all-ff =
-        subst (λ (g : List ℕ). Straight (run im (erases A (suc k))) (a + suc k) r g (drop (4096 * suc k) q) (h + rsize x) (y ∷ ys) seg-none
-            (blanks F))
-        (replicate-append-replicate B (4096 * suc k) 0xFF) (straight-all-erased s c k r all short)
+      all-ff : Straight (run im (erases A (suc k))) (a + suc k) r (blanks (B + 4096 * suc k)) (drop (4096 * suc k) q) (h + rsize x) (y ∷ ys) seg-none
+          (blanks F)
+      all-ff =
+          subst (λ (g : List ℕ). Straight (run im (erases A (suc k))) (a + suc k) r g (drop (4096 * suc k) q) (h + rsize x) (y ∷ ys) seg-none
+          (blanks F))
+          (replicate-append-replicate B (4096 * suc k) 0xFF) (straight-all-erased s c k r all short)
 
-    -- something is free behind the records
-    straight-clear : (S : ℕ) → S ≡ h + sizes (x ∷ y ∷ ys) → 8 ≤ F → Leaves im X Y E
-    straight-clear S e h₈ =
-        far A k S false (vacated-are (length im) h x y a l k r (s .at) (s .lost-small) all short) (omega arith) sectors-in
-        (λ i p. vacant-at (laid-straight f (straight-erased s c k r all short i p) refl (omega arith) refl lf qf) F [] (sym (append-nil (blanks F)))
-        (omega (arith, good-is (length im) g .0, straight-length s, length-replicate {A = ℕ} F 0xFF)))
-        (record { S = S; B = B + 4096 * suc k; F = F; t = false; laid = laid-straight f all-ff refl (omega arith) refl lf qf; tail = clear-ff F h₈ })
+      -- something is free behind the records
+      straight-clear : (S : ℕ) → S ≡ h + sizes (x ∷ y ∷ ys) → 8 ≤ F → Leaves im X Y E
+      straight-clear S e h₈ =
+          far A k S false (vacated-are (length im) h x y a l k r (s .at) (s .lost-small) all short) (omega arith) sectors-in
+          (λ i p. vacant-at (laid-straight f (straight-erased s c k r all short i p) refl (omega arith) refl lf qf) F [] (sym (append-nil (blanks F)))
+          (omega (arith, good-is (length im) g .0, straight-length s, length-replicate {A = ℕ} F 0xFF)))
+          (record { S = S; B = B + 4096 * suc k; F = F; t = false; laid = laid-straight f all-ff refl (omega arith) refl lf qf; tail = clear-ff F h₈ })
 
-    -- the records end at N: the chain turns
-    straight-full : blanks F ≡ [] → Leaves im X Y E
-    straight-full z =
-        let u : Turned (run im (erases A (suc k))) (a + suc k) r (drop (4096 * suc k) q) (h + rsize x) [] seg-none (512 * (a + suc k))
-            (blanks (B + 4096 * suc k)) (y ∷ ys) exact =
-        turned-exact (subst (λ (m : List ℕ). Straight (run im (erases A (suc k))) (a + suc k) r (blanks (B + 4096 * suc k)) (drop (4096 * suc k) q)
-            (h + rsize x) (y ∷ ys) seg-none m) z all-ff)
-        (opens-blanks (B + 4096 * suc k) (omega arith)) (omega arith) in
-        let v : (i : ℕ) → i ≤ k →
-        Turned (run im (take (suc i) (erases A (suc k)))) (a + suc k) r (drop (4096 * suc k) q) (h + rsize x) [] seg-none (512 * (a + suc k))
-            (blanks B ++ half-erased (suc i) (suc k) q)
-        (y ∷ ys) exact =
-        λ i p. turned-exact (subst (λ (m : List ℕ). Straight (run im (take (suc i) (erases A (suc k)))) (a + suc k) r
-            (blanks B ++ half-erased (suc i) (suc k) q) (drop (4096 * suc k) q)
-        (h + rsize x) (y ∷ ys) seg-none m) z (straight-erased s c k r all short i p))
-        (open-ff (B + 4096 * suc i) (rest i) (blanks B ++ half-erased (suc i) (suc k) q)
-            (sym (split-front B (4096 * suc i) (B + (4096 * suc i)) (rest i) refl)) (omega arith))
-            (omega arith) in
-        far A k 0 true (vacated-are (length im) h x y a l k r (s .at) (s .lost-small) all short) (omega arith) sectors-in
-        (λ i p. vacant-at (laid-turned (v i p) refl refl (sym (append-nil (entries-of (h + rsize x) (y ∷ ys)))) refl) (B + 4096 * suc i) (rest i)
-            (sym (split-front B (4096 * suc i) (B + (4096 * suc i)) (rest i) refl)) (omega arith))
-        (record {
-          S = 0;
-          B = 0;
-          F = B + 4096 * suc k;
-          t = true;
-          laid = laid-turned u refl refl (sym (append-nil (entries-of (h + rsize x) (y ∷ ys)))) refl;
-          tail = clear-ff (B + 4096 * suc k) (omega arith);
-        })
+      -- the records end at N: the chain turns
+      straight-full : blanks F ≡ [] → Leaves im X Y E
+      straight-full z =
+          let u : Turned (run im (erases A (suc k))) (a + suc k) r (drop (4096 * suc k) q) (h + rsize x) [] seg-none (512 * (a + suc k))
+          (blanks (B + 4096 * suc k)) (y ∷ ys) exact =
+          turned-exact (subst (λ (m : List ℕ). Straight (run im (erases A (suc k))) (a + suc k) r (blanks (B + 4096 * suc k)) (drop (4096 * suc k) q)
+          (h + rsize x) (y ∷ ys) seg-none m) z all-ff)
+          (opens-blanks (B + 4096 * suc k) (omega arith)) (omega arith) in
+          let v : (i : ℕ) → i ≤ k →
+          Turned (run im (take (suc i) (erases A (suc k)))) (a + suc k) r (drop (4096 * suc k) q) (h + rsize x) [] seg-none (512 * (a + suc k))
+          (blanks B ++ half-erased (suc i) (suc k) q)
+          (y ∷ ys) exact =
+          λ i p. turned-exact (subst (λ (m : List ℕ). Straight (run im (take (suc i) (erases A (suc k)))) (a + suc k) r
+          (blanks B ++ half-erased (suc i) (suc k) q) (drop (4096 * suc k) q)
+          (h + rsize x) (y ∷ ys) seg-none m) z (straight-erased s c k r all short i p))
+          (open-ff (B + 4096 * suc i) (rest i) (blanks B ++ half-erased (suc i) (suc k) q)
+          (sym (split-front B (4096 * suc i) (B + (4096 * suc i)) (rest i) refl)) (omega arith))
+          (omega arith) in
+          far A k 0 true (vacated-are (length im) h x y a l k r (s .at) (s .lost-small) all short) (omega arith) sectors-in
+          (λ i p. vacant-at (laid-turned (v i p) refl refl (sym (append-nil (entries-of (h + rsize x) (y ∷ ys)))) refl) (B + 4096 * suc i) (rest i)
+          (sym (split-front B (4096 * suc i) (B + (4096 * suc i)) (rest i) refl)) (omega arith))
+          (record {
+            S = 0;
+            B = 0;
+            F = B + 4096 * suc k;
+            t = true;
+            laid = laid-turned u refl refl (sym (append-nil (entries-of (h + rsize x) (y ∷ ys)))) refl;
+            tail = clear-ff (B + 4096 * suc k) (omega arith);
+          })
 
-    straight-far : (S : ℕ) → S ≡ h + sizes (x ∷ y ∷ ys) → Tail h S false seg-none (blanks B) (blanks F) S false → Leaves im X Y E
-    straight-far S e (tail-clear s₈ p i j) =
-        straight-clear S e (omega (arith, ap length p, length-append (blanks 8) s₈, length-replicate {A = ℕ} F 0xFF))
-    straight-far S e (tail-floor p i j m) = let z : _≡_ {A = ℕ} 0 1 = cc in absurd (omega arith)
-    straight-far S e (tail-N p i j m n) = straight-full p
-    straight-far S e (tail-turn s₈ p i j m n o) = absurd (j refl)
+      straight-far : (S : ℕ) → S ≡ h + sizes (x ∷ y ∷ ys) → Tail h S false seg-none (blanks B) (blanks F) S false → Leaves im X Y E
+      straight-far S e (tail-clear s₈ p i j) =
+          straight-clear S e (omega (arith, ap length p, length-append (blanks 8) s₈, length-replicate {A = ℕ} F 0xFF))
+      straight-far S e (tail-floor p i j m) = let z : _≡_ {A = ℕ} 0 1 = cc in absurd (omega arith)
+      straight-far S e (tail-N p i j m n) = straight-full p
+      straight-far S e (tail-turn s₈ p i j m n o) = absurd (j refl)
 
   straight-leaves : (f : ℕ) → length (blanks F) ≡ 8 * f → Markless f (blanks F) → (S : ℕ) → S ≡ h + sizes (x ∷ y ∷ ys)
       → Tail h S false seg-none (blanks B) (blanks F) S false → Leaves im X Y E
@@ -170,17 +170,17 @@ module _ {im : Image} {a l : ℕ} {lost : List ℕ} {h : ℕ} {low : List Rec} {
       let q : List ℕ = old-head lost x [] in
       let rest : ℕ → List ℕ = λ i. take (4096 * (suc k - suc i)) (drop (4096 * suc i) q) in
       let last : Turned (run im (erases A (suc k))) (a + suc k) r (drop (4096 * suc k) q) (h + rsize x) low seg-none (f + 512 * suc k)
-          (blanks (F + 4096 * suc k)) (y ∷ ys) end =
+      (blanks (F + 4096 * suc k)) (y ∷ ys) end =
       subst (λ (m : List ℕ). Turned (run im (erases A (suc k))) (a + suc k) r (drop (4096 * suc k) q) (h + rsize x) low seg-none (f + 512 * suc k) m
-          (y ∷ ys) end)
+      (y ∷ ys) end)
       (ap (λ (m : List ℕ). blanks F ++ m) (all-erased (suc k) q) ∙ replicate-append-replicate F (4096 * suc k) 0xFF)
       (subst (λ (ss : List Step). Turned (run im ss) (a + suc k) r (drop (4096 * suc k) q) (h + rsize x) low seg-none (f + 512 * suc k)
-          (blanks F ++ half-erased (suc k) (suc k) q) (y ∷ ys) end)
+      (blanks F ++ half-erased (suc k) (suc k) q) (y ∷ ys) end)
       (take-erases (suc k) (suc k) A (omega arith)) (turned-erased s c k r all short k (omega arith))) in
       far A k (sizes low) true (vacated-are (length im) h x y a l k r (s .at) (s .lost-small) all short) (omega arith)
-          (omega (arith, s .at, rsize-words x, turned-length s))
+      (omega (arith, s .at, rsize-words x, turned-length s))
       (λ i e. vacant-at (laid-turned (turned-erased s c k r all short i e) refl refl refl refl) (F + 4096 * suc i) (rest i)
-          (sym (split-front F (4096 * suc i) (F + (4096 * suc i)) (rest i) refl)) (omega (arith, s .below, F-is)))
+      (sym (split-front F (4096 * suc i) (F + (4096 * suc i)) (rest i) refl)) (omega (arith, s .below, F-is)))
       (record {
         S = sizes low;
         B = 0;
@@ -236,7 +236,7 @@ module _ {im : Image} {a l : ℕ} {lost : List ℕ} {h : ℕ} {y : Rec} {low : L
       rw (body-is (x .name) (x .content) (end-bytes end))
       (subst (λ (j : ℕ). Markless j (body (x .name) (x .content) [] ++ end-bytes end)) w
       (markless-append (rsize x / 8 - 1) e (body (x .name) (x .content) []) (end-bytes end)
-          (omega (arith, length-body (x .name) (x .content) [], rsize-words x)) c (end-markless end e m)))
+      (omega (arith, length-body (x .name) (x .content) [], rsize-words x)) c (end-markless end e m)))
 
   behind-length : (k : ℕ) → length im ≡ 4096 * (a + suc k) → length (old-head lost x (end-bytes end)) ≡ 4096 * suc k
   unfolding old-head
@@ -254,11 +254,11 @@ module _ {im : Image} {a l : ℕ} {lost : List ℕ} {h : ℕ} {y : Rec} {low : L
       λ i p. length-append (blanks F) (half-erased (suc i) (suc k) q)
       ∙ omega (arith, half-erased-length (suc i) (suc k) q (omega arith) (omega (arith, behind-length k n)), length-replicate {A = ℕ} F 0xFF, F₂) in
       let laid : (i : ℕ) → i ≤ k
-          → Laid (run im (take (suc i) (erases A (suc k)))) 0 S false (Y₂ ∷ E₂) seg-none [] (blanks F ++ half-erased (suc i) (suc k) q) =
+      → Laid (run im (take (suc i) (erases A (suc k)))) 0 S false (Y₂ ∷ E₂) seg-none [] (blanks F ++ half-erased (suc i) (suc k) q) =
       λ i p. laid-straight (f + 512 * suc k) (zero-erased s k n b i p) refl refl refl (long i p) (zero-markless s k n b i p) in
       far A k S false (vacated-all (length im) X₂ Y₂ a k refl (omega (arith, s .at, s .lost-small)) n) (omega arith) (omega arith)
       (λ i p. vacant-at (laid i p) (F + 4096 * suc i) (rest i) (sym (split-front F (4096 * suc i) (F + (4096 * suc i)) (rest i) refl))
-          (omega (arith, s .below, F₂)))
+      (omega (arith, s .below, F₂)))
       (record {
         S = S;
         B = 0;
@@ -268,7 +268,7 @@ module _ {im : Image} {a l : ℕ} {lost : List ℕ} {h : ℕ} {y : Rec} {low : L
             subst (λ (m : List ℕ). Laid (run im (erases A (suc k))) 0 S false (Y₂ ∷ E₂) seg-none [] m)
             (ap (λ (m : List ℕ). blanks F ++ m) (all-erased (suc k) q) ∙ replicate-append-replicate F (4096 * suc k) 0xFF)
             (subst (λ (ss : List Step). Laid (run im ss) 0 S false (Y₂ ∷ E₂) seg-none [] (blanks F ++ half-erased (suc k) (suc k) q))
-                (take-erases (suc k) (suc k) A (omega arith))
+            (take-erases (suc k) (suc k) A (omega arith))
             (laid k (omega arith)));
         tail = clear-ff (F + 4096 * suc k) (omega arith);
       })
@@ -294,7 +294,7 @@ leaves {im} {h} {S} B F {t} {x} {y} {es} g (laid-straight {a} {l} {lost} {x = x�
     go [] s e p = let z : _≡_ {A = ℕ} 0 1 = cc in absurd (omega arith)
     go (y₀ ∷ ys) s e p =
         subst (Leaving im) (sym p)
-            (λ c. straight-leaves B F s c g f lf qf S e (subst (λ (b : Bool). Tail h S b seg-none (blanks B) (blanks F) S b) t₁ tl))
+        (λ c. straight-leaves B F s c g f lf qf S e (subst (λ (b : Bool). Tail h S b seg-none (blanks B) (blanks F) S b) t₁ tl))
 leaves {im} {h} {S} B F {t} {x} {y} {es} g (laid-turned {a} {l} {f} {lost} {low} {x = x₀} {ys} {end} s t₁ S₁ e₁ b) tl = go ys low s e₁
   where
     go : (ys low : List Rec) → Turned im a l lost h low seg-none f (blanks F) (x₀ ∷ ys) end → x ∷ y ∷ es ≡ entries-of h (x₀ ∷ ys) ++ entries-of 0 low

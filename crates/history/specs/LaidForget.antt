@@ -112,7 +112,7 @@ forget-laid {im} {h} {S} {t} {x} {y} {es} {seg} {below} {free} (laid-straight {a
     go [] s S₁ e = let z : _≡_ {A = ℕ} 0 1 = cc in absurd (omega arith)
     go (y₀ ∷ ys) s S₁ e =
         subst (Forgets im h S t seg below free) (sym e)
-            (λ c n. laid-straight f (forget s c (omega (arith, n, s .at, s .lost-small, rsize-words x₀))) t₁ (omega arith) refl lf qf)
+        (λ c n. laid-straight f (forget s c (omega (arith, n, s .at, s .lost-small, rsize-words x₀))) t₁ (omega arith) refl lf qf)
 forget-laid {im} {h} {S} {t} {x} {y} {es} {seg} {below} {free} (laid-turned {a} {l} {f} {lost} {low} {x = x₀} {ys} {end} s t₁ S₁ es₁ b) =
     go ys low s S₁ es₁
   where
@@ -123,4 +123,4 @@ forget-laid {im} {h} {S} {t} {x} {y} {es} {seg} {below} {free} (laid-turned {a} 
     go [] (r ∷ low) s S₁ e = subst (Forgets im h S t seg below free) (sym e) (λ c n. absurd (omega (arith, n, s .at, s .lost-small, s .some-below)))
     go (y₀ ∷ ys) low s S₁ e =
         subst (Forgets im h S t seg below free) (sym e)
-            (λ c n. laid-turned (forget-turned s c (omega (arith, n, s .at, s .lost-small, rsize-words x₀))) t₁ S₁ refl b)
+        (λ c n. laid-turned (forget-turned s c (omega (arith, n, s .at, s .lost-small, rsize-words x₀))) t₁ S₁ refl b)

@@ -47,7 +47,7 @@ low-done {im} {h} {S} {es} {below} {free} (laid-straight {a} {l} {lost} {x} {ys}
     (record {
       is =
           ap (λ (i : Image). run i (mend-steps im B 0 B)) (s .is)
-              ∙ mend-done a B 0 B [] [] below Z refl refl (s .gap-length) (omega arith) (omega arith) im (s .is)
+          ∙ mend-done a B 0 B [] [] below Z refl refl (s .gap-length) (omega arith) (omega arith) im (s .is)
           ∙ ap (λ (m : ℕ). blanks m ++ Z) (sym b);
       at = s .at;
       gap-length = length-replicate {A = ℕ} B 0xFF ∙ b;
@@ -65,14 +65,14 @@ low-done (laid-turned s t₁ S₁ e₁ b) B n = let z : _≡_ {A = ℕ} 0 1 = cc
 opened-up : (p post free : List ℕ) (c : ℕ) → take c free ≡ blanks c → p ++ (free ++ post) ≡ (p ++ blanks c) ++ (drop c free ++ post)
 opened-up p post free c e =
     ap (λ (l : List ℕ). p ++ (l ++ post)) (sym (take-append-drop c free) ∙ ap (λ (l : List ℕ). l ++ drop c free) e)
-        ∙ ap (λ (l : List ℕ). p ++ l) (append-assoc (blanks c) (drop c free) post)
+    ∙ ap (λ (l : List ℕ). p ++ l) (append-assoc (blanks c) (drop c free) post)
     ∙ sym (append-assoc p (blanks c) (drop c free ++ post))
 
 -- the sectors behind T
 high-done : {im : Image} {h S : ℕ} {t : Bool} {es : List Entry} {below free : List ℕ} (d : Laid im h S t es seg-none below free) (im₀ : Image)
     (pre₀ : List ℕ) →
     im₀ ≡ pre₀ ++ (free ++ hole-of d .post) → length pre₀ ≡ S → (c k lim : ℕ) → S + c ≡ ceiling S → take c free ≡ blanks c
-        → ceiling S + 4096 * k ≡ lim → S + length free ≡ lim →
+    → ceiling S + 4096 * k ≡ lim → S + length free ≡ lim →
     8 ≤ length free → Laid (run im (mend-steps im₀ lim (ceiling S) lim)) h S t es seg-none below (blanks (length free))
 high-done {im} {h} {S} {t} {es} {below} {free} d im₀ pre₀ i₀ l₀ c k lim sc cb kl fl e₈ =
     let K : Hole im h S t es seg-none below free = hole-of d in
@@ -86,12 +86,12 @@ high-done {im} {h} {S} {t} {es} {below} {free} d im₀ pre₀ i₀ l₀ c k lim 
     (length-append (K .pre) (blanks c) ∙ omega (arith, K .at))
     (length-drop c free ∙ omega arith) kl (omega arith) im₀ (i₀ ∙ opened-up pre₀ (K .post) free c cb)
     ∙ append-assoc (K .pre) (blanks c) (blanks (4096 * k) ++ K .post)
-        ∙ ap (λ (l : List ℕ). K .pre ++ l)
-            (sym (split-front c (4096 * k) (c + (4096 * k)) (K .post) refl) ∙ ap (λ (m : ℕ). blanks m ++ K .post) n) in
+    ∙ ap (λ (l : List ℕ). K .pre ++ l)
+    (sym (split-front c (4096 * k) (c + (4096 * k)) (K .post) refl) ∙ ap (λ (m : ℕ). blanks m ++ K .post) n) in
     let lF : length (blanks F) ≡ F = length-replicate {A = ℕ} F 0xFF in
     subst (λ (i : Image). Laid i h S t es seg-none below (blanks F)) (sym e)
     (K .plug seg-none (f .0) (blanks F) Next.Clear (lF ∙ f .1) (markless-ff (f .0) (blanks F) (ap blanks (f .1))) (opens-blanks F e₈)
-        (ap (λ (m : ℕ). 0 + m) lF))
+    (ap (λ (m : ℕ). 0 + m) lF))
 
 turned-below : {im : Image} {h S : ℕ} {es : List Entry} {below free : List ℕ} → Laid im h S true es seg-none below free → below ≡ []
 turned-below (laid-straight f s t₁ S₁ e₁ lf qf) = let n : _≡_ {A = ℕ} 0 1 = cc in absurd (omega arith)
@@ -112,7 +112,7 @@ module _ {im : Image} {h S : ℕ} {es : List Entry} (g : length im % 4096 ≡ 0)
       let k : ℕ = (floor h - ceiling S) / 4096 in
       let K : Hole im h S true es seg-none (v .below) (v .free) = hole-of (v .laid) in
       let e : take c (v .free) ≡ blanks c = ap (take c) (vacant-free v)
-          ∙ take-blanks c (v .m) (drop (v .m) (v .free)) (omega (arith, v .own)) in
+      ∙ take-blanks c (v .m) (drop (v .m) (v .free)) (omega (arith, v .own)) in
       record {
         S = S;
         B = 0;
@@ -120,9 +120,9 @@ module _ {im : Image} {h S : ℕ} {es : List Entry} (g : length im % 4096 ≡ 0)
         t = true;
         laid =
             subst (λ (b : List ℕ). Laid (run im (mend-steps im (floor h) (ceiling S) (floor h))) h S true es seg-none b (blanks (length (v .free))))
-                (turned-below (v .laid))
+            (turned-below (v .laid))
             (high-done (v .laid) im (K .pre) (K .is) (K .at) c k (floor h) (omega arith) e
-                (omega (arith, v .own, v .whole)) (sym L)
+            (omega (arith, v .own, v .whole)) (sym L)
             (omega (arith, vacant-long v, v .whole)));
         tail = clear-ff (length (v .free)) (omega (arith, vacant-long v, v .whole));
       }
@@ -133,15 +133,15 @@ module _ {im : Image} {h S : ℕ} {es : List Entry} (g : length im % 4096 ≡ 0)
       let k : ℕ = (N - ceiling S) / 4096 in
       let K : Hole im h S false es seg-none (v .below) (v .free) = hole-of (v .laid) in
       let e : take c (v .free) ≡ blanks c = ap (take c) (vacant-free v)
-          ∙ take-blanks c (v .m) (drop (v .m) (v .free)) (omega (arith, v .own)) in
+      ∙ take-blanks c (v .m) (drop (v .m) (v .free)) (omega (arith, v .own)) in
       let low : List Step = mend-steps im (floor h) 0 (floor h) in
       let high : List Step = mend-steps im N (ceiling S) N in
       let d : Laid (run im low) h S false es seg-none (blanks (floor h)) (v .free) = low-done (v .laid) (floor h) refl in
       let is : im ≡ K .pre ++ (v .free ++ hole-of d .post) = K .is
-          ∙ ap (λ (l : List ℕ). K .pre ++ (v .free ++ l)) (post-none (v .laid) ∙ sym (post-none d)) in
+      ∙ ap (λ (l : List ℕ). K .pre ++ (v .free ++ l)) (post-none (v .laid) ∙ sym (post-none d)) in
       let ss : map erase (keep (dirty im) (sectors 0 (floor h) ++ sectors (ceiling S) N)) ≡ low ++ high =
       ap (map erase) (keep-append (dirty im) (sectors 0 (floor h)) (sectors (ceiling S) N))
-          ∙ map-append erase (keep (dirty im) (sectors 0 (floor h))) (keep (dirty im) (sectors (ceiling S) N)) in
+      ∙ map-append erase (keep (dirty im) (sectors 0 (floor h))) (keep (dirty im) (sectors (ceiling S) N)) in
       subst (λ (i : Image). Bare h es i) (sym (ap (run im) ss ∙ run-append im low high))
       (record {
         S = S;
@@ -150,7 +150,7 @@ module _ {im : Image} {h S : ℕ} {es : List Entry} (g : length im % 4096 ≡ 0)
         t = false;
         laid =
             high-done d im (K .pre) is (K .at) c k N (omega arith) e (omega (arith, v .own, v .whole)) (sym L)
-                (omega (arith, vacant-long v, v .whole));
+            (omega (arith, vacant-long v, v .whole));
         tail = clear-ff (length (v .free)) (omega (arith, vacant-long v, v .whole));
       })
 
@@ -180,7 +180,7 @@ full-steps {im} {h} {S} {free = free} true d f g z =
 full-steps {im} {h} {S} {free = free} false d f g z =
     let L : length im ≡ S + length free = limit-is d in
     ap₂ (λ (xs ys : List ℕ). map erase (keep (dirty im) (xs ++ ys))) (sectors-nil 0 (floor h) (sym (z refl)))
-        (sectors-nil (ceiling S) (length im) (omega (arith, ap length f)))
+    (sectors-nil (ceiling S) (length im) (omega (arith, ap length f)))
 
 full-below : {im : Image} {h S : ℕ} {es : List Entry} {below free : List ℕ} (t : Bool) → Laid im h S t es seg-none below free
     → (t ≡ false → floor h ≡ 0) → below ≡ []

@@ -71,19 +71,19 @@ tail-turned {t = t} e (tail-turn w ef e₁ n eb eT eu) = absurd (not-both t e₁
 module _ {im : Image} {h S : ℕ} {t : Bool} {es : List Entry} {seg : Seg} {under free : List ℕ} where
   straight-reads :
       {a l : ℕ} {lost : List ℕ} {x : Rec} {ys : List Rec} {T : ℕ} {u : Bool} → Straight im a l under lost h (x ∷ ys) seg free → t ≡ false
-          → S ≡ h + sizes (x ∷ ys) →
+      → S ≡ h + sizes (x ∷ ys) →
       es ≡ entries-of h (x ∷ ys) → Tail h S t seg under free T u → reading-from im h ≡ read (length im) h T u (es ++ seg-entries S seg) Ending.Tail
   straight-reads {a} {l} {lost} {x} {ys} {T} {u} s et eS ee (tail-clear w ef eT eu) =
       straight-reading s (h + sizes (x ∷ ys) + seg-size seg) (seg-open seg) (seg-entries (h + sizes (x ∷ ys)) seg)
       (seg-ends Next.Clear (h + sizes (x ∷ ys)) seg free
       (λ o k. ap (chain (suc k) o (h + sizes (x ∷ ys) + seg-size seg)) ef ∙ stops-clear (h + sizes (x ∷ ys) + seg-size seg) w o k))
       ∙ read-same (sym (eT ∙ ap (λ (n : ℕ). n + seg-size seg) eS)) (sym (eu ∙ et))
-          (sym (ap₂ (λ (m : List Entry) (n : ℕ). m ++ seg-entries n seg) ee eS))
+      (sym (ap₂ (λ (m : List Entry) (n : ℕ). m ++ seg-entries n seg) ee eS))
   straight-reads s et eS ee (tail-floor ef e₁ eT eu) = absurd (not-both t et e₁)
   straight-reads {a} {l} {lost} {x} {ys} {T} {u} s et eS ee (tail-N ef e₁ z eT eu) =
       rw (s .is)
       (shape-full [] (x ∷ ys) under lost (seg-onto seg free) h (below s) (here s) tt (s .fine) (omega arith) (seg-entries (h + sizes (x ∷ ys)) seg)
-          (seg-open seg)
+      (seg-open seg)
       (h + sizes (x ∷ ys) + seg-size seg) z
       (seg-ends Next.Over (h + sizes (x ∷ ys)) seg free
       (λ o k. ap (chain (suc k) o (h + sizes (x ∷ ys) + seg-size seg)) ef ∙ stops-over (h + sizes (x ∷ ys) + seg-size seg) o k)))
@@ -93,7 +93,7 @@ module _ {im : Image} {h S : ℕ} {t : Bool} {es : List Entry} {seg : Seg} {unde
       (shape-last [] (x ∷ ys) under lost (seg-onto seg free) h (below s) (here s) tt (s .fine) (omega arith) (seg-entries (h + sizes (x ∷ ys)) seg)
       (h + sizes (x ∷ ys) + seg-size seg) (λ z. omega (arith, ap length eb, s .gap-length, bottom s)) refl
       (subst (λ (b : Bool). Ends (h + sizes (x ∷ ys)) (seg-onto seg free)
-          (chain-of (seg-entries (h + sizes (x ∷ ys)) seg) b (h + sizes (x ∷ ys) + seg-size seg) Next.Over)) (open-or seg n)
+      (chain-of (seg-entries (h + sizes (x ∷ ys)) seg) b (h + sizes (x ∷ ys) + seg-size seg) Next.Over)) (open-or seg n)
       (seg-ends Next.Over (h + sizes (x ∷ ys)) seg free
       (λ o k. ap (chain (suc k) o (h + sizes (x ∷ ys) + seg-size seg)) ef ∙ stops-over (h + sizes (x ∷ ys) + seg-size seg) o k)))
       low-clear (λ o k. ap (chain (suc k) o 0) eb ∙ stops-clear 0 w o k))
@@ -108,7 +108,7 @@ module _ {im : Image} {h S : ℕ} {t : Bool} {es : List Entry} {seg : Seg} {unde
       turned-reading s
       ∙ read-same (sym (k .0 ∙ ap (λ (n : ℕ). n + seg-size seg) eS)) (sym (k .1))
       (sym (ap₂ (λ (m : List Entry) (n : ℕ). m ++ seg-entries n seg) ee eS
-          ∙ append-assoc (entries-of h (x ∷ ys)) (entries-of 0 low) (seg-entries (sizes low) seg)))
+      ∙ append-assoc (entries-of h (x ∷ ys)) (entries-of 0 low) (seg-entries (sizes low) seg)))
 
 -- ---- the head is found
 
@@ -132,7 +132,7 @@ clean-first [] free rest x o n f m = go o n
 
 clean-found :
     {im : Image} {h S : ℕ} {t : Bool} {x : Entry} {es : List Entry} {under free : List ℕ} → Laid im h S t (x ∷ es) seg-none under free
-        → x .it .low ≡ 0xA0 → Each Unmarked es → head im ≡ give h
+    → x .it .low ≡ 0xA0 → Each Unmarked es → head im ≡ give h
 clean-found {im = im} {h = h} (laid-straight {x = y} {ys = ys} f s et eS ee lf qf) l m = go (eqb h 0) refl
   where
     low : y .low ≡ 0xA0
@@ -141,9 +141,11 @@ clean-found {im = im} {h = h} (laid-straight {x = y} {ys = ys} f s et eS ee lf q
     go : (b : Bool) → eqb h 0 ≡ b → head im ≡ give h
     go true k =
         let z : h ≡ 0 = eqb-true h 0 k in
-        straight-none s f z low
-        (subst (Walks 0) (sym low) walks-clean, walked-plain ys (0 + rsize y) (s .fine .1)
-            (subst (λ (n : ℕ). Each Unmarked (entries-of (n + rsize y) ys)) z (subst (Each Unmarked) (cons-rest ee) m)))
+        straight-none s f z low (
+          subst (Walks 0) (sym low) walks-clean,
+          walked-plain ys (0 + rsize y) (s .fine .1)
+              (subst (λ (n : ℕ). Each Unmarked (entries-of (n + rsize y) ys)) z (subst (Each Unmarked) (cons-rest ee) m)),
+        )
         refl lf qf
     go false k = straight-clean s (eqb-false h 0 k) low
 clean-found {h = h} (laid-turned {f = f} {low = low} {x = y} {ys = ys} {end = end} s et eS ee eb) l m =

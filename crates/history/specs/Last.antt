@@ -133,7 +133,7 @@ pub ends-whole : {d : Chain} (at : ℕ) (n c s : List ℕ) → Fit (length c) n 
     Ends at (onto (held n c) s) (add (record { at = at; it = held n c }) d)
 ends-whole at n c s f e =
     ends-held at (length n) (length c) (onto (held n c) s) s (held n c) (next-reserved _ _ _ _ _ ∙ record-at-onto true (held n c) s f) unfinished-fe
-        (rec-of-onto (held n c) s)
+    (rec-of-onto (held n c) s)
     (drop-onto (held n c) s) e
 
 -- reserved, with a cut name, and as many FF as make its size
@@ -179,4 +179,4 @@ pub ends-begun : {c : Chain} (at d : ℕ) (n s : List ℕ) → Fit d n → ((k :
     Ends at (begun d n s) (add (record { at = at; it = cut-rec d n }) c)
 ends-begun at d n s f e =
     ends-held at (length n) d (begun d n s) s (cut-rec d n) (next-reserved _ _ _ _ _ ∙ record-at-begun d n s f) unfinished-fe (rec-of-begun d n s)
-        (drop-begun d n s) e
+    (drop-begun d n s) e

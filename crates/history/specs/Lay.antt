@@ -183,10 +183,14 @@ pub record-at-onto : (held : Bool) (r : Rec) (s : List ℕ) → Fit (length (r .
     → record-at held (onto r s) ≡ Next.Record (length (r .name)) (length (r .content))
 record-at-onto held r s f =
     record-at-laid held (r .low) 0x5A (r .status) 0xFF 0 (length (r .content)) (r .name)
-        (blanks (pad (length (r .name) + 1)) ++ padded (r .content) s) f
-        (ends-zero held)
-    (omega (arith, length-body (r .name) (r .content) s, length-append (r .name)
-        (0 ∷ (blanks (pad (length (r .name) + 1)) ++ padded (r .content) s))))
+    (blanks (pad (length (r .name) + 1)) ++ padded (r .content) s) f
+    (ends-zero held)
+    (omega (
+      arith,
+      length-body (r .name) (r .content) s,
+      length-append (r .name)
+          (0 ∷ (blanks (pad (length (r .name) + 1)) ++ padded (r .content) s)),
+    ))
 
 -- the magic of a record, with any low byte that it may have
 low-written : {b : ℕ} → Low b → (st : ℕ) → written-kind b 0x5A st ≡ record-kind st
@@ -226,7 +230,7 @@ rec-of-onto r s = rw (drop-name (r .name) (r .content) s, take-append-seam (r .n
 -- the chain over one record
 pub chain-record : (k at n d : ℕ) (s : List ℕ) → next s ≡ Next.Record n d →
     chain (suc k) false at s ≡ add (record { at = at; it = rec-of s n d })
-        (chain k (is-unfinished (status-of s)) (at + size-of n d) (drop (size-of n d) s))
+    (chain k (is-unfinished (status-of s)) (at + size-of n d) (drop (size-of n d) s))
 unfolding chain
 chain-record k at n d s e = rw (e, chain)
 
@@ -236,8 +240,13 @@ chain-onto : (r : Rec) (k at : ℕ) (s : List ℕ) → Fine r → chain (suc k) 
   it = r;
 }) (chain k false (at + rsize r) s)
 chain-onto r k at s f =
-    rw (chain-record k at (length (r .name)) (length (r .content)) (onto r s) (next-onto r s f), rec-of-onto r s, drop-onto r s, finished
-        (f .status-ok))
+    rw (
+      chain-record k at (length (r .name)) (length (r .content)) (onto r s) (next-onto r s f),
+      rec-of-onto r s,
+      drop-onto r s,
+      finished
+          (f .status-ok),
+    )
 
 -- the chain over all of them
 pub chain-lay : (rs : List Rec) (k at : ℕ) (s : List ℕ) → All-fine rs →
@@ -257,7 +266,7 @@ pub lay-is : (rs : List Rec) (s : List ℕ) → lay rs s ≡ lay rs [] ++ s
 lay-is [] s = refl
 lay-is (r ∷ rs) s =
     ap (onto r) (lay-is rs s) ∙ onto-is r (lay rs [] ++ s) ∙ sym (append-assoc (onto r []) (lay rs []) s)
-        ∙ ap (λ (l : List ℕ). l ++ s) (sym (onto-is r (lay rs [])))
+    ∙ ap (λ (l : List ℕ). l ++ s) (sym (onto-is r (lay rs [])))
 
 -- more behind what follows
 pub lay-past : (rs : List Rec) (s t : List ℕ) → lay rs s ++ t ≡ lay rs (s ++ t)

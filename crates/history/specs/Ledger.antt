@@ -51,7 +51,7 @@ module _ {A : Type 0} where
       subst (λ (z : A). List·Permᴰ (keep p (x ∷ xs)) (keep p (z ∷ ys))) e (keep-cons p x xs ys (perm-keep p d))
   perm-keep p (List·Permᴰ·swap {a = x} {b = y} {a′ = u} {b′ = v} {l = l} e f) =
       subst (λ (z : A). List·Permᴰ (keep p (x ∷ y ∷ l)) (keep p (z ∷ v ∷ l))) f
-          (subst (λ (z : A). List·Permᴰ (keep p (x ∷ y ∷ l)) (keep p (y ∷ z ∷ l))) e (keep-swap p x y l))
+      (subst (λ (z : A). List·Permᴰ (keep p (x ∷ y ∷ l)) (keep p (y ∷ z ∷ l))) e (keep-swap p x y l))
   perm-keep p (List·Permᴰ·trans d e) = List·Permᴰ·trans (perm-keep p d) (perm-keep p e)
 
   -- what holds of each, in another order
@@ -91,5 +91,5 @@ contents-one e h = rw (keep-yes alive e [] h)
 pub matches-dead : (xs ys : List Entry) (e : Entry) (l : Ledger) → alive e ≡ false → Matches (xs ++ ys) l → Matches (xs ++ (e ∷ ys)) l
 matches-dead xs ys e l a m =
     subst (λ (fs : List File). List·Permᴰ fs l)
-        (contents-append xs ys ∙ ap (λ (fs : List Entry). contents xs ++ map as-file fs) (sym (keep-no alive e ys a))
-        ∙ sym (contents-append xs (e ∷ ys))) m
+    (contents-append xs ys ∙ ap (λ (fs : List Entry). contents xs ++ map as-file fs) (sym (keep-no alive e ys a))
+    ∙ sym (contents-append xs (e ∷ ys))) m

@@ -84,5 +84,5 @@ pub torn-reading : (k : ℕ) {im : List ℕ} {a l : ℕ} {gap lost : List ℕ} {
 torn-reading k {im} {a} {l} {gap} {lost} {h} {c} {x} {ys} s b z =
     rw (s .is)
     (shape-torn-wrap [] (x ∷ ys) gap lost (torn-wrap c k) h (zero-add (length gap) ∙ s .gap-length ∙ sym (bottom s))
-        (omega (arith, bottom s, s .at, s .lost-length)) tt (s .fine) (omega arith)
+    (omega (arith, bottom s, s .at, s .lost-length)) tt (s .fine) (omega arith)
     (h + sizes (x ∷ ys)) (λ w. omega (arith, bottom s)) (ends-torn-wrap (h + sizes (x ∷ ys)) k b))

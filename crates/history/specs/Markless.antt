@@ -65,8 +65,11 @@ pub markless-append : (j k : ℕ) (p s : List ℕ) → length p ≡ 8 * j → Ma
 markless-append zero k [] s e q r = rw zero-add r
 markless-append zero k (x ∷ p) s e q r = absurd (omega arith)
 markless-append (suc j) k p s e q r =
-    rw (suc-add j k) (mark-append p s (omega arith)
-        ∙ q .0, rw (drop-append-le 8 p s (omega arith)) (markless-append j k (drop 8 p) s (length-drop 8 p ∙ omega arith) (q .1) r))
+    rw (suc-add j k) (
+      mark-append p s (omega arith)
+          ∙ q .0,
+      rw (drop-append-le 8 p s (omega arith)) (markless-append j k (drop 8 p) s (length-drop 8 p ∙ omega arith) (q .1) r),
+    )
 
 -- from the j-th word on
 pub markless-drop : (j k : ℕ) (s : List ℕ) → Markless (j + k) s → Markless k (drop (8 * j) s)
@@ -79,9 +82,11 @@ markless-drop (suc j) k s q =
 pub markless-take : (j k : ℕ) (p s : List ℕ) → length p ≡ 8 * j → Markless (j + k) (p ++ s) → Markless j p
 markless-take zero k p s e q = tt
 markless-take (suc j) k p s e q =
-    let r : Markless (suc (j + k)) (p ++ s) = subst (λ (n : ℕ). Markless n (p ++ s)) (suc-add j k) q in
-    (sym (mark-append p s (omega arith))
-        ∙ r .0, markless-take j k (drop 8 p) s (length-drop 8 p ∙ omega arith) (rw (drop-append-le 8 p s (omega arith)) at (r .1)))
+    let r : Markless (suc (j + k)) (p ++ s) = subst (λ (n : ℕ). Markless n (p ++ s)) (suc-add j k) q in (
+      sym (mark-append p s (omega arith))
+          ∙ r .0,
+      markless-take j k (drop 8 p) s (length-drop 8 p ∙ omega arith) (rw (drop-append-le 8 p s (omega arith)) at (r .1)),
+    )
 
 -- ---- no mark, wherever it stands
 
@@ -138,7 +143,7 @@ markless-body n c p q =
     let l : length N ≡ 8 * (up8 (length n + 1) / 8) = simp (length-append, length-replicate) (omega arith) in
     let e : body n c [] ≡ N ++ padded c [] = simp append-assoc in
     rw e (markless-append (up8 (length n + 1) / 8) (up8 (length c) / 8) N (padded c []) l
-        (calm-markless (up8 (length n + 1) / 8) N (calm-name n (pad (length n + 1)) p)) q)
+    (calm-markless (up8 (length n + 1) / 8) N (calm-name n (pad (length n + 1)) p)) q)
 
 -- X as step (c) of a move leaves it: behind its first word it has no mark
 abbrev pub Cleaned : Rec → Type 0

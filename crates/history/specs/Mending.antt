@@ -80,14 +80,14 @@ module _ {l : Ledger} {im : Image} {r : Reading} (reads : reading im ≡ give r)
     unfolding mended
     mends-1 e =
         mends-by (ap (λ (v : Work). repair-4 (repair-3 (repair-2-on v))) (done (repair-1 (begin im r)) e)
-            ∙ ap (λ (v : Work). repair-4 (repair-3 v)) then-2 ∙ ap repair-4 then-3 ∙ then-4)
+        ∙ ap (λ (v : Work). repair-4 (repair-3 v)) then-2 ∙ ap repair-4 then-3 ∙ then-4)
 
     -- repair 2 alone
     pub mends-2 : repair-1 (begin im r) ≡ begin im r → repair-2-on (begin im r) ≡ after (begin im r) ss h → Mends l im
     unfolding mended
     mends-2 a e =
         mends-by (ap (λ (v : Work). repair-4 (repair-3 (repair-2-on v))) a
-            ∙ ap (λ (v : Work). repair-4 (repair-3 v)) (done (repair-2-on (begin im r)) e) ∙ ap repair-4 then-3 ∙ then-4)
+        ∙ ap (λ (v : Work). repair-4 (repair-3 v)) (done (repair-2-on (begin im r)) e) ∙ ap repair-4 then-3 ∙ then-4)
 
     -- repair 3 alone
     pub mends-3 : repair-1 (begin im r) ≡ begin im r → repair-2-on (begin im r) ≡ begin im r → repair-3 (begin im r) ≡ after (begin im r) ss h
@@ -95,7 +95,7 @@ module _ {l : Ledger} {im : Image} {r : Reading} (reads : reading im ≡ give r)
     unfolding mended
     mends-3 a b e =
         mends-by (ap (λ (v : Work). repair-4 (repair-3 (repair-2-on v))) a ∙ ap (λ (v : Work). repair-4 (repair-3 v)) b
-            ∙ ap repair-4 (done (repair-3 (begin im r)) e) ∙ then-4)
+        ∙ ap repair-4 (done (repair-3 (begin im r)) e) ∙ then-4)
 
     -- repair 4 alone
     pub mends-4 : repair-1 (begin im r) ≡ begin im r → repair-2-on (begin im r) ≡ begin im r → repair-3 (begin im r) ≡ begin im r
@@ -103,4 +103,4 @@ module _ {l : Ledger} {im : Image} {r : Reading} (reads : reading im ≡ give r)
     unfolding mended
     mends-4 a b c e =
         mends-by (ap (λ (v : Work). repair-4 (repair-3 (repair-2-on v))) a ∙ ap (λ (v : Work). repair-4 (repair-3 v)) b ∙ ap repair-4 c
-            ∙ done (repair-4 (begin im r)) e)
+        ∙ done (repair-4 (begin im r)) e)

@@ -52,7 +52,7 @@ contents-front : (xs ys : List Entry) (e : Entry) → alive e ≡ true → List�
 contents-front xs ys e a =
     subst (λ (fs : List File). List·Permᴰ fs (as-file e ∷ contents (xs ++ ys))) (sym (contents-mid xs ys e a))
     (subst (λ (fs : List File). List·Permᴰ (contents xs ++ (as-file e ∷ contents ys)) (as-file e ∷ fs)) (sym (contents-append xs ys))
-        (Permᴰ·middle (as-file e) (contents xs) (contents ys)))
+    (Permᴰ·middle (as-file e) (contents xs) (contents ys)))
 
 -- no other live record has e's name
 absent-others : (xs ys : List Entry) (e : Entry) → Unique (xs ++ (e ∷ ys)) → alive e ≡ true → Absent (name-of e) (xs ++ ys)
@@ -67,7 +67,7 @@ without-mid : (xs ys : List Entry) (e : Entry) (l : Ledger) → Unique (xs ++ (e
 without-mid xs ys e l u a m =
     let n : List ℕ = name-of e in
     let p : List·Permᴰ (without n (as-file e ∷ contents (xs ++ ys))) (without n l) = perm-keep (not-named n)
-        (List·Permᴰ·trans (Permᴰ·symm (contents-front xs ys e a)) m) in
+    (List·Permᴰ·trans (Permᴰ·symm (contents-front xs ys e a)) m) in
     let q : without n (as-file e ∷ contents (xs ++ ys)) ≡ contents (xs ++ ys) =
     keep-no (not-named n) (as-file e) (contents (xs ++ ys)) (ap not (same-refl n)) ∙ keep-contents n (xs ++ ys) (absent-others xs ys e u a) in
     subst (λ (fs : List File). List·Permᴰ fs (without n l)) q p
@@ -76,7 +76,7 @@ matches-put : (es : List Entry) (e : Entry) (l : Ledger) → alive e ≡ true �
     → Matches (es ++ (e ∷ [])) (with-file (name-of e) (content-of e) l)
 matches-put es e l a p =
     subst (λ (fs : List File). List·Permᴰ fs (with-file (name-of e) (content-of e) l))
-        (sym (contents-append es (e ∷ []) ∙ ap (λ (fs : List File). contents es ++ fs) (contents-one e a)))
+    (sym (contents-append es (e ∷ []) ∙ ap (λ (fs : List File). contents es ++ fs) (contents-one e a)))
     (List·Permᴰ·trans (Permᴰ·middle (as-file e) (contents es) []) (List·Permᴰ·cons refl (List·Permᴰ·trans (Permᴰ·append-nil (contents es)) p)))
 
 apart-dead : (f : Entry) → alive f ≡ false → (z : Entry) → Apart f z
@@ -148,7 +148,7 @@ ok-add es u l ok a = ok-insert es [] u l (subst (λ (fs : List Entry). Ok fs l) 
 -- a file more
 pub ok-new :
     (es : List Entry) (e : Entry) (l : Ledger) → Ok es l → alive e ≡ true → Absent (name-of e) es → name-ok (name-of e) ≡ true → Bytes (content-of e)
-        →
+    →
     Ok (es ++ (e ∷ [])) (with-file (name-of e) (content-of e) l)
 ok-new es e l ok a n m b =
     record {
@@ -158,13 +158,13 @@ ok-new es e l ok a n m b =
       matches =
           matches-put es e l a
           (subst (λ (fs : List File). List·Permᴰ fs (without (name-of e) l)) (keep-contents (name-of e) es n)
-              (perm-keep (not-named (name-of e)) (ok .matches)));
+          (perm-keep (not-named (name-of e)) (ok .matches)));
     }
 
 -- the file o is replaced by the record e at the end: o is shadowed, and without it the files are the new ledger's
 pub ok-over :
     (xs ys : List Entry) (o e : Entry) (l : Ledger) → Ok (xs ++ (o ∷ ys)) l → named 0xF8 o ≡ true → named 0xFC e ≡ true → name-of e ≡ name-of o
-        → Bytes (content-of e) →
+    → Bytes (content-of e) →
     Ok (xs ++ (ys ++ (e ∷ []))) (with-file (name-of e) (content-of e) l) × Shadowed xs (ys ++ (e ∷ [])) o
 unfolding has-named
 ok-over xs ys o e l ok p q n b = (
@@ -188,15 +188,15 @@ ok-over xs ys o e l ok p q n b = (
         record {
           unique =
               pairwise-end Apart (xs ++ ys) e (pairwise-without Apart xs ys o (ok .unique))
-                  (each-map (xs ++ ys) (λ z h k j. ap (same (name-of z)) n ∙ h k) others);
+              (each-map (xs ++ ys) (λ z h k j. ap (same (name-of z)) n ∙ h k) others);
           well-named =
               each-end Well-named (xs ++ ys) e (each-without Well-named xs ys o (ok .well-named))
-                  (λ k. ap name-ok n ∙ each-at Well-named xs ys o (ok .well-named) (f8-alive o p));
+              (λ k. ap name-ok n ∙ each-at Well-named xs ys o (ok .well-named) (f8-alive o p));
           bytes = each-end Live-bytes (xs ++ ys) e (each-without Live-bytes xs ys o (ok .bytes)) (λ k. b);
           matches =
               matches-put (xs ++ ys) e l (fc-alive e q)
               (subst (λ (m : List ℕ). List·Permᴰ (contents (xs ++ ys)) (without m l)) (sym n)
-                  (without-mid xs ys o l (ok .unique) (f8-alive o p) (ok .matches)));
+              (without-mid xs ys o l (ok .unique) (f8-alive o p) (ok .matches)));
         }
 
 -- the dead head is left behind
@@ -234,13 +234,13 @@ old-first n (e ∷ es) = go (alive e) (same (name-of e) n) refl refl (old-first 
         → Old n (e ∷ es) (first-such (has-name n) (keep alive (e ∷ es)))
     go true true x y ih =
         subst (Old n (e ∷ es)) (sym (ap (first-such (has-name n)) (keep-yes alive e es x) ∙ first-yes (has-name n) e (keep alive es) y))
-            (old-some [] es e refl x (same-is (name-of e) n y))
+        (old-some [] es e refl x (same-is (name-of e) n y))
     go true false x y ih =
         subst (Old n (e ∷ es)) (sym (ap (first-such (has-name n)) (keep-yes alive e es x) ∙ first-no (has-name n) e (keep alive es) y))
-            (old-cons n e es (λ k. y) ih)
+        (old-cons n e es (λ k. y) ih)
     go false b x y ih =
         subst (Old n (e ∷ es)) (sym (ap (first-such (has-name n)) (keep-no alive e es x)))
-            (old-cons n e es (λ k. absurd (not-both (alive e) x k)) ih)
+        (old-cons n e es (λ k. absurd (not-both (alive e) x k)) ih)
 
 -- what the search for a name gives
 pub old-file : (n : List ℕ) (es : List Entry) (l : Ledger) → Ok es l → Old n es (file-named n es)

@@ -31,7 +31,7 @@ joined-blanks : (a b c m : ℕ) (s : List ℕ) → m ≡ suc (a + (b + c)) → b
 joined-blanks a b c m s e =
     ap (λ (n : ℕ). blanks n ++ s) e
     ∙ ap (λ (l : List ℕ). 0xFF ∷ l)
-        (ap (λ (l : List ℕ). l ++ s) (blank-split a (b + c) (a + (b + c)) refl) ∙ append-assoc (blanks a) (blanks (b + c)) s
+    (ap (λ (l : List ℕ). l ++ s) (blank-split a (b + c) (a + (b + c)) refl) ∙ append-assoc (blanks a) (blanks (b + c)) s
     ∙ ap (λ (l : List ℕ). blanks a ++ l) (ap (λ (l : List ℕ). l ++ s) (blank-split b c (b + c) refl) ∙ append-assoc (blanks b) (blanks c) s))
 
 take-printable : (j : ℕ) (n : List ℕ) → Printable n → Printable (take j n)
@@ -91,7 +91,7 @@ name-cut d f n s h p l i j k =
 -- the name and its 00: a held record with no data yet
 named : (n c s : List ℕ) (f : ℕ) → size-of (length n) (length c) ≤ f →
     run (header (length c) (blanks (f - 8) ++ s)) (name-steps n) ≡ onto (held n (blanks (length c)))
-        (blanks (f - size-of (length n) (length c)) ++ s)
+    (blanks (f - size-of (length n) (length c)) ++ s)
 named n c s f h =
     let d : ℕ = length c in
     let p : ℕ = pad (length n + 1) in
@@ -102,11 +102,11 @@ named n c s f h =
     ap (λ (z : List ℕ). z ++ s) (blank-split (length n + 1) (p + (d + (pad d + r))) (f - 8) (omega arith)
     ∙ ap (λ (z : List ℕ). blanks (length n + 1) ++ z) (blank-split p (d + (pad d + r)) (p + (d + (pad d + r))) refl
     ∙ ap (λ (z : List ℕ). blanks p ++ z)
-        (blank-split d (pad d + r) (d + (pad d + r)) refl ∙ ap (λ (z : List ℕ). blanks d ++ z) (blank-split (pad d) r (pad d + r) refl))))
+    (blank-split d (pad d + r) (d + (pad d + r)) refl ∙ ap (λ (z : List ℕ). blanks d ++ z) (blank-split (pad d) r (pad d + r) refl))))
     ∙ simp append-assoc in
     rw (l, b, ← (bytes-append 8 n (0 ∷ [])))
     (write-over (header d []) (blanks (length n + 1)) (n ++ (0 ∷ [])) (blanks p ++ (blanks d ++ (blanks (pad d) ++ (blanks r ++ s)))) 8 refl w
-        ∙ simp append-assoc)
+    ∙ simp append-assoc)
 
 -- j data bytes
 data-done : (n c s : List ℕ) (j m : ℕ) → j ≤ length c → length c ≡ j + m →
@@ -145,16 +145,16 @@ names-cut n c s f g h k i =
     let H : List ℕ = header (length c) (blanks (f - 8) ++ s) in
     let R : List ℕ = onto (held n (blanks (length c))) (blanks (f - size-of (length n) (length c)) ++ s) in
     let names : (j : ℕ) → j ≤ length n → Opened f s (run H (take j (bytes-at 8 n))) =
-        name-cut (length c) f n s (g .short) (g .printable) (g .small) h in
+    name-cut (length c) f n s (g .short) (g .printable) (g .small) h in
     let all : take (length n) (bytes-at 8 n) ≡ bytes-at 8 n = take-all (length n) (bytes-at 8 n) (omega (arith, length-bytes 8 n)) in
     let a : Opened f s (run H (bytes-at 8 n)) = rw all at (names (length n) (omega arith)) in
     let e : apply (run H (bytes-at 8 n)) (program (8 + length n) 0) ≡ R = sym (run-append H (bytes-at 8 n) (program (8 + length n) 0 ∷ []))
-        ∙ named n c s f h in
+    ∙ named n c s f h in
     cut-append (Opened f s) H (bytes-at 8 n) (program (8 + length n) 0 ∷ [])
     (λ j l. names j (omega (arith, length-bytes 8 n)))
     (cut-one (Opened f s) (run H (bytes-at 8 n)) (program (8 + length n) 0) [] a
     (λ j l. subst (λ (m : List ℕ). Opened f s m) (sym e ∙ ap (run (apply (run H (bytes-at 8 n)) (program (8 + length n) 0))) (sym (take-nil j)))
-        (data-cut n c s f g h 0 (omega arith))))
+    (data-cut n c s f g h 0 (omega arith))))
     k (omega (arith, length-bytes 8 n))
 
 body-cut : (n c s : List ℕ) (f : ℕ) → Fit (length c) n → size-of (length n) (length c) ≤ f → (k : ℕ) → k ≤ length n + suc (length c) →

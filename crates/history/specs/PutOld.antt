@@ -190,7 +190,7 @@ module _ {im : Image} {h : ℕ} (xs ys : List Entry) (o e : Entry) (l : Ledger) 
       good = good;
       kind =
           shadow (r .B) (r .F) xs (ys ++ (e ∷ [])) o laid (r .tail) starts (ok-over xs ys o e l ok f8 fc same b .1)
-              (ok-over xs ys o e l ok f8 fc same b .0);
+          (ok-over xs ys o e l ok f8 fc same b .0);
     },
     status-sound xs (ys ++ (e ∷ [])) o laid 0 refl,
     bare-inv still-good deleted gone-starts gone-ok,

@@ -60,7 +60,7 @@ module _ {im : Image} {h S : ℕ} {t : Bool} {es : List Entry} (B F : ℕ) (d : 
       let s : Laid im h S false es seg-none (blanks B) (blanks F) = subst (λ (u : Bool). Laid im h S u es seg-none (blanks B) (blanks F)) e d in
       let below : 8 ≤ B = omega arith in
       let turned : Laid (run im (moved S marker-steps)) h 0 true es seg-none [] (blanks B) =
-          let one : 1 ≤ B = omega arith in turn-laid s eight one in
+      let one : 1 ≤ B = omega arith in turn-laid s eight one in
       record {
         safe = safe-append (Inv l) im (moved S marker-steps) (moved 0 (open-steps n c)) (marker-safe B F s l st ok eight below good)
             (open-safe 0 B turned n c g room b l (good-run im (moved S marker-steps) tt good) st ok);
@@ -72,7 +72,7 @@ module _ {im : Image} {h S : ℕ} {t : Bool} {es : List Entry} (B F : ℕ) (d : 
   -- put up to its commit, at the place that the size is given
   pub written : (p : Place) → p ≡ place im h S t → Tail h S t seg-none (blanks B) (blanks F) S t → fits p (size-of (length n) (length c)) ≡ true →
       Written l im h es n c (turn-steps p (size-of (length n) (length c))) (address p (size-of (length n) (length c)))
-          (three-if (with-marker p (size-of (length n) (length c))))
+      (three-if (with-marker p (size-of (length n) (length c))))
   written p e tl f =
       let z : ℕ = size-of (length n) (length c) in
       let some : 1 ≤ z = omega arith in
@@ -80,13 +80,13 @@ module _ {im : Image} {h S : ℕ} {t : Bool} {es : List Entry} (B F : ℕ) (d : 
     where
       go : Given t S B F (size-of (length n) (length c)) p →
           Written l im h es n c (turn-steps p (size-of (length n) (length c))) (address p (size-of (length n) (length c)))
-              (three-if (with-marker p (size-of (length n) (length c))))
+          (three-if (with-marker p (size-of (length n) (length c))))
       go (given-tail room a w) =
           subst (λ (y : Bool). Written l im h es n c (elim y as (λ x. List Step) [ true ↦ moved (p .tail) marker-steps | false ↦ [] ])
-              (address p (size-of (length n) (length c))) (three-if y)) (sym w)
+          (address p (size-of (length n) (length c))) (three-if y)) (sym w)
           (subst (λ (k : ℕ). Written l im h es n c [] k 0) (sym a) (at-tail room))
       go (given-zero u room eight a w) =
           subst (λ (y : Bool). Written l im h es n c (elim y as (λ x. List Step) [ true ↦ moved (p .tail) marker-steps | false ↦ [] ])
-              (address p (size-of (length n) (length c))) (three-if y)) (sym w)
+          (address p (size-of (length n) (length c))) (three-if y)) (sym w)
           (subst (λ (k : ℕ). Written l im h es n c (moved (p .tail) marker-steps) k 3) (sym a)
           (subst (λ (k : ℕ). Written l im h es n c (moved k marker-steps) 0 3) (sym (ap (λ (y : Place). y .tail) e)) (at-zero u room eight)))

@@ -41,7 +41,7 @@ pub name-fit : (n : List ℕ) (d : ℕ) → name-ok n ≡ true → d < 429496729
 unfolding name-ok
 name-fit n d h l =
     let three : (leb 1 (length n) && leb (length n) 63 && all is-printable n) ≡ true = and-left
-        (leb 1 (length n) && leb (length n) 63 && all is-printable n) (not (ends-in-slash n)) h in
+    (leb 1 (length n) && leb (length n) 63 && all is-printable n) (not (ends-in-slash n)) h in
     let two : (leb 1 (length n) && leb (length n) 63) ≡ true = and-left (leb 1 (length n) && leb (length n) 63) (all is-printable n) three in
     record {
       short = omega (arith, leb-true (length n) 63 (and-right (leb 1 (length n)) (leb (length n) 63) two));
@@ -70,8 +70,10 @@ header-sound d s = (
       (omega arith, on-blank (d % 256) (omega arith)),
       (
         (omega arith, on-blank (d / 256 % 256) (omega arith)),
-        ((omega arith, on-blank (d / 65536 % 256) (omega arith)),
-            ((omega arith, on-blank (d / 16777216 % 256) (omega arith)), ((omega arith, refl), tt))),
+        (
+          (omega arith, on-blank (d / 65536 % 256) (omega arith)),
+          ((omega arith, on-blank (d / 16777216 % 256) (omega arith)), ((omega arith, refl), tt)),
+        ),
       ),
     ),
   ),
@@ -88,7 +90,7 @@ body-sound n c s f g b h =
     let lw : length w ≡ k = length-append n (0 ∷ []) in
     let split : blanks (f - 8) ++ s ≡ blanks k ++ (blanks p ++ (blanks m ++ s)) =
     ap (λ (z : List ℕ). z ++ s) (blank-split k (p + m) (f - 8) (omega arith) ∙ ap (λ (z : List ℕ). blanks k ++ z) (blank-split p m (p + m) refl))
-        ∙ simp append-assoc in
+    ∙ simp append-assoc in
     let names : name-steps n ≡ bytes-at 8 w = sym (bytes-append 8 n (0 ∷ [])) in
     let after : run (header d [] ++ (blanks (f - 8) ++ s)) (name-steps n) ≡ (header d [] ++ (w ++ blanks p)) ++ (blanks m ++ s) =
     ap (λ (z : List Step). run (header d [] ++ (blanks (f - 8) ++ s)) z) names ∙ ap (λ (z : List ℕ). run (header d [] ++ z) (bytes-at 8 w)) split
@@ -96,9 +98,9 @@ body-sound n c s f g b h =
     let a : length (header d [] ++ (w ++ blanks p)) ≡ 8 + up8 (length n + 1) = simp (length-append, length-replicate) (omega arith) in
     sound-append (header d [] ++ (blanks (f - 8) ++ s)) (name-steps n) (data-steps (length n) c)
     (subst (λ (z : List Step). Steps-sound (header d [] ++ (blanks (f - 8) ++ s)) z) (sym names)
-        (sound-bytes (header d []) w s 8 (f - 8) (f - 8 - k) refl (omega arith) (printable-bytes n (g .printable))))
+    (sound-bytes (header d []) w s 8 (f - 8) (f - 8 - k) refl (omega arith) (printable-bytes n (g .printable))))
     (subst (λ (z : List ℕ). Steps-sound z (data-steps (length n) c)) (sym after)
-        (sound-bytes (header d [] ++ (w ++ blanks p)) c s (8 + up8 (length n + 1)) m (m - d) a (omega arith) b))
+    (sound-bytes (header d [] ++ (w ++ blanks p)) c s (8 + up8 (length n + 1)) m (m - d) a (omega arith) b))
 
 -- all but the commit
 pub open-sound : (n c s : List ℕ) (f : ℕ) → Fit (length c) n → Bytes c → size-of (length n) (length c) ≤ f
@@ -107,7 +109,7 @@ open-sound n c s f g b h =
     let e : blanks f ++ s ≡ blanks 8 ++ (blanks (f - 8) ++ s) = split-front 8 (f - 8) f s (omega arith) in
     subst (λ (z : List ℕ). Steps-sound z (open-steps n c)) (sym e)
     (sound-append (blanks 8 ++ (blanks (f - 8) ++ s)) (header-steps (length c)) (name-steps n ++ data-steps (length n) c)
-        (header-sound (length c) (blanks (f - 8) ++ s)) (body-sound n c s f g b h))
+    (header-sound (length c) (blanks (f - 8) ++ s)) (body-sound n c s f g b h))
 
 -- the commit is the last step of a record
 pub commit-last : (n c : List ℕ) → record-steps n c ≡ open-steps n c ++ commit-steps

@@ -45,14 +45,14 @@ module _ {im : Image} {h S : ℕ} {es : List Entry} (B F : ℕ) (d : Laid im h S
           let one : Straight (set im (S + 0) 0xFA) a m (blanks (4096 * a)) lost h (x ∷ ys) seg-none (torn-wrap 0xFF (F - 8)) =
           subst (λ (n : ℕ). Straight (set im (n + 0) 0xFA) a m (blanks (4096 * a)) lost h (x ∷ ys) seg-none (torn-wrap 0xFF (F - 8))) (sym i)
           (subst (λ (n : ℕ). Straight (set im (h + sizes (x ∷ ys) + 0) 0xFA) a m (blanks n) lost h (x ∷ ys) seg-none (torn-wrap 0xFF (F - 8))) b
-              (marker-cut-1 s eight)) in
+          (marker-cut-1 s eight)) in
           let two : Straight (set (set im (S + 0) 0xFA) (S + 1) 0x5A) a m (blanks (4096 * a)) lost h (x ∷ ys) seg-none (torn-wrap 0x5A (F - 8)) =
           subst (λ (n : ℕ). Straight (set (set im (n + 0) 0xFA) (n + 1) 0x5A) a m (blanks (4096 * a)) lost h (x ∷ ys) seg-none
-              (torn-wrap 0x5A (F - 8)))
-              (sym i)
+          (torn-wrap 0x5A (F - 8)))
+          (sym i)
           (subst (λ (n : ℕ). Straight (set (set im (h + sizes (x ∷ ys) + 0) 0xFA) (h + sizes (x ∷ ys) + 1) 0x5A) a m (blanks n) lost h (x ∷ ys)
-              seg-none
-              (torn-wrap 0x5A (F - 8))) b (marker-cut-2 s eight)) in
+          seg-none
+          (torn-wrap 0x5A (F - 8))) b (marker-cut-2 s eight)) in
           let some : 1 ≤ a = omega arith in
           let st′ : Starts (entries-of h (x ∷ ys)) = subst Starts j st in
           let ok′ : Ok (entries-of h (x ∷ ys)) l = subst (λ (z : List Entry). Ok z l) j ok in
@@ -74,9 +74,9 @@ module _ {im : Image} {h S : ℕ} {es : List Entry} (B F : ℕ) (d : Laid im h S
   marker-sound : Steps-sound im (moved S marker-steps)
   marker-sound =
       subst (λ (z : Image). Steps-sound z (moved S marker-steps))
-          (sym (hole-of d .is ∙ ap (λ (z : List ℕ). hole-of d .pre ++ (z ++ hole-of d .post)) (blank-eight F eight)))
+      (sym (hole-of d .is ∙ ap (λ (z : List ℕ). hole-of d .pre ++ (z ++ hole-of d .post)) (blank-eight F eight)))
       (sound-past (hole-of d .pre) ((blanks 8 ++ blanks (F - 8)) ++ hole-of d .post) marker-steps S (hole-of d .at) tt
-          ((omega arith, refl), ((omega arith, refl), ((omega arith, refl), tt))))
+      ((omega arith, refl), ((omega arith, refl), ((omega arith, refl), tt))))
 
   -- the marker, cut anywhere
   pub marker-safe : good-length (length im) ≡ true → Safe (Inv l) im (moved S marker-steps)
@@ -109,7 +109,7 @@ given {im} {h} {S} {t} B F s d tl some f = go (fits-at-tail p s) refl
     ends : limit p ≡ S + F
     ends =
         subst (λ (n : ℕ). limit (place im h n t) ≡ n + length (blanks F)) (add-zero S) (laid-limit d)
-            ∙ ap (λ (n : ℕ). S + n) (length-replicate {A = ℕ} F 0xFF)
+        ∙ ap (λ (n : ℕ). S + n) (length-replicate {A = ℕ} F 0xFF)
 
     clear : t ≡ false → s ≤ floor h → Tail h S t seg-none (blanks B) (blanks F) S t → 8 ≤ F
     clear e k (tail-clear z q i j) = omega (arith, length-replicate {A = ℕ} F 0xFF, ap length q)
@@ -122,7 +122,7 @@ given {im} {h} {S} {t} B F s d tl some f = go (fits-at-tail p s) refl
         let c : 8 ≤ F = clear u k tl in
         let N : length im ≡ S + F = sym (ap (λ (b : Bool). limit (place im h S b)) u) ∙ ends in
         given-zero u (omega (arith, length-replicate {A = ℕ} B 0xFF, laid-below d u)) c (rw (address, e))
-            (rw (with-marker, e) (lt-ltb S (length im) (omega arith)))
+        (rw (with-marker, e) (lt-ltb S (length im) (omega arith)))
 
     go : (b : Bool) → fits-at-tail p s ≡ b → Given t S B F s p
     go true e = given-tail (omega (arith, ends, fits-le p s e)) (rw (address, e)) (rw (with-marker, e))

@@ -119,16 +119,16 @@ module _ {im : Image} {h S : ℕ} {t : Bool} {es : List Entry} (B F : ℕ) (d : 
       let laid : Laid im′ h S t es (o .seg) (blanks B) (blanks (o .left)) =
       subst (λ (z : Image). Laid z h S t es (o .seg) (blanks B) (blanks (o .left))) (ap (λ (z : List ℕ). H .pre ++ z) (sym (o .is)) ∙ sym e)
       (H .plug (o .seg) m (blanks (o .left)) (x .0) (length-replicate {A = ℕ} (o .left) 0xFF ∙ w) (markless-ff m (blanks (o .left)) (ap blanks w))
-          (x .1)
+      (x .1)
       (omega (arith, o .sum, length-replicate {A = ℕ} (o .left) 0xFF, length-replicate {A = ℕ} F 0xFF))) in
       quiet-of B (o .left) laid (tail-of S (o .seg) (left-of B (o .left) laid) (λ i. omega (arith, ap seg-size i, o .sum))) st ok
 
   open-kind : (l : Ledger) → Starts es → Ok es l → (k : ℕ) → k ≤ 8 + length n + length c → Kind (run im (take k (moved S (open-steps n c)))) l
   open-kind l st ok k i =
       plugged l st ok (hole-of d) (run im (take k (moved S (open-steps n c)))) (run (blanks F ++ hole-of d .post) (take k (open-steps n c)))
-          (open-cut n c (hole-of d .post) F g room k i)
+      (open-cut n c (hole-of d .post) F g room k i)
       (ap (run im) (take-moved k S (open-steps n c))
-          ∙ at-hole (hole-of d) (take k (open-steps n c)) (take-programs k (open-steps n c) (open-programs n c)))
+      ∙ at-hole (hole-of d) (take k (open-steps n c)) (take-programs k (open-steps n c) (open-programs n c)))
 
   -- before the commit, cut anywhere
   pub open-safe : Bytes c → (l : Ledger) → good-length (length im) ≡ true → Starts es → Ok es l → Safe (Inv l) im (moved S (open-steps n c))
@@ -137,12 +137,12 @@ module _ {im : Image} {h S : ℕ} {t : Bool} {es : List Entry} (B F : ℕ) (d : 
       (λ k i. record {
         good =
             good-run im (take k (moved S (open-steps n c)))
-                (take-programs k (moved S (open-steps n c)) (programs-moved S (open-steps n c) (open-programs n c))) good;
+            (take-programs k (moved S (open-steps n c)) (programs-moved S (open-steps n c) (open-programs n c))) good;
         kind = open-kind l st ok k (omega (arith, length-moved S (open-steps n c), length-open n c));
       })
       (subst (λ (z : Image). Steps-sound z (moved S (open-steps n c))) (sym (hole-of d .is))
       (sound-past (hole-of d .pre) (blanks F ++ hole-of d .post) (open-steps n c) S (hole-of d .at) (open-programs n c)
-          (open-sound n c (hole-of d .post) F g b room)))
+      (open-sound n c (hole-of d .post) F g b room)))
 
   open-is : run im (moved S (open-steps n c)) ≡ hole-of d .pre ++ onto (held n c) (blanks (F - size-of (length n) (length c)) ++ hole-of d .post)
   open-is =
@@ -153,12 +153,12 @@ module _ {im : Image} {h S : ℕ} {t : Bool} {es : List Entry} (B F : ℕ) (d : 
   commit-sound =
       subst (λ (z : Image). Sound z (program (S + 2) 0xFC)) (sym open-is)
       (sound-past (hole-of d .pre) (onto (held n c) (blanks (F - size-of (length n) (length c)) ++ hole-of d .post)) (program 2 0xFC ∷ []) S
-          (hole-of d .at) tt ((omega arith, refl), tt) .0)
+      (hole-of d .at) tt ((omega arith, refl), tt) .0)
 
   -- and adds the record
   pub committed :
       Laid (apply (run im (moved S (open-steps n c))) (program (S + 2) 0xFC)) h (S + size-of (length n) (length c)) t
-          (es ++ (record { at = S; it = file n c } ∷ [])) seg-none (blanks B)
+      (es ++ (record { at = S; it = file n c } ∷ [])) seg-none (blanks B)
       (blanks (F - size-of (length n) (length c)))
   committed =
       let z : ℕ = size-of (length n) (length c) in
@@ -168,7 +168,7 @@ module _ {im : Image} {h S : ℕ} {t : Bool} {es : List Entry} (B F : ℕ) (d : 
       let x = opens-words m left w in
       let e : apply (run im (moved S (open-steps n c))) (program (S + 2) 0xFC) ≡ hole-of d .pre ++ onto (file n c) (blanks left ++ hole-of d .post) =
       ap (λ (y : Image). set y (S + 2) 0xFC) open-is
-          ∙ run-past (hole-of d .pre) (onto (held n c) (blanks left ++ hole-of d .post)) (program 2 0xFC ∷ []) S (hole-of d .at) tt in
+      ∙ run-past (hole-of d .pre) (onto (held n c) (blanks left ++ hole-of d .post)) (program 2 0xFC ∷ []) S (hole-of d .at) tt in
       subst (λ (y : Image). Laid y h (S + z) t (es ++ (record { at = S; it = file n c } ∷ [])) seg-none (blanks B) (blanks left)) (sym e)
       (hole-of d .grow (file n c) m (blanks left) (x .0) (record {
         low-ok = low-record;

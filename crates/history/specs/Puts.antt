@@ -90,7 +90,7 @@ module _ (k l : Ledger) (im : Image) (h : ℕ) (es : List Entry) (n c : List ℕ
       at-end : run im (mig ++ (turn ++ (moved a (record-steps n c) ++ del))) ≡ run (apply (run (run im mig) opened) (program (a + 2) 0xFC)) del
       at-end =
           ap (run im) split ∙ run-append im (mig ++ opened) (program (a + 2) 0xFC ∷ del)
-              ∙ ap (λ (z : Image). run (apply z (program (a + 2) 0xFC)) del) at-commit
+          ∙ ap (λ (z : Image). run (apply z (program (a + 2) 0xFC)) del) at-commit
 
 -- the same number, written otherwise
 recount : {k l : Ledger} {im : Image} {ss : List Step} {at at′ h : ℕ} → at ≡ at′ → Commits k l im ss at h → Commits k l im ss at′ h
@@ -101,13 +101,13 @@ committed-good : {k : Ledger} {im : Image} {h : ℕ} {es : List Entry} {n c : Li
     good-length (length (apply (run im (turn ++ moved a (open-steps n c))) (program (a + 2) 0xFC))) ≡ true
 committed-good {k} {im} {n = n} {c} {turn} {a} w =
     ap good-length (length-set (run im (turn ++ moved a (open-steps n c))) (a + 2) 0xFC)
-        ∙ safe-end (Inv k) im (turn ++ moved a (open-steps n c)) (w .safe) .good
+    ∙ safe-end (Inv k) im (turn ++ moved a (open-steps n c)) (w .safe) .good
 
 -- a new name
 fresh : {l : Ledger} {im : Image} {r : Reading} (q : Rested l im r) (n c : List ℕ) → Absent n (q .es) → name-ok n ≡ true → Bytes c
     → fits (r .place) (size-of (length n) (length c)) ≡ true →
     Commits l (with-file n c l) im (put-steps (r .place) none n c)
-        (length n + length c + 9 + 0 + three-if (with-marker (r .place) (size-of (length n) (length c)))) (q .h)
+    (length n + length c + 9 + 0 + three-if (with-marker (r .place) (size-of (length n) (length c)))) (q .h)
 unfolding put-steps
 fresh {l} {im} {r} q n c absent nice b f =
     let z : ℕ = size-of (length n) (length c) in
@@ -121,7 +121,7 @@ fresh {l} {im} {r} q n c absent nice b f =
     let g = committed-good w in
     recount (omega arith)
     (together l (with-file n c l) im (q .h) (q .es) n c [] (turn-steps p z) [] (address p z) (three-if (with-marker p z))
-        (safe-here (Inv l) im (turn-steps p z ++ moved (address p z) (open-steps n c)) (w .safe)) w
+    (safe-here (Inv l) im (turn-steps p z ++ moved (address p z) (open-steps n c)) (w .safe)) w
     (bare-read (w .rest)) (bare-inv g (w .rest) st ok) (bare-rested g (w .rest) st ok) (bare-head (w .rest)))
 
 -- a file replaced: o is the file once it is F8, x the new record
@@ -131,7 +131,7 @@ module _ {l : Ledger} {im : Image} {r : Reading} (q : Rested l im r) (n c : List
   over : (o : Entry) (mig : List Step) → Migrated l im (q .h) (q .S) (q .t) (q .B) (q .F) xs ys e o mig →
       Commits l (with-file n c l) im
       (mig ++ (turn-steps (r .place) (size-of (length n) (length c)) ++
-          (moved (address (r .place) (size-of (length n) (length c))) (record-steps n c) ++ (program (e .at + 2) 0 ∷ []))))
+      (moved (address (r .place) (size-of (length n) (length c))) (record-steps n c) ++ (program (e .at + 2) 0 ∷ []))))
       (length mig + (8 + length n + length c + three-if (with-marker (r .place) (size-of (length n) (length c)))) + 1) (q .h)
   over o mig M =
       let z : ℕ = size-of (length n) (length c) in
@@ -151,11 +151,11 @@ module _ {l : Ledger} {im : Image} {r : Reading} (q : Rested l im r) (n c : List
       let g = committed-good w in
       let plain = plain-file (address p z) n c in
       subst (λ (k : ℕ). Commits l (with-file n c l) im
-          (mig ++ (turn-steps p z ++ (moved (address p z) (record-steps n c) ++ (program (k + 2) 0 ∷ []))))
-          (length mig + (8 + length n + length c + three-if (with-marker p z)) + 1) (q .h))
+      (mig ++ (turn-steps p z ++ (moved (address p z) (record-steps n c) ++ (program (k + 2) 0 ∷ []))))
+      (length mig + (8 + length n + length c + three-if (with-marker p z)) + 1) (q .h))
       (M .same-at)
       (together l (with-file n c l) im (q .h) (xs ++ (o ∷ ys)) n c mig (turn-steps p z) (program (o .at + 2) 0 ∷ []) (address p z)
-          (three-if (with-marker p z)) (M .safe) w
+      (three-if (with-marker p z)) (M .safe) w
       (bare-read (deleted xs ys o x l g (w .rest) (M .starts) (M .ok) (M .named-f8) fc name plain b))
       (delete-safe xs ys o x l g (w .rest) (M .starts) (M .ok) (M .named-f8) fc name plain b)
       (delete-rested xs ys o x l g (w .rest) (M .starts) (M .ok) (M .named-f8) fc name plain b)
@@ -185,20 +185,20 @@ module _ {l : Ledger} {im : Image} {r : Reading} (q : Rested l im r) (n c : List
       P y =
           Commits l (with-file n c l) im
           ((elim y as (λ x. List Step) [ true ↦ program (e .at + 2) 0xF8 ∷ [] | false ↦ [] ]) ++
-              (turn-steps (r .place) z ++ (moved (address (r .place) z) (record-steps n c) ++ (program (e .at + 2) 0 ∷ []))))
+          (turn-steps (r .place) z ++ (moved (address (r .place) z) (record-steps n c) ++ (program (e .at + 2) 0 ∷ []))))
           (length n + length c + 9 + (elim y as (λ x. ℕ) [ true ↦ 1 | false ↦ 0 ]) + three-if (with-marker (r .place) z)) (q .h)
 
       go : (y : Bool) → is-committed (e .it .status) ≡ y → P (is-committed (e .it .status))
       go true k =
           subst P (sym k)
           (recount (omega arith) (over (record { at = e .at; it = restatus 0xF8 (e .it) }) (program (e .at + 2) 0xF8 ∷ [])
-              (migrates (q .B) (q .F) xs ys e d (q .tail) l (q .good) st ok a k named-so)))
+          (migrates (q .B) (q .F) xs ys e d (q .tail) l (q .good) st ok a k named-so)))
       go false k = subst P (sym k) (recount (omega arith) (over e [] (stays (q .B) (q .F) xs ys e d (q .tail) l (q .good) st ok a k)))
 
 -- put on a rested image
 pub put-commits :
     {l : Ledger} {im : Image} {r : Reading} (q : Rested l im r) (old : Option Entry) (n c : List ℕ) → Old n (r .entries) old → name-ok n ≡ true
-        → Bytes c →
+    → Bytes c →
     fits (r .place) (size-of (length n) (length c)) ≡ true →
     Commits l (with-file n c l) im (put-steps (r .place) old n c)
     (length n + length c + 9 + one-if-fc old + three-if (with-marker (r .place) (size-of (length n) (length c)))) (r .place .head)

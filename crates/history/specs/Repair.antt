@@ -20,7 +20,7 @@ use Rattle.history.specs.Erase.{erase-mid, sector-is}
 part-mid : (p q s : List ℕ) (a : ℕ) → length p ≡ a → length q ≡ 4096 → part a (a + 4096) (p ++ (q ++ s)) ≡ q
 part-mid p q s a e l =
     ap (λ (n : ℕ). drop n (take (n + 4096) (p ++ (q ++ s)))) (sym e) ∙ ap (drop (length p)) (take-append-add p (q ++ s) 4096)
-        ∙ drop-at p (take 4096 (q ++ s)) (length p) refl ∙ take-at q s 4096 l
+    ∙ drop-at p (take 4096 (q ++ s)) (length p) refl ∙ take-at q s 4096 l
 
 sectors-none : (n a b : ℕ) → a ≡ b → sectors-by n a b ≡ []
 unfolding sectors-by
@@ -38,13 +38,13 @@ mend-steps im n a b = map erase (keep (dirty im) (sectors-by n a b))
 mend-keep : (im : Image) (n a b : ℕ) → a + 4096 ≤ b → blank (part a (a + 4096) im) ≡ true → mend-steps im (suc n) a b ≡ mend-steps im n (a + 4096) b
 mend-keep im n a b l e =
     ap (λ (ss : List ℕ). map erase (keep (dirty im) ss)) (sectors-next n a b l)
-        ∙ ap (map erase) (keep-no (dirty im) a (sectors-by n (a + 4096) b) (ap not e))
+    ∙ ap (map erase) (keep-no (dirty im) a (sectors-by n (a + 4096) b) (ap not e))
 
 mend-erase : (im : Image) (n a b : ℕ) → a + 4096 ≤ b → blank (part a (a + 4096) im) ≡ false
     → mend-steps im (suc n) a b ≡ erase a ∷ mend-steps im n (a + 4096) b
 mend-erase im n a b l e =
     ap (λ (ss : List ℕ). map erase (keep (dirty im) ss)) (sectors-next n a b l)
-        ∙ ap (map erase) (keep-yes (dirty im) a (sectors-by n (a + 4096) b) (ap not e))
+    ∙ ap (map erase) (keep-yes (dirty im) a (sectors-by n (a + 4096) b) (ap not e))
 
 len-4096 : length (blanks 4096) ≡ 4096
 len-4096 = length-replicate {A = ℕ} 4096 0xFF
@@ -76,8 +76,8 @@ mend-done (suc k) (suc n) a b p₀ p r s e₀ e l t i im₀ f =
     joined =
         append-assoc p (blanks 4096) (blanks (4096 * k) ++ s)
         ∙ ap (λ (x : List ℕ). p ++ x)
-            (sym (append-assoc (blanks 4096) (blanks (4096 * k)) s)
-            ∙ ap (λ (x : List ℕ). x ++ s) (sym (blank-split 4096 (4096 * k) (4096 * suc k) (omega arith))))
+        (sym (append-assoc (blanks 4096) (blanks (4096 * k)) s)
+        ∙ ap (λ (x : List ℕ). x ++ s) (sym (blank-split 4096 (4096 * k) (4096 * suc k) (omega arith))))
 
     go : (t : Bool) → blank (part a (a + 4096) im₀) ≡ t
         → run ((p ++ blanks 4096) ++ (drop 4096 r ++ s)) (mend-steps im₀ n (a + 4096) b) ≡ (p ++ blanks 4096) ++ (blanks (4096 * k) ++ s) →
@@ -86,7 +86,7 @@ mend-done (suc k) (suc n) a b p₀ p r s e₀ e l t i im₀ f =
         let u : take 4096 r ≡ blanks 4096 = blank-is (take 4096 r) (sym (ap blank tested) ∙ h) ∙ ap blanks lr in
         let v : p ++ (r ++ s) ≡ (p ++ blanks 4096) ++ (drop 4096 r ++ s) =
         ap (λ (x : List ℕ). p ++ x) (split ∙ ap (λ (x : List ℕ). x ++ (drop 4096 r ++ s)) u)
-            ∙ sym (append-assoc p (blanks 4096) (drop 4096 r ++ s)) in
+        ∙ sym (append-assoc p (blanks 4096) (drop 4096 r ++ s)) in
         ap₂ run v (mend-keep im₀ n a b (omega arith) h) ∙ rec ∙ joined
     go false h rec =
         let v : apply (p ++ (r ++ s)) (erase a) ≡ (p ++ blanks 4096) ++ (drop 4096 r ++ s) =

@@ -62,12 +62,12 @@ second-start w x y es e = rw (repair-2, is-clean-0 (y .it .low) e, is-start-0 (y
 pub mends-clean :
     {l : Ledger} {im : Image} {h S T : ℕ} (B F : ℕ) {t u : Bool} {x y : Entry} {es : List Entry} → good-length (length im) ≡ true →
     Laid im h S t (x ∷ y ∷ es) seg-none (blanks B) (blanks F) → Tail h S t seg-none (blanks B) (blanks F) T u → x .it .low ≡ 0 → alive x ≡ false
-        → y .it .low ≡ 0xA0 → Each Unmarked es →
+    → y .it .low ≡ 0xA0 → Each Unmarked es →
     Ok (x ∷ y ∷ es) l → Mends l im
 mends-clean {l} {im} {h} {T = T} B F {u = u} {x} {y} {es} g d e a b c m o =
     let r : Reading = read (length im) h T u (x ∷ y ∷ es) Ending.Tail in
     mends-2 {r = r} (start-read B F d e a
-        (second-ruled x y es l o b (rw (is-clean-A0 (y .it .low) c)) m))
+    (second-ruled x y es l o b (rw (is-clean-A0 (y .it .low) c)) m))
     (close-rests B F g d e a b c m o) (close-some (length im) x y)
     (one-none (begin im r) (is-clean-0 (x .it .low) a)) (second-clean (begin im r) x y es c)
 
@@ -75,14 +75,14 @@ mends-clean {l} {im} {h} {T = T} B F {u = u} {x} {y} {es} g d e a b c m o =
 pub mends-both :
     {l : Ledger} {im : Image} {h S T : ℕ} (B F : ℕ) {t u : Bool} {x y : Entry} {es : List Entry} → good-length (length im) ≡ true →
     Laid im h S t (x ∷ y ∷ es) seg-none (blanks B) (blanks F) → Tail h S t seg-none (blanks B) (blanks F) T u → x .it .low ≡ 0 → alive x ≡ false
-        → Cleaned (x .it) → y .it .low ≡ 0 →
+    → Cleaned (x .it) → y .it .low ≡ 0 →
     floor (y .at) ≡ floor h → Each Unmarked es → Ok (x ∷ y ∷ es) l → Mends l im
 mends-both {l} {im} {h} {T = T} B F {u = u} {x} {y} {es} g d e a b c k f m o =
     let r : Reading = read (length im) h T u (x ∷ y ∷ es) Ending.Tail in
     let n : floor (y .at) ≡ floor (x .at) = f ∙ ap floor (sym (first-is d)) in
     mends-2 {r = r} (start-read B F d e a
-        (second-ruled x y es l o b
-        (rw (eq-eqb (floor (y .at)) (floor (x .at)) n) (or-true (is-clean (y .it .low)))) m))
+    (second-ruled x y es l o b
+    (rw (eq-eqb (floor (y .at)) (floor (x .at)) n) (or-true (is-clean (y .it .low)))) m))
     (both-rests B F g d e a b c k f m o) (some-behind [] [] (program (x .at + 1) 0))
     (one-none (begin im r) (is-clean-0 (x .it .low) a)) (second-start (begin im r) x y es k)
 
@@ -94,10 +94,10 @@ first-clean w e = rw (repair-1, e)
 -- the kind vacated: mount erases, and makes Y START
 pub mends-vacated :
     {l : Ledger} {im : Image} {h S T : ℕ} {t u : Bool} {x : Entry} {es : List Entry} {below free : List ℕ} → good-length (length im) ≡ true
-        → Laid im h S t (x ∷ es) seg-none below free →
+    → Laid im h S t (x ∷ es) seg-none below free →
     Tail h S t seg-none below free T u → tail-blank im (place im h T u) ≡ true → x .it .low ≡ 0xA0 → Each Unmarked es → Ok (x ∷ es) l → Mends l im
 mends-vacated {l} {im} {h} {T = T} {u = u} {x} {es} g d e b a m o =
     let r : Reading = read (length im) h T u (x ∷ es) Ending.Tail in
     mends-1 {r = r} (clean-reads d e b a m (plain-ruled x es l o m)) (vacated-rests g d e b a m o)
-        (some-behind (erase-steps im (place im h T u)) [] (program h 0))
+    (some-behind (erase-steps im (place im h T u)) [] (program h 0))
     (first-clean (begin im r) (is-clean-A0 (x .it .low) a))

@@ -93,7 +93,7 @@ unfolding doubled has-named
 differ-none st [] u = refl
 differ-none st (e ∷ es) u =
     rw (doubled, and-no (named st e) (any (named-as st e) es) (λ h. any-none (named-as st e) es (each-map es (λ f q. q h) (u .0))))
-        (differ-none st es (u .1))
+    (differ-none st es (u .1))
 
 module _ (xs ys : List Entry) (o : Entry) (l : Ledger) (s : Shadowed xs ys o) (ok : Ok (xs ++ ys) l) where
   abbrev es : List Entry
@@ -117,7 +117,7 @@ module _ (xs ys : List Entry) (o : Entry) (l : Ledger) (s : Shadowed xs ys o) (o
       all-each (name-legal es) es
       (each-insert (λ e. name-legal es e ≡ true) xs ys o
       (each-map (xs ++ ys) (λ e p. legal-same e (p .0) (p .1))
-          (each-both (λ e. live (xs ++ ys) e ≡ alive e) Well-named (xs ++ ys) (live-alive (xs ++ ys) (s .unique)) (ok .well-named))) legal-o)
+      (each-both (λ e. live (xs ++ ys) e ≡ alive e) Well-named (xs ++ ys) (live-alive (xs ++ ys) (s .unique)) (ok .well-named))) legal-o)
 
   -- nobody else has F8 and o's name: that name has FC
   has-by : (e : Entry) → name-of e ≡ name-of o → has-named 0xFC (xs ++ ys) e ≡ has-named 0xFC (xs ++ ys) o
@@ -152,9 +152,9 @@ module _ (xs ys : List Entry) (o : Entry) (l : Ledger) (s : Shadowed xs ys o) (o
       differ-none 0xF8 es
       (pairwise-insert (Differ 0xF8) xs ys o (differ-rest 0xF8 f8-alive)
       (each-map xs (λ e q h. and-no (named 0xF8 o) (same-name e o) (λ k. q h))
-          (each-left (λ e. named 0xF8 e ≡ true → same-name e o ≡ false) xs ys lonely))
+      (each-left (λ e. named 0xF8 e ≡ true → same-name e o ≡ false) xs ys lonely))
       (each-map ys (λ e q h. and-no (named 0xF8 e) (same-name o e) (λ k. same-sym (name-of o) (name-of e) ∙ q k))
-          (each-right (λ e. named 0xF8 e ≡ true → same-name e o ≡ false) xs ys lonely)))
+      (each-right (λ e. named 0xF8 e ≡ true → same-name e o ≡ false) xs ys lonely)))
 
   shadow-single : single es ≡ true
   unfolding single

@@ -50,8 +50,12 @@ two-none w x (y ∷ es) h =
 void-none : (im : Image) (e : Entry) → Finished e → void-steps im e ≡ []
 unfolding void-steps is-unfinished
 void-none im e h =
-    rw (void-steps, or-left (is-erased (e .it .status)) (is-reserved (e .it .status)) h, or-right (is-erased (e .it .status))
-        (is-reserved (e .it .status)) h)
+    rw (
+      void-steps,
+      or-left (is-erased (e .it .status)) (is-reserved (e .it .status)) h,
+      or-right (is-erased (e .it .status))
+          (is-reserved (e .it .status)) h,
+    )
 
 -- no record is unfinished
 pub last-none : (im : Image) (es : List Entry) → Each Finished es → last-steps im es ≡ []
@@ -65,14 +69,14 @@ pub three-none : (w : Work) → Each Finished (w .reading .entries) → w .readi
 unfolding repair-3
 three-none w h t =
     ap₂ (λ (a : List Step) (b : Ending). after w (a ++ torn-wrap-steps b) (w .reading .place .head)) (last-none (w .image) (w .reading .entries) h) t
-        ∙ after-none w (w .reading .place .head)
+    ∙ after-none w (w .reading .place .head)
 
 -- repair 4: no name is alive twice
 pub four-none : (w : Work) → Unique (w .reading .entries) → repair-4 w ≡ w
 unfolding repair-4 drop-steps
 four-none w u =
     ap (λ (l : List Entry). after w (map delete-step l) (w .reading .place .head)) (none-superseded (w .reading .entries) u)
-        ∙ after-none w (w .reading .place .head)
+    ∙ after-none w (w .reading .place .head)
 
 -- steps that are some: they are run, and the image is read again
 pub after-some : (w : Work) (ss : List Step) (h : ℕ) → (ss ≡ [] → ⊥) → after w ss h ≡ reread w ss (run (w .image) ss) h
@@ -95,7 +99,7 @@ two-plain w (x ∷ es) s = two-none w x es (s .1)
 -- the first record START, whatever the second
 pub start-read :
     {im : Image} {h S T : ℕ} (B F : ℕ) {t u : Bool} {x : Entry} {es : List Entry} → Laid im h S t (x ∷ es) seg-none (blanks B) (blanks F)
-        → Tail h S t seg-none (blanks B) (blanks F) T u →
+    → Tail h S t seg-none (blanks B) (blanks F) T u →
     x .it .low ≡ 0 →
     Ruled (x ∷ es) → reading im ≡ give (read (length im) h T u (x ∷ es) Ending.Tail)
 start-read {im} {h} {T = T} B F {u = u} {x} {es} d e a r =
@@ -105,7 +109,7 @@ start-read {im} {h} {T = T} B F {u = u} {x} {es} d e a r =
 -- of any records that begin with START
 pub starts-read :
     {im : Image} {h S T : ℕ} (B F : ℕ) {t u : Bool} (es : List Entry) → Laid im h S t es seg-none (blanks B) (blanks F)
-        → Tail h S t seg-none (blanks B) (blanks F) T u → Starts es → Ruled es →
+    → Tail h S t seg-none (blanks B) (blanks F) T u → Starts es → Ruled es →
     reading im ≡ give (read (length im) h T u es Ending.Tail)
 starts-read B F [] d e s r = absurd s
 starts-read B F (x ∷ es) d e s r = start-read B F d e (s .0) r

@@ -59,7 +59,7 @@ module _ (xs ys : List Entry) (o : Entry) (s : Shadowed xs ys o) where
       let p : Entry → Bool = superseded es in
       let n : keep p xs ++ keep p ys ≡ [] =
       sym (keep-append p xs ys) ∙ keep-same (superseded es) (superseded R) R (each-all (λ e. superseded es e ≡ superseded R e) super-same R)
-          ∙ none-superseded R (s .unique) in
+      ∙ none-superseded R (s .unique) in
       keep-append p xs (o ∷ ys)
       ∙ ap₂ (λ (a b : List Entry). a ++ b) (empty-left (keep p xs) (keep p ys) n)
-          (keep-yes p o ys o-super ∙ ap (λ (l : List Entry). o ∷ l) (empty-right (keep p xs) (keep p ys) n))
+      (keep-yes p o ys o-super ∙ ap (λ (l : List Entry). o ∷ l) (empty-right (keep p xs) (keep p ys) n))

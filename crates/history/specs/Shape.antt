@@ -40,7 +40,7 @@ module _ (low high : List Rec) (gap lost rest : List ℕ) (h : ℕ) (below : siz
   pub drop-high : drop h image ≡ lay high rest
   drop-high =
       ap (drop h) split ∙ drop-past (lay low gap) (lost ++ lay high rest) h (length lost)
-          (sym here ∙ ap (λ (k : ℕ). k + length lost) (sym low-length))
+      (sym here ∙ ap (λ (k : ℕ). k + length lost) (sym low-length))
       ∙ drop-at lost (lay high rest) (length lost) refl
 
   length-image : length image ≡ h + sizes high + length rest
@@ -60,14 +60,14 @@ module _ (low high : List Rec) (gap lost rest : List ℕ) (h : ℕ) (below : siz
       from-head image h ≡ chain-of (entries-of h high ++ es) o t x
   high-read es o t x f l e =
       ap (chain (suc (length image)) false h) drop-high
-          ∙ fuel high (length image) h rest es o t x f e (omega (arith, length-image, sizes-least high))
+      ∙ fuel high (length image) h rest es o t x f e (omega (arith, length-image, sizes-least high))
 
   low-read : (es : List Entry) (o : Bool) (t : ℕ) (x : Next) → All-fine low → 1 ≤ floor h → Ends (sizes low) gap (chain-of es o t x) →
       from-zero image h false ≡ chain-of (entries-of 0 low ++ es) o t x
   low-read es o t x f l e =
       ap (chain (suc (length image)) false 0) take-low
       ∙ fuel low (length image) 0 gap es o t x f (subst (λ (a : ℕ). Ends a gap (chain-of es o t x)) (sym (zero-add (sizes low))) e)
-          (omega (arith, length-image, sizes-least low))
+      (omega (arith, length-image, sizes-least low))
 
   -- behind an unfinished record nothing but an end may stand
   low-stops : (x : Next) → low ≡ [] → Stops 0 gap x → from-zero image h true ≡ stop true 0 x
@@ -155,7 +155,7 @@ module _ (low high : List Rec) (gap lost rest : List ℕ) (h : ℕ) (below : siz
   shape-turned {x} {y} fs p t u z n e l d =
       reading-is im h _ _ (from-h [] false t x e ∙ ap (λ (m : List Entry). chain-of m false t x) (append-nil (entries-of h high)))
       (read-turned im h t u false p (entries-of h high) (entries-of 0 low ++ fs) z n
-          (low-read low high gap lost rest h below here fs p u y fl (omega arith) d) l)
+      (low-read low high gap lost rest h below here fs p u y fl (omega arith) d) l)
 
   -- an unfinished record that ends at N: turned, T is 0
   pub shape-last : {y : Next} (es : List Entry) (t : ℕ) → (floor h ≡ 0 → ⊥) → low ≡ [] → Ends (h + sizes high) rest (chain-of es true t Next.Over)
@@ -171,6 +171,6 @@ module _ (low high : List Rec) (gap lost rest : List ℕ) (h : ℕ) (below : siz
       reading-from im h ≡ read (length im) h 0 true (entries-of h high) (Ending.TornWrap t)
   shape-torn-wrap t z e =
       reading-is im h _ _ (from-h [] false t Next.TornWrap e
-          ∙ ap (λ (m : List Entry). chain-of m false t Next.TornWrap) (append-nil (entries-of h high)))
+      ∙ ap (λ (m : List Entry). chain-of m false t Next.TornWrap) (append-nil (entries-of h high)))
       (read-joined im h (chain-of (entries-of h high) false t Next.TornWrap) z
-          ∙ joined-torn (length im) h t false (entries-of h high) (from-zero im h false))
+      ∙ joined-torn (length im) h t false (entries-of h high) (from-zero im h false))

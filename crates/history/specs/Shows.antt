@@ -31,7 +31,6 @@ use Rattle.history.specs.Settled.{rested-settled}
 -- ---- elements by their index
 
 module _ {A : Type 0} where
-
   -- what holds of each element at its index
   each-index : (P : A → Type 0) (xs : List A) → ((i : ℕ) (x : A) → getElem? xs i ≡ some x → P x) → Each P xs
   each-index P [] f = tt
@@ -199,12 +198,12 @@ module _ {l : Ledger} {im : Image} {r : Reading} (q : Rested l im r) where
       → get im n .numbers ≡ success (data-at e) (length (content-of e)) 0 []
   get-some n e ok f =
       ap (λ (p : Answer Plan). carry-out im 0 p .numbers) (plan-get n ok ∙ ap (found getting) f)
-          ∙ carried (data-at e) (length (content-of e)) 0
+      ∙ carried (data-at e) (length (content-of e)) 0
 
   list-some : (i : ℕ) (e : Entry) → getElem? fs i ≡ some e → list im i .numbers ≡ success (e .at + 8) (length (name-of e)) (length (content-of e)) []
   list-some i e f =
       ap (λ (p : Answer Plan). carry-out im 0 p .numbers)
-          (plan-list i ∙ ap (λ (x : List Entry). found listing (getElem? x i)) files-are ∙ ap (found listing) f)
+      (plan-list i ∙ ap (λ (x : List Entry). found listing (getElem? x i)) files-are ∙ ap (found listing) f)
       ∙ carried (e .at + 8) (length (name-of e)) (length (content-of e))
 
   list-name : (i : ℕ) (e : Entry) → getElem? fs i ≡ some e → part-of im (list im i .numbers) ≡ name-of e
@@ -256,20 +255,20 @@ module _ {l : Ledger} {im : Image} {r : Reading} (q : Rested l im r) where
       absent : Each (λ e. same (name-of e) n ≡ false) (keep alive (q .es))
       absent =
           map-each-file (λ f. is-named n f ≡ false) (keep alive (q .es))
-              (perm-each (λ f. is-named n f ≡ false) (Permᴰ·symm (q .ok .matches)) (any-none-each (is-named n) l h))
+          (perm-each (λ f. is-named n f ≡ false) (Permᴰ·symm (q .ok .matches)) (any-none-each (is-named n) l h))
 
       go : {o : Option Entry} → Old n (q .es) o → o ≡ none
       go (old-none a) = refl
       go (old-some xs ys e p a m) =
           absurd (not-both (same (name-of e) n)
-              (in-kept (λ d. same (name-of d) n ≡ false) xs ys e a
-              (subst (λ (z : List Entry). Each (λ d. same (name-of d) n ≡ false) (keep alive z)) p absent))
+          (in-kept (λ d. same (name-of d) n ≡ false) xs ys e a
+          (subst (λ (z : List Entry). Each (λ d. same (name-of d) n ≡ false) (keep alive z)) p absent))
           (ap (λ (w : List ℕ). same w n) m ∙ same-refl n))
 
   get-none : (n : List ℕ) → name-ok n ≡ true → has n l ≡ false → get im n .numbers .answer ≡ 2
   get-none n ok h =
       let f : file-named n (r .entries) ≡ none = ap (file-named n) entries-are
-          ∙ none-named n h (file-named n (q .es)) (old-file n (q .es) l (q .ok)) in
+      ∙ none-named n h (file-named n (q .es)) (old-file n (q .es) l (q .ok)) in
       ap (λ (p : Answer Plan). carry-out im 0 p .numbers .answer) (plan-get n ok ∙ ap (found getting) f) ∙ refused 2
 
   -- list and get on a rested image
@@ -279,7 +278,7 @@ module _ {l : Ledger} {im : Image} {r : Reading} (q : Rested l im r) where
         counted = count-is ∙ ledger-length;
         listed =
             subst (λ (k : ℕ). Each (Listed im k) l) (sym count-is)
-                (over (Listed im (length fs)) (each-index (λ e. Listed im (length fs) (as-file e)) fs listed-at));
+            (over (Listed im (length fs)) (each-index (λ e. Listed im (length fs) (as-file e)) fs listed-at));
         got = over (Got im) (each-index (λ e. Got im (as-file e)) fs got-at);
         others = get-none;
       }

@@ -121,7 +121,7 @@ pub write-blank : (p w s : List ℕ) (a j m k : ℕ) → length p ≡ a → j �
     → run (p ++ (blanks k ++ s)) (take j (bytes-at a w)) ≡ p ++ (take j w ++ (blanks m ++ s))
 write-blank p w s a j m k e h l =
     rw (take-bytes j a w, blank-split j m k l, append-assoc (blanks j) (blanks m) s)
-        (write-over p (blanks j) (take j w) (blanks m ++ s) a e (length-replicate j 0xFF ∙ sym (length-take-le j w h)))
+    (write-over p (blanks j) (take j w) (blanks m ++ s) a e (length-replicate j 0xFF ∙ sym (length-take-le j w h)))
 
 -- two runs of bytes, one behind the other
 pub bytes-append : (a : ℕ) (v w : List ℕ) → bytes-at a (v ++ w) ≡ bytes-at a v ++ bytes-at (a + length v) w

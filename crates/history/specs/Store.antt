@@ -140,7 +140,7 @@ pub names-by : (es : List Entry) → Unique es → Each Well-named es → names-
 unfolding names-ok
 names-by es u h =
     all-each (name-legal es) es
-        (each-map es (λ e p. name-legal-by es e (p .0) (p .1)) (each-both (λ e. live es e ≡ alive e) Well-named es (live-alive es u) h))
+    (each-map es (λ e p. name-legal-by es e (p .0) (p .1)) (each-both (λ e. live es e ≡ alive e) Well-named es (live-alive es u) h))
 
 second-plain : (es : List Entry) (x y : Entry) → Unmarked y → second-ok es x y ≡ true
 unfolding second-ok

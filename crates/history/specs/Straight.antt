@@ -75,7 +75,7 @@ module _ {im : List ℕ} {a l : ℕ} {gap lost : List ℕ} {h : ℕ} {x : Rec} {
       let g : 8 * suc w ≡ h = omega (arith, s .at) in
       subst (λ (m : ℕ). Reaches 0 ((gap ++ lost) ++ lay (x ∷ ys) (seg-onto seg free)) (lay (x ∷ ys) (seg-onto seg free)) m) g
       (reaches-more (reaches-markless 0 w (gap ++ lost) (lay (x ∷ ys) (seg-onto seg free)) (before-length ∙ omega arith)
-          (subst (λ (n : ℕ). Markless n (gap ++ lost)) (sym e) before-markless)))
+      (subst (λ (n : ℕ). Markless n (gap ++ lost)) (sym e) before-markless)))
 
   -- START is found
   pub straight-start : (h ≡ 0 → ⊥) → x .low ≡ 0 → head im ≡ give h
@@ -83,7 +83,7 @@ module _ {im : List ℕ} {a l : ℕ} {gap lost : List ℕ} {h : ℕ} {x : Rec} {
       ap head together
       ∙ head-start [] ((gap ++ lost) ++ lay (x ∷ ys) (seg-onto seg free)) (drop 2 (lay (x ∷ ys) (seg-onto seg free))) h tt tt (fronted n)
       (subst (λ (b : ℕ). Reaches 0 ((gap ++ lost) ++ lay (x ∷ ys) (seg-onto seg free)) (b ∷ 0x5A ∷ drop 2 (lay (x ∷ ys) (seg-onto seg free))) h) e
-          (reached n))
+      (reached n))
       ∙ ap give (zero-add h)
 
   not-clean : (h ≡ 0 → ⊥) → clean-here ((gap ++ lost) ++ lay (x ∷ ys) (seg-onto seg free)) ≡ false
@@ -96,16 +96,16 @@ module _ {im : List ℕ} {a l : ℕ} {gap lost : List ℕ} {h : ℕ} {x : Rec} {
   straight-clean n e =
       ap head together
       ∙ head-clean [] ((gap ++ lost) ++ lay (x ∷ ys) (seg-onto seg free)) (drop 2 (lay (x ∷ ys) (seg-onto seg free))) h tt tt (fronted n)
-          (not-clean n)
+      (not-clean n)
       (subst (λ (b : ℕ). Reaches 0 ((gap ++ lost) ++ lay (x ∷ ys) (seg-onto seg free)) (b ∷ 0x5A ∷ drop 2 (lay (x ∷ ys) (seg-onto seg free))) h) e
-          (reached n))
+      (reached n))
       ∙ ap give (zero-add h)
 
   -- START at 0 is found
   pub straight-zero : h ≡ 0 → x .low ≡ 0 → head im ≡ give h
   straight-zero z e =
       ap head (at-zero z) ∙ subst (λ (b : ℕ). head (b ∷ 0x5A ∷ drop 2 (lay (x ∷ ys) (seg-onto seg free))) ≡ give 0) (sym e)
-          (head-zero (drop 2 (lay (x ∷ ys) (seg-onto seg free)))) ∙ ap give (sym z)
+      (head-zero (drop 2 (lay (x ∷ ys) (seg-onto seg free)))) ∙ ap give (sym z)
 
   -- head CLEAN at 0: nothing is found
   pub straight-none : (f : ℕ) → h ≡ 0 → x .low ≡ 0xA0 → Walked 0 (x ∷ ys) → seg ≡ seg-none → length free ≡ 8 * f → Markless f free → head im ≡ give h
@@ -113,7 +113,7 @@ module _ {im : List ℕ} {a l : ℕ} {gap lost : List ℕ} {h : ℕ} {x : Rec} {
       ap head (at-zero z) ∙ ap (λ (g : Seg). head (lay (x ∷ ys) (seg-onto g free))) o
       ∙ head-none (x ∷ ys) free (8 * f) (s .fine) w front-low
       (subst (λ (b : ℕ). clean-here (b ∷ 0x5A ∷ drop 2 (lay (x ∷ ys) free)) ≡ true) (sym e) (clean-is (drop 2 (lay (x ∷ ys) free))))
-          (omega (arith, length-lay (x ∷ ys) free))
+      (omega (arith, length-lay (x ∷ ys) free))
       (reaches-more (reaches-end (sizes (x ∷ ys)) f free l q))
       ∙ ap give (sym z)
 
@@ -128,5 +128,5 @@ module _ {im : List ℕ} {a l : ℕ} {gap lost : List ℕ} {h : ℕ} {x : Rec} {
   straight-reading t o es e =
       rw (s .is)
       (shape-straight [] (x ∷ ys) gap lost (seg-onto seg free) h (zero-add (length gap) ∙ s .gap-length ∙ sym bottom)
-          (omega (arith, bottom, s .at, s .lost-length)) tt (s .fine)
+      (omega (arith, bottom, s .at, s .lost-length)) tt (s .fine)
       (omega arith) es o t e)

@@ -89,7 +89,7 @@ module _ {im : List ℕ} {a l : ℕ} {gap lost : List ℕ} {h : ℕ} {rs : List 
   pub run-behind : (ss : List Step) → Programs ss → run im (moved (h + sizes xs) ss) ≡ gap ++ (lost ++ lay xs (run (lay ys (seg-onto seg free)) ss))
   run-behind ss p =
       ap (λ (l : List ℕ). run l (moved (h + sizes xs) ss)) split-at
-          ∙ run-past (front-part gap lost xs) (lay ys (seg-onto seg free)) ss (h + sizes xs) front-length p
+      ∙ run-past (front-part gap lost xs) (lay ys (seg-onto seg free)) ss (h + sizes xs) front-length p
       ∙ front-is gap lost xs (run (lay ys (seg-onto seg free)) ss)
 
 -- ---- a record changed
@@ -114,5 +114,5 @@ pub straight-length : {im : List ℕ} {a l : ℕ} {gap lost : List ℕ} {h : ℕ
     length im ≡ h + sizes high + seg-size seg + length free
 straight-length {gap = gap} {lost = lost} {high = high} {seg = seg} {free = free} s =
     ap length (s .is) ∙ length-append gap (lost ++ lay high (seg-onto seg free))
-        ∙ ap (λ (n : ℕ). length gap + n) (length-append lost (lay high (seg-onto seg free)))
+    ∙ ap (λ (n : ℕ). length gap + n) (length-append lost (lay high (seg-onto seg free)))
     ∙ omega (arith, s .gap-length, s .lost-length, s .at, length-lay high (seg-onto seg free), length-seg seg free)

@@ -48,7 +48,7 @@ module _ {im : List ℕ} {a l : ℕ} {gap lost : List ℕ} {h : ℕ} {x y : Rec}
         → run im (take i (erases (4096 * a) (suc k))) ≡ gap ++ (half-erased i (suc k) q ++ (drop (4096 * suc k) q ++ lay (y ∷ ys) free))
     erased i e =
         ap (λ (m : List ℕ). run m (take i (erases (4096 * a) (suc k)))) im-is
-            ∙ erase-cut i (suc k) (4096 * a) gap q (lay (y ∷ ys) free) (s .gap-length) (omega (arith, q-length)) e
+        ∙ erase-cut i (suc k) (4096 * a) gap q (lay (y ∷ ys) free) (s .gap-length) (omega (arith, q-length)) e
 
     markless-q : Markless (512 * k + r) (drop 4096 q)
     markless-q = old-head-markless x lost l k r (s .lost-length) all (s .lost-small) c
@@ -56,7 +56,7 @@ module _ {im : List ℕ} {a l : ℕ} {gap lost : List ℕ} {h : ℕ} {x y : Rec}
     -- after at least one erase: the head is Y, the free run may hold remains, without marks
     pub straight-erased : (i : ℕ) → i ≤ k →
         Straight (run im (take (suc i) (erases (4096 * a) (suc k)))) (a + suc k) r (gap ++ half-erased (suc i) (suc k) (old-head lost x []))
-            (drop (4096 * suc k) (old-head lost x [])) (h + rsize x)
+        (drop (4096 * suc k) (old-head lost x [])) (h + rsize x)
         (y ∷ ys) seg-none free
     straight-erased i e =
         let D : List ℕ = half-erased (suc i) (suc k) q in
@@ -69,14 +69,14 @@ module _ {im : List ℕ} {a l : ℕ} {gap lost : List ℕ} {h : ℕ} {x y : Rec}
           gap-length = length-append gap D ∙ omega (arith, s .gap-length, ld);
           gap-markless =
               subst (λ (n : ℕ). Markless n (gap ++ D)) qn
-                  (markless-append (512 * a) (512 * suc k) gap D (s .gap-length ∙ omega arith) (s .gap-markless)
-                      (half-erased-markless k r q q-length markless-q i e));
+              (markless-append (512 * a) (512 * suc k) gap D (s .gap-length ∙ omega arith) (s .gap-markless)
+              (half-erased-markless k r q q-length markless-q i e));
           lost-length = length-drop (4096 * suc k) q ∙ omega (arith, q-length);
           lost-small = short;
           lost-markless = markless-lost k r q q-length markless-q;
           front =
               front-keep gap lost D L a (s .gap-length) (s .front)
-                  (second-ff (4096 * suc i) (take (4096 * (suc k - suc i)) (drop (4096 * suc i) q)) L (omega arith));
+              (second-ff (4096 * suc i) (take (4096 * (suc k - suc i)) (drop (4096 * suc i) q)) L (omega arith));
           fine = s .fine .1;
         }
 

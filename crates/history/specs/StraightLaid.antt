@@ -18,7 +18,7 @@ use Rattle.history.specs.Entries.{entries-append, Among, among-fine, ent
 laid-of : {im : List ℕ} {a l : ℕ} {gap lost : List ℕ} {h : ℕ} (xs : List Rec) (r : Rec) (ys : List Rec) {seg : Seg} {free : List ℕ} {S : ℕ}
     {es : List Entry} (f : ℕ) →
     Straight im a l gap lost h (xs ++ (r ∷ ys)) seg free → S ≡ h + sizes (xs ++ (r ∷ ys)) → es ≡ entries-of h (xs ++ (r ∷ ys)) → length free ≡ 8 * f
-        → Markless f free →
+    → Markless f free →
     Laid im h S false es seg gap free
 laid-of [] r ys f s p q m n = laid-straight f s refl p q m n
 laid-of (x ∷ xs) r ys f s p q m n = laid-straight f s refl p q m n
@@ -44,13 +44,13 @@ module _ {im : List ℕ} {a l : ℕ} {gap lost : List ℕ} {h : ℕ} {x : Rec} {
         at = front-length rs [] (sym (append-nil rs)) s;
         plug = λ g f new y m n o z.
             laid-of [] x ys f (straight-with (pre ++ seg-onto g (new ++ [])) s
-                (ap (λ (l : List ℕ). pre ++ l) (seg-append g new []) ∙ at-end (seg-onto g new))
-                (s .fine)) refl refl m n;
+            (ap (λ (l : List ℕ). pre ++ l) (seg-append g new []) ∙ at-end (seg-onto g new))
+            (s .fine)) refl refl m n;
         grow = λ r f new y fine w m n o z.
             laid-of rs r [] f
             (straight-with (pre ++ onto r (new ++ [])) s
             (ap (λ (l : List ℕ). pre ++ onto r l) (append-nil new) ∙ front-is gap lost rs (onto r new)
-                ∙ ap (λ (l : List ℕ). gap ++ (lost ++ l)) (sym (lay-append rs (r ∷ []) new)))
+            ∙ ap (λ (l : List ℕ). gap ++ (lost ++ l)) (sym (lay-append rs (r ∷ []) new)))
             (fine-append rs (r ∷ []) (s .fine) (fine, tt)))
             (omega (arith, sizes-append rs (r ∷ [])))
             (sym (entries-append h rs (r ∷ []))) m n;
@@ -71,7 +71,7 @@ module _ {im : List ℕ} {a l : ℕ} {gap lost : List ℕ} {h : ℕ} {x : Rec} {
             laid-of (q .before) r (q .after) f
             (straight-with (front-part gap lost (q .before) ++ onto r (lay (q .after) tail)) s
             (front-is gap lost (q .before) (lay (r ∷ q .after) tail)
-                ∙ ap (λ (l : List ℕ). gap ++ (lost ++ l)) (sym (lay-append (q .before) (r ∷ q .after) tail)))
+            ∙ ap (λ (l : List ℕ). gap ++ (lost ++ l)) (sym (lay-append (q .before) (r ∷ q .after) tail)))
             (fine-with q r z (s .fine) fine))
             (ap (λ (n : ℕ). h + n) (sym (sizes-with q r z)))
             (entries-with q r z) m n;

@@ -48,16 +48,18 @@ remove-step {l} {im} {r} n e q f = go (old-file n (q .es) l (q .ok)) (sym (ap (�
         subst (λ (fs : List Entry). Laid im (q .h) (q .S) (q .t) fs seg-none (blanks (q .B)) (blanks (q .F))) i (q .laid) in
         let o : Ok (xs ++ (gone e ∷ ys)) (without n l) =
         subst (λ (k : List ℕ). Ok (xs ++ (gone e ∷ ys)) (without k l)) m
-            (ok-delete xs ys e l (subst (λ (fs : List Entry). Ok fs l) i (q .ok)) (gone e) a (gone-dead e)) in
-        (status-sound xs ys e d 0 refl, rested-inv
-            (delete-rests (q .B) (q .F) xs ys e (q .good) d (q .tail) (subst Starts i (q .starts)) o))
+        (ok-delete xs ys e l (subst (λ (fs : List Entry). Ok fs l) i (q .ok)) (gone e) a (gone-dead e)) in (
+          status-sound xs ys e d 0 refl,
+          rested-inv
+              (delete-rests (q .B) (q .F) xs ys e (q .good) d (q .tail) (subst Starts i (q .starts)) o),
+        )
 
     go : {o : Option Entry} → Old n (q .es) o → o ≡ some e → Sound im (status-step e 0) × Inv (without n l) (run im (status-step e 0 ∷ []))
     go (old-none x) k = absurd (let z : _≡_ {A = ℕ} 0 1 = cc in omega arith)
     go (old-some xs ys g i a m) k =
         let p : g ≡ e = cc in
         at xs ys (subst (λ (y : Entry). q .es ≡ xs ++ (y ∷ ys)) p i) (subst (λ (y : Entry). alive y ≡ true) p a)
-            (subst (λ (y : Entry). name-of y ≡ n) p m)
+        (subst (λ (y : Entry). name-of y ≡ n) p m)
 
 -- ---- the move
 
@@ -69,7 +71,7 @@ record Done (l : Ledger) (im : Image) (w : Work) : Type 0 where
 
 two-on : (w : Work) (x y : Entry) (es : List Entry) → w .reading .entries ≡ x ∷ y ∷ es →
     moved-on w ≡ reread w (program (y .at) 0xA0 ∷ close-steps (w .reading .place .length) x y)
-        (run (w .image) (program (y .at) 0xA0 ∷ close-steps (w .reading .place .length) x y)) (y .at)
+    (run (w .image) (program (y .at) 0xA0 ∷ close-steps (w .reading .place .length) x y)) (y .at)
 unfolding hand-over after
 two-on w x y es e = ap (hand-over w) e
 
@@ -82,7 +84,7 @@ moved-done l im w d f =
     let ss : List Step = program (f .y .at) 0xA0 ∷ close-steps (w .reading .place .length) (f .x) (f .y) in
     let p : Rests l (w .image) ss (f .y .at) =
     subst (λ (n : ℕ). Rests l (w .image) (program (f .y .at) 0xA0 ∷ close-steps n (f .x) (f .y)) (f .y .at)) (sym N)
-        (hands-over q (f .x) (f .y) (f .rest) (f .is) (f .dead)) in
+    (hands-over q (f .x) (f .y) (f .rest) (f .is) (f .dead)) in
     subst (Done l im) (sym (two-on w (f .x) (f .y) (f .rest) e))
     (record {
       safe = safe-append (Inv l) im (w .steps) ss (d .safe) (subst (λ (i : Image). Safe (Inv l) i ss) (d .image) (p .safe));
@@ -140,7 +142,7 @@ move-by : (im : Image) (r : Reading) (es : List Entry) (ss : List Step) (w : Wor
 unfolding move
 move-by im r es ss w e k a =
     ap moved-on (ap (λ (fs : List Entry). after (begin im r) (copy-steps r fs) (r .place .head)) e
-        ∙ ap (λ (ts : List Step). after (begin im r) ts (r .place .head)) k ∙ a)
+    ∙ ap (λ (ts : List Step). after (begin im r) ts (r .place .head)) k ∙ a)
 
 module _ {l : Ledger} {im : Image} {r : Reading} (q : Rested l im r) (free : stuck r ≡ false) where
   entries-is : r .entries ≡ q .es
@@ -155,9 +157,9 @@ module _ {l : Ledger} {im : Image} {r : Reading} (q : Rested l im r) (free : stu
       let room : fits (r .place) (size x) ≡ true = has-room r x es (entries-is ∙ i) free (live-is x es i ∙ a) in
       let c : (p : Rested l (run im ss) (reading-from (run im ss) (r .place .head))) × Dead-first (p .es) = copied q x es i a room in
       let d : Done l im (reread (begin im r) ss (run im ss) (r .place .head)) = record
-          { safe = copy-safe q x es i a room; image = refl; rested = c .0 } in
+      { safe = copy-safe q x es i a room; image = refl; rested = c .0 } in
       subst (Done l im) (sym (move-by im r (x ∷ es) ss (reread (begin im r) ss (run im ss) (r .place .head)) (entries-is ∙ i)
-          (copy-live r x es (live-is x es i ∙ a))
+      (copy-live r x es (live-is x es i ∙ a))
       (after-some (begin im r) ss (r .place .head) (copy-some q x es i a room))))
       (moved-done l im (reread (begin im r) ss (run im ss) (r .place .head)) d (c .1))
 
@@ -167,9 +169,9 @@ module _ {l : Ledger} {im : Image} {r : Reading} (q : Rested l im r) (free : stu
       absurd (let n : _≡_ {A = ℕ} 0 1 = cc in omega arith)
   move-dead x (y ∷ es) i a =
       subst (Done l im) (sym (move-by im r (x ∷ y ∷ es) [] (begin im r) (entries-is ∙ i) (copy-dead r x (y ∷ es) (live-is x (y ∷ es) i ∙ a))
-          (after-none (begin im r) (r .place .head))))
+      (after-none (begin im r) (r .place .head))))
       (moved-done l im (begin im r) (record { safe = rested-inv q; image = refl; rested = q })
-          (record { x = x; y = y; rest = es; is = i; dead = a }))
+      (record { x = x; y = y; rest = es; is = i; dead = a }))
 
   move-done : Done l im (move (begin im r))
   move-done = go (q .es) refl

@@ -51,7 +51,7 @@ module _ {k l : Ledger} {im : Image} {ss : List Step} {at h : ℕ} (c : Commits 
   commits-early : (j : ℕ) → j < at → Inv k (run im (take j ss))
   commits-early j h =
       subst (λ (ts : List Step). Inv k (run im ts))
-          (sym (ap (take j) (c .is) ∙ take-append-le j (c .before) (c .commit ∷ c .behind) (omega (arith, c .place))))
+      (sym (ap (take j) (c .is) ∙ take-append-le j (c .before) (c .commit ∷ c .behind) (omega (arith, c .place))))
       (safe-cut (Inv k) im (c .before) (c .safe-before) j)
 
   commits-late : (j : ℕ) → at ≤ j → Inv l (run im (take j ss))
@@ -109,10 +109,10 @@ module _ (im : Image) (l : Ledger) (n c : List ℕ) (k : ℕ) (ss : List Step) (
   cut-fits : (b : Bool) → leb at k ≡ b → Fits (record { numbers = cut k P; image = run im (take k ss) })
   cut-fits true e =
       subst (λ (x : Ledger). Inv x (run im (take k ss))) (sym (fed-yes im n c (cut k P) l (done-cut im n c k P ∙ ap (λ (x : ℕ). leb x k) place ∙ e)))
-          (commits-late m k (leb-true at k e))
+      (commits-late m k (leb-true at k e))
   cut-fits false e =
       subst (λ (x : Ledger). Inv x (run im (take k ss))) (sym (fed-no im n c (cut k P) l (done-cut im n c k P ∙ ap (λ (x : ℕ). leb x k) place ∙ e)))
-          (commits-early m k (leb-false at k e))
+      (commits-early m k (leb-false at k e))
 
   put-given : Keeps im l (Request.put n c) k (give P)
   put-given = go (leb (length ss) k) refl
@@ -126,7 +126,7 @@ module _ (im : Image) (l : Ledger) (n c : List ℕ) (k : ℕ) (ss : List Step) (
 -- the commit's place, on an image that is read as r
 place-is : (im : Image) (r : Reading) (n c : List ℕ) → reading im ≡ give r →
     commit-place n c (reading im) ≡ length n + length c + 9 + one-if-fc (file-named n (r .entries)) + three-if
-        (with-marker (r .place) (size-of (length n) (length c)))
+    (with-marker (r .place) (size-of (length n) (length c)))
 unfolding commit-place
 place-is im r n c e = ap (commit-place n c) e
 
@@ -142,7 +142,7 @@ put-keeps im l n c k i b = go (puts-of l im n c i)
     go (put-yes r q ok f e) =
         subst (Keeps im l (Request.put n c) k) (sym e)
         (put-given im l n c k (put-steps (r .place) (file-named n (r .entries)) n c) _ (place-is im r n c (rested-reads q))
-            (put-commits q (file-named n (r .entries)) n c (rested-old n q) ok b f))
+        (put-commits q (file-named n (r .entries)) n c (rested-old n q) ok b f))
 
 -- its steps are sound
 put-sound : (im : Image) (l : Ledger) (n c : List ℕ) → Inv l im → Bytes c → Steps-sound im (steps-of (put-plan n c im))
@@ -152,7 +152,7 @@ put-sound im l n c i b = go (puts-of l im n c i)
     go (put-no r) = subst (λ (p : Answer Plan). Steps-sound im (steps-of p)) (sym (r .is)) tt
     go (put-yes r q ok f e) =
         subst (λ (p : Answer Plan). Steps-sound im (steps-of p)) (sym e)
-            (commits-sound (put-commits q (file-named n (r .entries)) n c (rested-old n q) ok b f))
+        (commits-sound (put-commits q (file-named n (r .entries)) n c (rested-old n q) ok b f))
 
 -- ---- remove
 
@@ -232,7 +232,7 @@ mounted-by : (im : Image) (l : Ledger) (k : ℕ) (p : Answer Plan) (q : Plan) �
     Shown l (carry-out im k p)
 mounted-by im l k p q e h a s =
     subst (λ (p : Answer Plan). length (steps-of p) ≤ k → Shown l (carry-out im k p)) (sym e)
-        (λ j. subst (Shown l) (sym (carried-done im k q j)) (a, s)) h
+    (λ j. subst (Shown l) (sym (carried-done im k q j)) (a, s)) h
 
 -- a mount with allowance enough answers 0, and shows the ledger's files
 mounts : (im : Image) (l : Ledger) → Inv l im → (k : ℕ) → length (steps-of (mount-plan im)) ≤ k → Mounted im k l

@@ -112,28 +112,28 @@ module _ {im : List ℕ} {a l : ℕ} {lost : List ℕ} {h : ℕ} {low : List Rec
       → Reaches (sizes low) (seg-onto seg ((free ++ lost) ++ rest)) (b ∷ 0x5A ∷ drop 2 rest) (seg-size seg + 8 * (f + l))
   reached {b} e k =
       subst (λ (c : ℕ). Reaches (sizes low) (seg-onto seg ((free ++ lost) ++ (c ∷ 0x5A ∷ drop 2 rest))) (b ∷ 0x5A ∷ drop 2 rest)
-          (seg-size seg + 8 * (f + l))) (sym e)
+      (seg-size seg + 8 * (f + l))) (sym e)
       (seg-reaches (sizes low) (f + l) seg (free ++ lost) (drop 2 rest) word-count
-          (markless-append f l free lost (s .free-length) (s .free-markless) (s .lost-markless)) k
+      (markless-append f l free lost (s .free-length) (s .free-markless) (s .lost-markless)) k
       (λ i. omega (arith, s .below, s .some-below)))
 
   fronted : Front low (seg-onto seg ((free ++ lost) ++ rest))
   fronted =
       rw (append-assoc free lost rest)
-          (front-seg low seg free (lost ++ rest) (s .opened) (s .opens) (omega (arith, s .below, s .free-length, s .some-below)))
+      (front-seg low seg free (lost ++ rest) (s .opened) (s .opens) (omega (arith, s .below, s .free-length, s .some-below)))
 
   -- START is found
   pub turned-start : x .low ≡ 0 → head im ≡ give h
   turned-start e =
       ap head seg-whole ∙ head-start low (seg-onto seg ((free ++ lost) ++ rest)) (drop 2 rest) (seg-size seg + 8 * (f + l)) (s .fine-low) (s .walked)
-          fronted (reached e is-START)
+      fronted (reached e is-START)
       ∙ ap give (omega (arith, s .below, s .at))
 
   -- CLEAN is found, if none stands at 0
   pub turned-clean : x .low ≡ 0xA0 → clean-here im ≡ false → head im ≡ give h
   turned-clean e c =
       ap head seg-whole ∙ head-clean low (seg-onto seg ((free ++ lost) ++ rest)) (drop 2 rest) (seg-size seg + 8 * (f + l)) (s .fine-low) (s .walked)
-          fronted (sym (ap clean-here seg-whole) ∙ c)
+      fronted (sym (ap clean-here seg-whole) ∙ c)
       (reached e is-CLEAN)
       ∙ ap give (omega (arith, s .below, s .at))
 
@@ -163,15 +163,15 @@ module _ {im : List ℕ} {a l : ℕ} {lost : List ℕ} {h : ℕ} {low : List Rec
     where
       go : (en : End) → im ≡ lay low (seg-onto seg free ++ (lost ++ lay (x ∷ ys) (end-bytes en))) →
           reading-from im h ≡ read (length im) h (sizes low + seg-size seg) true
-              (entries-of h (x ∷ ys) ++ (entries-of 0 low ++ seg-entries (sizes low) seg)) Ending.Tail
+          (entries-of h (x ∷ ys) ++ (entries-of 0 low ++ seg-entries (sizes low) seg)) Ending.Tail
       go exact e =
           rw e (shape-turned low (x ∷ ys) (seg-onto seg free) lost [] h low-part high-part (s .fine-low) (s .fine-high) (omega arith)
-              (seg-entries (sizes low) seg) (seg-open seg)
+          (seg-entries (sizes low) seg) (seg-open seg)
           (h + sizes (x ∷ ys)) (sizes low + seg-size seg)
           (λ z. omega (arith, bottom, s .some-below)) turns-over (λ k. stops-over (h + sizes (x ∷ ys)) false (suc k)) (opens-end (s .opens))
-              low-ends)
+          low-ends)
       go (marker k) e =
           rw e (shape-turned low (x ∷ ys) (seg-onto seg free) lost (wrap (blanks k)) h low-part high-part (s .fine-low) (s .fine-high) (omega arith)
-              (seg-entries (sizes low) seg) (seg-open seg)
+          (seg-entries (sizes low) seg) (seg-open seg)
           (h + sizes (x ∷ ys)) (sizes low + seg-size seg)
           (λ z. omega (arith, bottom, s .some-below)) turns-wrap (ends-wrap (h + sizes (x ∷ ys)) (blanks k)) (opens-end (s .opens)) low-ends)

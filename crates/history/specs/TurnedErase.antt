@@ -22,7 +22,7 @@ more-open i k q opens-ff = opens-ff
 more-open i k q opens-none =
     subst (λ (l : List ℕ). Opens l Next.Clear)
     (sym (ap (λ (l : List ℕ). l ++ take (4096 * (k - suc i)) (drop (4096 * suc i) q))
-        (blank-split 8 (4096 * suc i - 8) (4096 * suc i) (omega arith)))) opens-ff
+    (blank-split 8 (4096 * suc i - 8) (4096 * suc i) (omega arith)))) opens-ff
 
 -- the bytes below the head's sector
 pre-length : {im : List ℕ} {a l : ℕ} {lost : List ℕ} {h : ℕ} {low : List Rec} {f : ℕ} {free : List ℕ} {high : List Rec} {end : End}
@@ -55,7 +55,7 @@ module _ {im : List ℕ} {a l : ℕ} {lost : List ℕ} {h : ℕ} {low : List Rec
   -- after at least one erase: the head is Y
   pub turned-erased : (i : ℕ) → i ≤ k →
       Turned (run im (take (suc i) (erases (4096 * a) (suc k)))) (a + suc k) r (drop (4096 * suc k) (old-head lost x [])) (h + rsize x) low seg-none
-          (f + 512 * suc k)
+      (f + 512 * suc k)
       (free ++ half-erased (suc i) (suc k) (old-head lost x [])) (y ∷ ys) end
   unfolding rest
   turned-erased i e =
@@ -93,7 +93,7 @@ module _ {im : List ℕ} {a l : ℕ} {lost : List ℕ} {h : ℕ} {low : List Rec
   unfolding old-head
   im₀-is =
       s .is ∙ sym (lay-past low free (lost ++ onto x (end-bytes end)))
-          ∙ ap (λ (l : List ℕ). lay low free ++ l) (sym (append-nil (lost ++ onto x (end-bytes end))))
+      ∙ ap (λ (l : List ℕ). lay low free ++ l) (sym (append-nil (lost ++ onto x (end-bytes end))))
 
   q₀-length : length q₀ ≡ 4096 * suc k + 8 * 0
   q₀-length =
@@ -104,7 +104,7 @@ module _ {im : List ℕ} {a l : ℕ} {lost : List ℕ} {h : ℕ} {low : List Rec
   markless-q₀ =
       let n : 511 - l + 512 * k ≡ 511 - l + (512 * k + 0) = omega arith in
       old-head-second x lost (end-bytes end) l (512 * k + 0) (s .lost-length) (s .lost-small)
-          (subst (λ (m : ℕ). Markless m (body (x .name) (x .content) (end-bytes end))) n c)
+      (subst (λ (m : ℕ). Markless m (body (x .name) (x .content) (end-bytes end))) n c)
 
   -- after at least one erase: not turned, the head is at 0
   pub zero-erased : (i : ℕ) → i ≤ k
@@ -134,4 +134,4 @@ module _ {im : List ℕ} {a l : ℕ} {lost : List ℕ} {h : ℕ} {low : List Rec
   pub zero-markless : (i : ℕ) → i ≤ k → Markless (f + 512 * suc k) (free ++ half-erased (suc i) (suc k) (old-head lost x (end-bytes end)))
   zero-markless i e =
       markless-append f (512 * suc k) free (half-erased (suc i) (suc k) q₀) (s .free-length) (s .free-markless)
-          (half-erased-markless k 0 q₀ q₀-length markless-q₀ i e)
+      (half-erased-markless k 0 q₀ q₀-length markless-q₀ i e)

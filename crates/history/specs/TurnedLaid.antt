@@ -41,7 +41,7 @@ walked-right at (r ∷ xs) ys p = subst (λ (n : ℕ). Walked n ys) (omega arith
 with-high : {im : List ℕ} {a l : ℕ} {lost : List ℕ} {h : ℕ} {low : List Rec} {seg : Seg} {f : ℕ} {free : List ℕ} {high high′ : List Rec} {end : End}
     (im′ : List ℕ) →
     Turned im a l lost h low seg f free high end → im′ ≡ lay low (seg-onto seg (free ++ (lost ++ lay high′ (end-bytes end)))) → All-fine high′
-        → Turned im′ a l lost h low seg f free high′ end
+    → Turned im′ a l lost h low seg f free high′ end
 with-high im′ s e f =
     record {
       is = e;
@@ -65,7 +65,7 @@ with-low : {im : List ℕ} {a l : ℕ} {lost : List ℕ} {h : ℕ} {low low′ :
     {end : End} {x : Next} (im′ : List ℕ) (f′ : ℕ) →
     Turned im a l lost h low seg f free high end → im′ ≡ lay low′ (seg-onto seg′ (new ++ (lost ++ lay high (end-bytes end)))) →
     sizes low′ + seg-size seg′ + length new ≡ sizes low + seg-size seg + length free → length new ≡ 8 * f′ → Markless f′ new → Opens new x
-        → All-fine low′ → Walked 0 low′ →
+    → All-fine low′ → Walked 0 low′ →
     Turned im′ a l lost h low′ seg′ f′ new high end
 with-low {x = x} im′ f′ s e z m q o fl w =
     record {
@@ -89,7 +89,7 @@ with-low {x = x} im′ f′ s e z m q o fl w =
 high-laid : {im : List ℕ} {a l : ℕ} {lost : List ℕ} {h : ℕ} {low : List Rec} {seg : Seg} {f : ℕ} {free : List ℕ} (xs : List Rec) (r : Rec)
     (ys : List Rec) {end : End} {es : List Entry} →
     Turned im a l lost h low seg f free (xs ++ (r ∷ ys)) end → es ≡ entries-of h (xs ++ (r ∷ ys)) ++ entries-of 0 low
-        → Laid im h (sizes low) true es seg [] free
+    → Laid im h (sizes low) true es seg [] free
 high-laid [] r ys s e = laid-turned s refl refl e refl
 high-laid (x ∷ xs) r ys s e = laid-turned s refl refl e refl
 
@@ -111,7 +111,7 @@ module _ {im : List ℕ} {a l : ℕ} {lost : List ℕ} {h : ℕ} {low : List Rec
         plug = λ g k new y m q o z.
             laid-turned {low = low}
             (with-low (lay low [] ++ seg-onto g (new ++ rest)) k s (sym (lay-is low (seg-onto g (new ++ rest)))) (omega arith) m q o (s .fine-low)
-                (s .walked)) refl refl refl refl;
+            (s .walked)) refl refl refl refl;
         grow = λ r k new y fine w m q o z.
             laid-turned {low = low ++ (r ∷ [])}
             (with-low (lay low [] ++ onto r (new ++ rest)) k s
@@ -123,7 +123,7 @@ module _ {im : List ℕ} {a l : ℕ} {lost : List ℕ} {h : ℕ} {low : List Rec
             (append-assoc (entries-of h (x ∷ ys)) (entries-of 0 low) (record { at = sizes low; it = r } ∷ [])
             ∙ ap (λ (l : List Entry). entries-of h (x ∷ ys) ++ l)
             (ap (λ (n : ℕ). entries-of 0 low ++ (record { at = n; it = r } ∷ [])) (sym (zero-add (sizes low)))
-                ∙ sym (entries-append 0 low (r ∷ []))))
+            ∙ sym (entries-append 0 low (r ∷ []))))
             refl;
       }
 
@@ -140,7 +140,7 @@ module _ {im : List ℕ} {a l : ℕ} {lost : List ℕ} {h : ℕ} {low : List Rec
       ∙ ap (lay low)
       (sym (seg-append seg u t)
       ∙ ap (seg-onto seg) (append-assoc free (lost ++ lay xs []) t
-          ∙ ap (λ (l : List ℕ). free ++ l) (append-assoc lost (lay xs []) t ∙ ap (λ (l : List ℕ). lost ++ l) (sym (lay-is xs t)))))
+      ∙ ap (λ (l : List ℕ). free ++ l) (append-assoc lost (lay xs []) t ∙ ap (λ (l : List ℕ). lost ++ l) (sym (lay-is xs t)))))
 
   -- how long it is
   pub high-front-length : (xs : List Rec) → length (high-front xs) ≡ h + sizes xs
@@ -168,7 +168,7 @@ module _ {im : List ℕ} {a l : ℕ} {lost : List ℕ} {h : ℕ} {low : List Rec
         post = lay (q .after) (end-bytes end);
         is =
             s .is ∙ ap (λ (l : List ℕ). lay low (seg-onto seg (free ++ (lost ++ l))))
-                (ap (λ (k : List Rec). lay k (end-bytes end)) (q .is) ∙ lay-append (q .before) (e .it ∷ q .after) (end-bytes end))
+            (ap (λ (k : List Rec). lay k (end-bytes end)) (q .is) ∙ lay-append (q .before) (e .it ∷ q .after) (end-bytes end))
             ∙ sym (high-front-is (q .before) (lay (e .it ∷ q .after) (end-bytes end)));
         at = high-front-length (q .before) ∙ sym (q .there);
         fine = among-fine q (s .fine-high);
@@ -179,7 +179,7 @@ module _ {im : List ℕ} {a l : ℕ} {lost : List ℕ} {h : ℕ} {low : List Rec
             (sym (lay-append (q .before) (r ∷ q .after) (end-bytes end))))
             (fine-with q r z (s .fine-high) fine))
             (sym (append-assoc xs (record { at = e .at; it = r } ∷ zs) (entries-of 0 low))
-                ∙ ap (λ (l : List Entry). l ++ entries-of 0 low) (entries-with q r z));
+            ∙ ap (λ (l : List Entry). l ++ entries-of 0 low) (entries-with q r z));
       }
 
   -- what the walk steps over, still
@@ -200,7 +200,7 @@ module _ {im : List ℕ} {a l : ℕ} {lost : List ℕ} {h : ℕ} {low : List Rec
         post = lay (q .after) t;
         is =
             s .is ∙ ap (λ (k : List Rec). lay k t) (q .is) ∙ lay-append (q .before) (e .it ∷ q .after) t
-                ∙ lay-is (q .before) (lay (e .it ∷ q .after) t);
+            ∙ lay-is (q .before) (lay (e .it ∷ q .after) t);
         at = length-lay (q .before) [] ∙ omega (arith, q .there);
         fine = among-fine q (s .fine-low);
         swap = λ r z fine w.
@@ -216,7 +216,7 @@ module _ {im : List ℕ} {a l : ℕ} {lost : List ℕ} {h : ℕ} {low : List Rec
             )))
             refl (sym n)
             (append-assoc (entries-of h (x ∷ ys)) xs (record { at = e .at; it = r } ∷ zs)
-                ∙ ap (λ (l : List Entry). entries-of h (x ∷ ys) ++ l) (entries-with q r z))
+            ∙ ap (λ (l : List Entry). entries-of h (x ∷ ys) ++ l) (entries-with q r z))
             refl;
       }
 

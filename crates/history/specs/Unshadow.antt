@@ -33,25 +33,24 @@ use Rattle.history.specs.Mending.{Mends, mends-4}
 
 module _ {im : Image} {h S T : ℕ} (B F : ℕ) {t u : Bool} (xs ys : List Entry) (e : Entry) (good : good-length (length im) ≡ true)
     (d : Laid im h S t (xs ++ (e ∷ ys)) seg-none (blanks B) (blanks F)) (tail : Tail h S t seg-none (blanks B) (blanks F) T u) where
-
   -- the step leaves a rested image
   pub delete-rests : {l : Ledger} → Starts (xs ++ (e ∷ ys)) → Ok (xs ++ (gone e ∷ ys)) l
       → Rested l (set im (e .at + 2) 0) (reading-from (set im (e .at + 2) 0) h)
   delete-rests s o =
       rested-of B F (ap good-length (length-set im (e .at + 2) 0) ∙ good) (restatus-laid xs ys e d 0 st-00) (tail-here tail .tail)
-          (starts-swap xs ys e (gone e) refl s) o
+      (starts-swap xs ys e (gone e) refl s) o
 
 drop-one : (w : Work) (es : List Entry) (o : Entry) → w .reading .entries ≡ es → keep (superseded es) es ≡ o ∷ []
     → repair-4 w ≡ after w (status-step o 0 ∷ []) (w .reading .place .head)
 unfolding repair-4 drop-steps
 drop-one w es o e k =
     ap (λ (fs : List Entry). after w (map delete-step (keep (superseded fs) fs)) (w .reading .place .head)) e
-        ∙ ap (λ (fs : List Entry). after w (map delete-step fs) (w .reading .place .head)) k
+    ∙ ap (λ (fs : List Entry). after w (map delete-step fs) (w .reading .place .head)) k
 
 -- the kind shadow: mount deletes the F8 record
 pub mends-shadow :
     {l : Ledger} {im : Image} {h S T : ℕ} (B F : ℕ) {t u : Bool} (xs ys : List Entry) (o : Entry) → Inv l im
-        → Laid im h S t (xs ++ (o ∷ ys)) seg-none (blanks B) (blanks F) →
+    → Laid im h S t (xs ++ (o ∷ ys)) seg-none (blanks B) (blanks F) →
     Tail h S t seg-none (blanks B) (blanks F) T u → Starts (xs ++ (o ∷ ys)) → Shadowed xs ys o → Ok (xs ++ ys) l → Mends l im
 mends-shadow {l} {im} {h} {T = T} B F {u = u} xs ys o i d e s k ok =
     let es : List Entry = xs ++ (o ∷ ys) in

@@ -230,7 +230,7 @@ module _ {l : Ledger} {h : ℕ} {im : Image} {x : Entry} {es : List Entry} (g : 
         good = g;
         kind = vacated (b .laid) (b .tail)
             (free-part (b .laid) (b .F) [] (sym (append-nil (blanks (b .F)))) (min (floor (b .S) + 4096) (limit (place im h (b .S) (b .t))))
-                (omega arith) (omega arith)) c u o;
+            (omega arith) (omega arith)) c u o;
       }
 
   -- the head's low byte

@@ -37,7 +37,7 @@ voided (seg-held n c f) = dead n c ∷ []
 set-end : (H n X : List ℕ) → length H ≡ 8 → set (H ++ (n ++ (0xFF ∷ X))) (8 + length n) 0 ≡ H ++ (n ++ (0 ∷ X))
 set-end H n X e =
     ap (λ (x : List ℕ). set x (8 + length n) 0) (sym (append-assoc H n (0xFF ∷ X)))
-        ∙ set-at (H ++ n) 0xFF X 0 (8 + length n) (length-append H n ∙ ap (λ (k : ℕ). k + length n) e)
+    ∙ set-at (H ++ n) 0xFF X 0 (8 + length n) (length-append H n ∙ ap (λ (k : ℕ). k + length n) e)
     ∙ append-assoc H n (0 ∷ X)
 
 end-name : (d : ℕ) (n s : List ℕ) → set (begun d n s) (8 + length n) 0 ≡ onto (held n (blanks d)) s
@@ -66,12 +66,14 @@ pub void-fine : (g : Seg) → All-fine (voided g)
 void-fine seg-none = tt
 void-fine (seg-torn c x y z w t b m) =
     (record { low-ok = low-record; status-ok = st-00; fit = record { short = omega arith; printable = tt; small = omega arith } }, tt)
-void-fine (seg-cut d n f) =
-    (record {
-      low-ok = low-record;
-      status-ok = st-00;
-      fit = record { short = f .short; printable = f .printable; small = rw (length-replicate {A = ℕ} d 0xFF) (f .small) };
-    }, tt)
+void-fine (seg-cut d n f) = (
+  record {
+    low-ok = low-record;
+    status-ok = st-00;
+    fit = record { short = f .short; printable = f .printable; small = rw (length-replicate {A = ℕ} d 0xFF) (f .small) };
+  },
+  tt,
+)
 void-fine (seg-held n c f) = (record { low-ok = low-record; status-ok = st-00; fit = f }, tt)
 
 -- cut: still something unfinished, of the same size

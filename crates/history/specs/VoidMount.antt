@@ -85,7 +85,7 @@ module _ {l : Ledger} {im : Image} {h S T : ℕ} (B F : ℕ) {t u : Bool} {es : 
   same-length g′ z =
       ap good-length
       (length-append (H .pre) (seg-onto g′ rest)
-          ∙ ap (λ (n : ℕ). length (H .pre) + n) (length-seg g′ rest ∙ ap (λ (n : ℕ). n + length rest) z ∙ sym (length-seg g rest))
+      ∙ ap (λ (n : ℕ). length (H .pre) + n) (length-seg g′ rest ∙ ap (λ (n : ℕ). n + length rest) z ∙ sym (length-seg g rest))
       ∙ sym (length-append (H .pre) (seg-onto g rest)) ∙ ap length (sym (H .is)))
       ∙ good
 
@@ -107,14 +107,14 @@ module _ {l : Ledger} {im : Image} {h S T : ℕ} (B F : ℕ) {t u : Bool} {es : 
             good = same-length (c .0) (c .2);
             kind =
                 quiet B F (H .plug (c .0) (w .0) (blanks F) (x .0) (w .1) (w .2) (x .1) (ap (λ (n : ℕ). n + length (blanks F)) (c .2)))
-                    (retail (c .2) (sized-some (c .0) (c .2)) e) st ok;
+                (retail (c .2) (sized-some (c .0) (c .2)) e) st ok;
           })
 
   sound : Steps-sound im (moved S (void-rel g))
   unfolding rest
   sound =
       subst (λ (i : Image). Steps-sound i (moved S (void-rel g))) (sym (H .is))
-          (sound-past (H .pre) (seg-onto g rest) (void-rel g) S (H .at) (void-programs g) (v .sound rest))
+      (sound-past (H .pre) (seg-onto g rest) (void-rel g) S (H .at) (void-programs g) (v .sound rest))
 
   -- done
   gone : Entry
@@ -123,7 +123,7 @@ module _ {l : Ledger} {im : Image} {h S T : ℕ} (B F : ℕ) {t u : Bool} {es : 
   left-is : run im (moved S (void-rel g)) ≡ H .pre ++ onto (v .rec) rest
   left-is =
       ap (run im) (sym (take-all (length (void-rel g)) (moved S (void-rel g)) (omega (arith, length-moved S (void-rel g)))))
-          ∙ now (length (void-rel g))
+      ∙ now (length (void-rel g))
       ∙ ap (λ (ss : List Step). H .pre ++ run (seg-onto g rest) ss) (take-all (length (void-rel g)) (void-rel g) (omega arith))
       ∙ ap (λ (s : List ℕ). H .pre ++ s) (void-run g rest ∙ ap (λ (rs : List Rec). lay rs rest) (v .is))
 
@@ -168,8 +168,8 @@ module _ {l : Ledger} {im : Image} {h S T : ℕ} (B F : ℕ) {t u : Bool} {es : 
           Inv l (run im (take k (moved S (void-rel g))))
       go q true k c =
           subst (λ (ss : List Step). Inv l (run im ss))
-              (sym (take-all k (moved S (void-rel g)) (omega (arith, length-moved S (void-rel g), leb-true (length (void-rel g)) k c))))
-              (rested-inv q)
+          (sym (take-all k (moved S (void-rel g)) (omega (arith, length-moved S (void-rel g), leb-true (length (void-rel g)) k c))))
+          (rested-inv q)
       go q false k c = cut-inv k (leb-false (length (void-rel g)) k c)
 
 -- repair 3's steps are these
@@ -179,13 +179,13 @@ third-voids : (w : Work) (es : List Entry) (e : Entry) (ss : List Step) → w .r
 unfolding repair-3
 third-voids w es e ss i j k =
     ap₂ (λ (a : List Step) (b : Ending). after w (a ++ torn-wrap-steps b) (w .reading .place .head))
-        (ap (last-steps (w .image)) i ∙ last-end (w .image) es e ∙ k) j
+    (ap (last-steps (w .image)) i ∙ last-end (w .image) es e ∙ k) j
     ∙ ap (λ (a : List Step). after w a (w .reading .place .head)) (append-nil ss)
 
 -- the kind quiet with an unfinished record: mount voids it
 pub mends-void :
     {l : Ledger} {im : Image} {h S T : ℕ} (B F : ℕ) {t u : Bool} (es : List Entry) (g : Seg) → good-length (length im) ≡ true
-        → Laid im h S t es g (blanks B) (blanks F) →
+    → Laid im h S t es g (blanks B) (blanks F) →
     Tail h S t g (blanks B) (blanks F) T u → Starts es → Ok es l → (g ≡ seg-none → ⊥) → Mends l im
 mends-void B F [] g good d e st ok n = absurd st
 mends-void {l} {im} {h} {S} {T} B F {t} {u} (x ∷ es) g good d e st ok n =
@@ -196,7 +196,7 @@ mends-void {l} {im} {h} {S} {T} B F {t} {u} (x ∷ es) g good d e st ok n =
     let k : all ≡ (x ∷ es) ++ (v .entry ∷ []) = ap (λ (fs : List Entry). (x ∷ es) ++ fs) (v .entries) in
     let c : Ruled ((x ∷ es) ++ (v .entry ∷ [])) =
     plain-ruled x (es ++ (v .entry ∷ [])) l (ok-add (x ∷ es) (v .entry) l ok (subst (Each (λ e. alive e ≡ false)) (v .entries) (seg-dead S g) .0))
-        (each-end Unmarked es (v .entry) (st .1) (subst (Each Unmarked) (v .entries) (seg-plain S g) .0)) in
+    (each-end Unmarked es (v .entry) (st .1) (subst (Each Unmarked) (v .entries) (seg-plain S g) .0)) in
     mends-3 {r = r} (start-reads B F d e (st .0) (subst Ruled (sym k) c)) (void-rests B F good d e st ok v) (v .some)
     (one-none (begin im r) (is-clean-0 (x .it .low) (st .0)))
     (two-none (begin im r) x (es ++ seg-entries S g) (each-append Unmarked es (seg-entries S g) (st .1) (seg-plain S g)))

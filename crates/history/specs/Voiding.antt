@@ -54,12 +54,20 @@ byte-of : (pre s : List ℕ) (S i : ℕ) → length pre ≡ S → getD (pre ++ s
 byte-of pre s S i e = ap (λ (n : ℕ). getD (pre ++ s) (n + i) 0) (sym e) ∙ getD-append-add pre s i 0
 
 torn-sound : {c : ℕ} (x y z w t : ℕ) (s : List ℕ) → Begun c → Steps-sound (0xA5 ∷ c ∷ 0xFF ∷ 0xFF ∷ x ∷ y ∷ z ∷ w ∷ t ∷ s) torn-steps
-torn-sound x y z w t s begun-ff =
-    ((omega arith, refl), ((omega arith, refl),
-        ((omega arith, refl), ((omega arith, refl), ((omega arith, refl), ((omega arith, refl), ((omega arith, refl), tt)))))))
-torn-sound x y z w t s begun-5a =
-    ((omega arith, refl), ((omega arith, refl),
-        ((omega arith, refl), ((omega arith, refl), ((omega arith, refl), ((omega arith, refl), ((omega arith, refl), tt)))))))
+torn-sound x y z w t s begun-ff = (
+  (omega arith, refl),
+  (
+    (omega arith, refl),
+    ((omega arith, refl), ((omega arith, refl), ((omega arith, refl), ((omega arith, refl), ((omega arith, refl), tt))))),
+  ),
+)
+torn-sound x y z w t s begun-5a = (
+  (omega arith, refl),
+  (
+    (omega arith, refl),
+    ((omega arith, refl), ((omega arith, refl), ((omega arith, refl), ((omega arith, refl), ((omega arith, refl), tt))))),
+  ),
+)
 
 -- every unfinished record
 pub voids : (g : Seg) (S : ℕ) → (g ≡ seg-none → ⊥) → Voids g S
@@ -93,13 +101,15 @@ voids (seg-cut d n f) S k =
       steps = λ pre s e.
           ap (λ (m : List Step). m ++ (program (S + 2) 0 ∷ []))
           (missing-yes (pre ++ seg-onto (seg-cut d n f) s) (S + (8 + length n))
-              (byte-of pre (seg-onto (seg-cut d n f) s) S (8 + length n) e ∙ byte-behind d 0xFF n
+          (byte-of pre (seg-onto (seg-cut d n f) s) S (8 + length n) e ∙ byte-behind d 0xFF n
           (blanks (pad (length n + 1)) ++ (blanks (up8 d) ++ s)) 0xFE));
       some = some-behind [] _ _;
       big = omega arith;
       sound =
-          λ s. ((omega (arith, length-append n (0xFF ∷ (blanks (pad (length n + 1)) ++ (blanks (up8 d) ++ s)))), refl),
-              ((omega (arith, length-set (begun d n s) (8 + length n) 0), refl), tt));
+          λ s. (
+            (omega (arith, length-append n (0xFF ∷ (blanks (pad (length n + 1)) ++ (blanks (up8 d) ++ s)))), refl),
+            ((omega (arith, length-set (begun d n s) (8 + length n) 0), refl), tt),
+          );
     }
 voids (seg-held n c f) S k =
     record {
@@ -114,7 +124,7 @@ voids (seg-held n c f) S k =
       steps = λ pre s e.
           ap (λ (m : List Step). m ++ (program (S + 2) 0 ∷ []))
           (missing-no (pre ++ seg-onto (seg-held n c f) s) (S + (8 + length n))
-              (byte-of pre (seg-onto (seg-held n c f) s) S (8 + length n) e ∙ byte-behind (length c) 0 n _ 0xFE));
+          (byte-of pre (seg-onto (seg-held n c f) s) S (8 + length n) e ∙ byte-behind (length c) 0 n _ 0xFE));
       some = some-behind [] _ _;
       big = omega arith;
       sound = λ s. ((omega arith, refl), tt);

@@ -165,7 +165,7 @@ lands-head at t is-CLEAN h =
     record {
       lands =
           λ k. walk-halt k at (0xA0 ∷ 0x5A ∷ t) (CLEAN-torn (getD t 0 0)) (bad-next at (0xA0 ∷ 0x5A ∷ t) (CLEAN-walk at (getD t 0 0) h))
-              ∙ sym (add-zero at);
+          ∙ sym (add-zero at);
       there = refl;
     }
 
@@ -212,11 +212,11 @@ pub search-found : {b : ℕ} (j k at : ℕ) (g t : List ℕ) → length g ≡ 8 
 search-found {b} j k at g t e q h l =
     let i : k ≡ j + suc (k - suc j) = omega arith in
     ap (λ (m : ℕ). search m at (g ++ (b ∷ 0x5A ∷ t))) i ∙ search-through j (suc (k - suc j)) at g (b ∷ 0x5A ∷ t) e q
-        ∙ search-hit (k - suc j) (at + 8 * j) (b ∷ 0x5A ∷ t) (head-low-hit t h)
+    ∙ search-hit (k - suc j) (at + 8 * j) (b ∷ 0x5A ∷ t) (head-low-hit t h)
 
 -- the search finds nothing
 pub search-none : (j k at : ℕ) (g : List ℕ) → length g ≡ 8 * j → Markless j g → j < k → search k at g ≡ at + 8 * j
 search-none j k at g e q l =
     let i : k ≡ j + suc (k - suc j) = omega arith in
     ap₂ (λ (m : ℕ) (s : List ℕ). search m at s) i (sym (append-nil g)) ∙ search-through j (suc (k - suc j)) at g [] e q
-        ∙ search-over (k - suc j) (at + 8 * j)
+    ∙ search-over (k - suc j) (at + 8 * j)

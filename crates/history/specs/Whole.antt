@@ -67,7 +67,7 @@ module _ {im : List ℕ} {a l : ℕ} {gap lost : List ℕ} {h : ℕ} {x : Rec} {
   free-part =
       let e : part (h + sizes (x ∷ ys)) (length im) im ≡ seg-onto seg free =
       ap (λ (l : List ℕ). drop (h + sizes (x ∷ ys)) (take (length im) l)) (s .is)
-          ∙ part-rest [] (x ∷ ys) gap lost (seg-onto seg free) h below here (length im) (ap length (s .is)) in
+      ∙ part-rest [] (x ∷ ys) gap lost (seg-onto seg free) h below here (length im) (ap length (s .is)) in
       sym (drop-drop (seg-size seg) (h + sizes (x ∷ ys)) (take (length im) im)) ∙ ap (drop (seg-size seg)) e ∙ drop-seg seg free
 
   gap-blank : gap ≡ blanks (4096 * a) → blank (part 0 (floor h) im) ≡ true
@@ -77,10 +77,10 @@ module _ {im : List ℕ} {a l : ℕ} {gap lost : List ℕ} {h : ℕ} {x : Rec} {
 pub torn-wrap-whole : (k : ℕ) {im : List ℕ} {a l : ℕ} {gap lost : List ℕ} {h c : ℕ} {x : Rec} {ys : List Rec}
     (s : Straight im a l gap lost h (x ∷ ys) seg-none (torn-wrap c k)) → Begun c → 1 ≤ a →
     gap ≡ blanks (4096 * a) → x .low ≡ 0 → Ruled (entries-of h (x ∷ ys))
-        → reading im ≡ give (read (length im) h 0 true (entries-of h (x ∷ ys)) (Ending.TornWrap (h + sizes (x ∷ ys))))
+    → reading im ≡ give (read (length im) h 0 true (entries-of h (x ∷ ys)) (Ending.TornWrap (h + sizes (x ∷ ys))))
 torn-wrap-whole k {im} {a} {l} {gap} {lost} {h} {c} {x} {ys} s b z g e r =
     reading-by im h (read (length im) h 0 true (entries-of h (x ∷ ys)) (Ending.TornWrap (h + sizes (x ∷ ys)))) (started s e) (torn-reading k s b z)
-        refl r
+    refl r
     (free-turned im (length im) h 0 (entries-of h (x ∷ ys)) (Ending.TornWrap (h + sizes (x ∷ ys))) (is-clean-0 (x .low) e) (gap-blank s g))
 
 module _ {im : List ℕ} {a l : ℕ} {lost : List ℕ} {h : ℕ} {low : List Rec} {seg : Seg} {f : ℕ} {free : List ℕ} {x : Rec} {ys : List Rec} {end : End}

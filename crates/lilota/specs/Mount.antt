@@ -73,13 +73,13 @@ module _ (image t : Image) (k : ℕ) (s : Survey) (l : Legal image s) (r : Mende
     where
       go : (w : Work) → Numbered w r → r .meter .asked ≡ length (w .steps) → w ≡ mended image (reading-of image s) →
           outcome (mounted (Mounted.Done (r .head) (r .tail) (r .files) (r .meter .asked))) t ≡ carry-out image k
-              (mount-of image (reading-of image s))
+          (mount-of image (reading-of image s))
       go w n count e =
           let steps : length (w .steps) ≡ length (mended image (reading-of image s) .steps) = ap (λ (x : Work). length (x .steps)) e in
           carried image t k (mount-work (mended image (reading-of image s))) (given 0 (r .head) (r .tail) (r .files) (r .meter .asked))
           (plan-done image k (mount-work (mended image (reading-of image s))) (omega (arith, count, steps, c .begun .same, h))
           ∙ sym (λ i. given 0 ((n .head ∙ ap (λ (x : Work). x .reading .place .head) e) i)
-              ((n .tail ∙ ap (λ (x : Work). x .reading .place .tail) e) i)
+          ((n .tail ∙ ap (λ (x : Work). x .reading .place .tail) e) i)
           ((n .files ∙ ap (λ (x : Work). length (files (x .reading .entries))) e) i) ((count ∙ steps) i)))
           bytes-are
 

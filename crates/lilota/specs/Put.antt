@@ -64,7 +64,7 @@ unfolding file-named
 old-named image s p old name content w e =
     let es = reading-of image s .entries in
     ap (λ (o : Old). put-steps p (entry-of-old o) name content)
-        (e ∙ ap (λ (l : List Entry). old-of (first-such (has-name name) l)) (sym (files-are es (w .quiet))))
+    (e ∙ ap (λ (l : List Entry). old-of (first-such (has-name name) l)) (sym (files-are es (w .quiet))))
     ∙ put-old p (file-named name es) name content
 
 -- ---- the steps
@@ -100,7 +100,7 @@ module _ (image : Image) (k : ℕ) (name content : List ℕ) where
   pub put-room : (r : Reading) (t : Bool)
       → t ≡ room (r .place) (size-of (length name) (length content)) (largest-with name (size-of (length name) (length content)) (r .entries))
       → carry-out image k (checked t 28 (give (doing (put-steps (r .place) (file-named name (r .entries)) name content) 0 0 0))) ≡ carry-out image k
-          (put-into name content r)
+      (put-into name content r)
   unfolding put-into
   put-room r t e =
       ap (λ (b : Bool). carry-out image k (checked b 28 (give (doing (put-steps (r .place) (file-named name (r .entries)) name content) 0 0 0)))) e

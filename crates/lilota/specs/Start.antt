@@ -35,15 +35,15 @@ unfolding walk
 walk-even zero at s e = e
 walk-even (suc k) at s e =
     go (torn-here s) (walk-next at s) refl refl (λ n d. walk-even k (at + size-of n d) (drop (size-of n d) s) (omega arith)) where
-  go : (t : Bool) (x : Next) → torn-here s ≡ t → walk-next at s ≡ x → ((n d : ℕ) → walk k (at + size-of n d) (drop (size-of n d) s) % 8 ≡ 0)
-      → walk (suc k) at s % 8 ≡ 0
-  go true x h f ih = rw (h, walk) (omega arith)
-  go false (Next.Record n d) h f ih = rw (h, f, walk) (ih n d)
-  go false Next.Wrap h f ih = rw (h, f, walk) e
-  go false Next.TornWrap h f ih = rw (h, f, walk) e
-  go false Next.Clear h f ih = rw (h, f, walk) e
-  go false Next.Over h f ih = rw (h, f, walk) e
-  go false Next.Bad h f ih = rw (h, f, walk) e
+      go : (t : Bool) (x : Next) → torn-here s ≡ t → walk-next at s ≡ x → ((n d : ℕ) → walk k (at + size-of n d) (drop (size-of n d) s) % 8 ≡ 0)
+          → walk (suc k) at s % 8 ≡ 0
+      go true x h f ih = rw (h, walk) (omega arith)
+      go false (Next.Record n d) h f ih = rw (h, f, walk) (ih n d)
+      go false Next.Wrap h f ih = rw (h, f, walk) e
+      go false Next.TornWrap h f ih = rw (h, f, walk) e
+      go false Next.Clear h f ih = rw (h, f, walk) e
+      go false Next.Over h f ih = rw (h, f, walk) e
+      go false Next.Bad h f ih = rw (h, f, walk) e
 
 search-even : (k at : ℕ) (s : List ℕ) → at % 8 ≡ 0 → search k at s % 8 ≡ 0
 unfolding search
@@ -61,14 +61,14 @@ module _ (image : Image) where
   unfolding is-start
   low-start a e =
       let q : getD (drop a image) 0 0 ≡ 0x00 = eqb-true (low-of (drop a image)) 0x00
-          (and-eq-true-iff (eqb (low-of (drop a image)) 0x00) (is-high (high-of (drop a image))) .0 e .0) in
+      (and-eq-true-iff (eqb (low-of (drop a image)) 0x00) (is-high (high-of (drop a image))) .0 e .0) in
       inl (sym (getD-drop a image 0 0 ∙ ap (λ (i : ℕ). getD image i 0) (add-zero a)) ∙ q)
 
   low-clean : (a : ℕ) → clean-here (drop a image) ≡ true → Low (getD image a 0)
   unfolding is-clean
   low-clean a e =
       let q : getD (drop a image) 0 0 ≡ 0xA0 = eqb-true (low-of (drop a image)) 0xA0
-          (and-eq-true-iff (eqb (low-of (drop a image)) 0xA0) (is-high (high-of (drop a image))) .0 e .0) in
+      (and-eq-true-iff (eqb (low-of (drop a image)) 0xA0) (is-high (high-of (drop a image))) .0 e .0) in
       inr (sym (getD-drop a image 0 0 ∙ ap (λ (i : ℕ). getD image i 0) (add-zero a)) ∙ q)
 
   abbrev Begins : Answer ℕ → Type 0
@@ -94,7 +94,7 @@ module _ (image : Image) where
     go false false p q =
         let from : ℕ = walk (suc (length image)) 0 image in
         rw (head, p, q) (chosen-begins (sought image from)
-            (search-even (length image) from (drop from image) (walk-even (suc (length image)) 0 image refl)))
+        (search-even (length image) from (drop from image) (walk-even (suc (length image)) 0 image refl)))
 
   -- ---- the reading of a settled image is the one from its head on
 
@@ -108,9 +108,14 @@ module _ (image : Image) where
         let below : h < length image = rw (g .from) at (head-below image (omega (arith, size .two))) in
         let begins : (h % 8 ≡ 0) × Low (getD image h 0) = rw (g .from) at head-begins in
         let p = passed (legal image (reading-from image h)) 5 (reading-from image h) r (g .on) in
-        let led : Led image h = record
-            { even = begins .0; inside = below; low = begins .1; eights = omega (arith, size .sectors); long = omega (arith, size .two);
-            small = size .most } in
+        let led : Led image h = record {
+          even = begins .0;
+          inside = below;
+          low = begins .1;
+          eights = omega (arith, size .sectors);
+          long = omega (arith, size .two);
+          small = size .most;
+        } in
         let same : r .place .head ≡ h = ap (λ (x : Reading). x .place .head) (sym (p .1)) ∙ stands image h led .head in
         let again : r ≡ reading-from image (r .place .head) = sym (p .1) ∙ ap (reading-from image) (sym same) in
         (record { led = rw same led; same = ap (λ (x : Reading). x .place) again }, again)

@@ -74,7 +74,7 @@ module _ (image : Image) (k : ℕ) where
   pub sweep-room : (s : Survey) (t : Bool) → Readied image s
       → t ≡ no-room (reading-from image (s .place .head)) (reading-from image (s .place .head) .entries)
       → carry-out image k (checked (not t) 28 (give (sweeping (moves (min 5 (s .tally .records)) image (reading-from image (s .place .head)))))) ≡
-          carry-out image k (sweep-of image (reading-of image s))
+      carry-out image k (sweep-of image (reading-of image s))
   unfolding sweep-of
   sweep-room s t w e =
       let r : Reading = reading-from image (s .place .head) in

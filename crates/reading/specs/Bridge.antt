@@ -31,15 +31,22 @@ cut a n m s h = rw (sym (part-window a m s (omega arith))) (take-take n (m - a) 
 
 pub rec-part : (m n d : ℕ) (s : List ℕ) → size-of n d ≤ m → rec-of (take m s) n d ≡ rec-of s n d
 rec-part m n d s h =
-    rw (getD-take m s 0 0 (omega arith), getD-take m s 2 0 (omega arith), cut 8 n m s (omega arith), drop-drop (up8 (n + 1)) 8 (take m s), cut
-        (8 + up8 (n + 1)) d m s (omega arith), drop-drop (up8 (n + 1)) 8 s)
+    rw (
+      getD-take m s 0 0 (omega arith),
+      getD-take m s 2 0 (omega arith),
+      cut 8 n m s (omega arith),
+      drop-drop (up8 (n + 1)) 8 (take m s),
+      cut
+          (8 + up8 (n + 1)) d m s (omega arith),
+      drop-drop (up8 (n + 1)) 8 s,
+    )
 
 -- ---- the definitions' chain, step by step
 
 module _ (k : ℕ) (held : Bool) (at : ℕ) (s : List ℕ) where
   chain-record : (n d : ℕ) → allowed held (next s) ≡ Next.Record n d
       → chain (suc k) held at s ≡ add (record { at = at; it = rec-of s n d })
-          (chain k (is-unfinished (status-of s)) (at + size-of n d) (drop (size-of n d) s))
+      (chain k (is-unfinished (status-of s)) (at + size-of n d) (drop (size-of n d) s))
   unfolding chain
   chain-record n d e = rw (e, chain)
 
@@ -109,11 +116,11 @@ module _ (image : List ℕ) where
   unfolding finish look
   stopped c x k e z =
       go (goes-on (c .room) x) refl ∙ ap (finish (c .room) (c .turned)) (sym (chain-stop k (c .held) (c .at) (window image c) x z e)) where
-    go : (t : Bool) → goes-on (c .room) x ≡ t → rest image c ≡ finish (c .room) (c .turned) (stop (c .held) (c .at) x)
-    go true q = rw (finish, q) (rest-turn c (ap (goes-on (c .room)) e ∙ q))
-    go false q =
-        rw (finish, q)
-        (rest-step image c ∙ ap (λ (r : Step). followed image r (rest image))
+        go : (t : Bool) → goes-on (c .room) x ≡ t → rest image c ≡ finish (c .room) (c .turned) (stop (c .held) (c .at) x)
+        go true q = rw (finish, q) (rest-turn c (ap (goes-on (c .room)) e ∙ q))
+        go false q =
+            rw (finish, q)
+            (rest-step image c ∙ ap (λ (r : Step). followed image r (rest image))
             (advance-here image c (ap (goes-on (c .room)) e ∙ q) ∙ ap (settle image c) e) ∙ settle-done c x z)
 
   -- a record, and the chain behind it
@@ -128,16 +135,14 @@ module _ (image : List ℕ) where
       let p : w ≡ take (c .end - c .at) (drop (c .at) image) = sym (part-window (c .at) (c .end) image o) in
       let st : status-of w ≡ status-of (drop (c .at) image) = ap status-of p ∙ getD-take (c .end - c .at) (drop (c .at) image) 2 0 (omega arith) in
       let r : rec-of w n d ≡ rec-of (drop (c .at) image) n d = ap (λ (l : List ℕ). rec-of l n d) p
-          ∙ rec-part (c .end - c .at) n d (drop (c .at) image) l in
-      
+      ∙ rec-part (c .end - c .at) n d (drop (c .at) image) l in
       let q : window image u ≡ drop z w = sym (drop-drop z (c .at) (take (c .end) image)) in
       let a : advance image c ≡ Step.Record (record { at = c .at; n = n; d = d }) u = advance-here image c (ap (goes-on (c .room)) e)
-          ∙ ap (settle image c) e in
-      
+      ∙ ap (settle image c) e in
       let tail : Chain = chain k (is-unfinished (status-of w)) (c .at + z) (drop z w) in
       rest-step image c ∙ ap (λ (x : Step). followed image x (rest image)) a
       ∙ ap (ahead (entry-of image (record { at = c .at; n = n; d = d })))
-          (ih ∙ ap₂ (λ (h : Bool) (l : List ℕ). finish (c .room) (c .turned) (chain k h (c .at + z) l)) (ap is-unfinished (sym st)) q)
+      (ih ∙ ap₂ (λ (h : Bool) (l : List ℕ). finish (c .room) (c .turned) (chain k h (c .at + z) l)) (ap is-unfinished (sym st)) q)
       ∙ sym (rw (chain-record k (c .held) (c .at) w n d f)
       (finish-add (c .room) (c .turned) (record { at = c .at; it = rec-of w n d }) tail _ refl
       ∙ ap (λ (it : _). ahead (record { at = c .at; it = it }) (finish (c .room) (c .turned) tail)) r))

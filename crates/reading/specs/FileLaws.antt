@@ -64,8 +64,11 @@ module _ (image : List ℕ) (st : ℕ) (e : Spot) where
     go : (k : ℕ) → e .at + 16 ≤ length image → ltb 0 k ≡ not (empty (take k (drop 8 (drop (e .at) image))))
     go zero l = refl
     go (suc k) l =
-        rw (lt-ltb 0 (suc k) (omega arith), empty-take (suc k) (drop 8 (drop (e .at) image)) (omega arith)
-            (rw (length-drop, length-drop) (omega arith)))
+        rw (
+          lt-ltb 0 (suc k) (omega arith),
+          empty-take (suc k) (drop 8 (drop (e .at) image)) (omega arith)
+              (rw (length-drop, length-drop) (omega arith)),
+        )
 
 -- ---- tests of one record among all
 

@@ -29,7 +29,7 @@ module _ (image : List ℕ) (e : Spot) (w : Whole image e) where
   pub content-length-is : length (content-of (entry-of image e)) ≡ e .d
   content-length-is =
       length-take-le (e .d) (drop (up8 (e .n + 1)) (drop 8 (drop (e .at) image)))
-          (rw (length-drop, length-drop, length-drop) (omega (arith, w .fits)))
+      (rw (length-drop, length-drop, length-drop) (omega (arith, w .fits)))
 
   pub spot-is : spot-of (entry-of image e) ≡ e
   spot-is = ap₂ (λ (n d : ℕ). record { at = e .at; n = n; d = d }) name-length-is content-length-is

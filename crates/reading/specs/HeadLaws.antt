@@ -39,9 +39,7 @@ magic-inside s a low e = go (leb a (length s)) refl where
   go : (t : Bool) → leb a (length s) ≡ t → a ≤ length s
   go true h = leb-true a (length s) h
   go false h =
-      let q : getD (drop a s) 1 0 ≡ 0x5A = eqb-true (getD (drop a s) 1 0) 0x5A (past (eqb (low-of (drop a s)) low) (eqb (high-of (drop a s)) 0x5A) e)
-          in
-      
+      let q : getD (drop a s) 1 0 ≡ 0x5A = eqb-true (getD (drop a s) 1 0) 0x5A (past (eqb (low-of (drop a s)) low) (eqb (high-of (drop a s)) 0x5A) e) in
       let d : getD (drop a s) 1 0 ≡ 0 = getD-drop a s 1 0 ∙ List·getD-eq-default s 0 (omega (arith, leb-false a (length s) h)) in
       absurd (omega arith)
 
@@ -93,13 +91,13 @@ module _ (image : List ℕ) (at : ℕ) (w : Walked image at) where
   pub walked-torn : torn-here (drop at image) ≡ true → at + 8 ≡ walk (suc (length image)) 0 image
   walked-torn h =
       sym (w .same ∙ fueled (λ f. walk f at (drop at image) ≡ at + 8) (w .fuel) (omega (arith, w .enough, w .inside))
-          (λ k. walk-torn k at (drop at image) h))
+      (λ k. walk-torn k at (drop at image) h))
 
   module _ (x : Next) (h : torn-here (drop at image) ≡ false) (e : x ≡ walk-next at (drop at image)) where
     pub walked-stop : Not-record x → at ≡ walk (suc (length image)) 0 image
     walked-stop z =
         sym (w .same ∙ fueled (λ f. walk f at (drop at image) ≡ at) (w .fuel) (omega (arith, w .enough, w .inside))
-            (λ k. walk-stop k at (drop at image) x h (sym e) z))
+        (λ k. walk-stop k at (drop at image) x h (sym e) z))
 
     pub walked-step : (n d : ℕ) → x ≡ Next.Record n d → size-of n d ≤ length image - at → Walked image (at + size-of n d)
     walked-step n d z l = go (w .fuel) (w .enough) (w .same) where

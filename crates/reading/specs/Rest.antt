@@ -96,11 +96,11 @@ enough zero j image c h g = absurd (not-suc-le-zero h)
 enough (suc k) zero image c h g = absurd (not-suc-le-zero g)
 enough (suc k) (suc j) image c h g =
     followed-same image c (advance image c) (rest-by k image) (rest-by j image) (advance-less image c)
-        (λ d l. enough k j image d (omega arith) (omega arith))
+    (λ d l. enough k j image d (omega arith) (omega arith))
 
 -- THE law of every loop over the chain
 pub rest-step : (image : List ℕ) (c : Cursor) → rest image c ≡ followed image (advance image c) (rest image)
 unfolding rest-by rest
 rest-step image c =
     followed-same image c (advance image c) (rest-by (left c) image) (rest image) (advance-less image c)
-        (λ d l. enough (left c) (suc (left d)) image d l (omega arith))
+    (λ d l. enough (left c) (suc (left d)) image d l (omega arith))

@@ -96,7 +96,7 @@ module _ {image : List ℕ} {start : Cursor} {t : Tally} (w : Tallied image star
     go (x ∷ []) q f l = absurd (omega arith)
     go (x ∷ (y ∷ es)) q f l =
         ap (λ (u : Tally). marked (entry-of image (u .second))) q ∙ ap (λ (s : Spot). marked (entry-of image s)) (second-is x y es)
-            ∙ ap marked (f .1 .0)
+        ∙ ap marked (f .1 .0)
 
   pub open-is : t .held ≡ last-open (rest image start .entries)
   open-is = ap (λ (u : Tally). u .held) (w .same) ∙ go (rest image start .entries) where

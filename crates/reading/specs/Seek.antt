@@ -80,7 +80,7 @@ module _ (p : Entry → Bool) {image : List ℕ} {start c : Cursor} {m : ℕ} (w
         record {
           fold =
               fold-step (count-of p) image start 0 c m (w .fold) e next t (m + 1)
-                  (rw (keep-hit p (entry-of image e) (rest image next .entries) h) (omega arith));
+              (rw (keep-hit p (entry-of image e) (rest image next .entries) h) (omega arith));
           few = omega (arith, w .few, t .onward .less);
         }
 
@@ -166,7 +166,7 @@ module _ (q : Entry → Bool) {image : List ℕ} {start c : Cursor} {i₀ i : �
     pub nth-found : q (entry-of image e) ≡ true → i ≡ 0 → some (entry-of image e) ≡ getElem? (keep q (rest image start .entries)) i₀
     nth-found h z =
         fold-stop (nth-of q) image start i₀ c i w e next t (some (entry-of image e))
-            (rw (keep-hit q (entry-of image e) (rest image next .entries) h, z))
+        (rw (keep-hit q (entry-of image e) (rest image next .entries) h, z))
 
     pub nth-onward : q (entry-of image e) ≡ true → (i ≡ 0 → ⊥) → Folded (nth-of q) image start i₀ next (i - 1)
     nth-onward h z = fold-step (nth-of q) image start i₀ c i w e next t (i - 1) (nth-less q (entry-of image e) (rest image next .entries) i h z)

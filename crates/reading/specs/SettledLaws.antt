@@ -54,7 +54,7 @@ module _ (w : Work) where
       let h : ℕ = w .reading .place .head in
       rw (e, repair-1)
       (after-busy w h (erase-steps (w .image) (w .reading .place) ++ (program h 0x00 ∷ []))
-          (right-filled (erase-steps (w .image) (w .reading .place)) (program h 0x00 ∷ []) refl))
+      (right-filled (erase-steps (w .image) (w .reading .place)) (program h 0x00 ∷ []) refl))
 
   idle-1 : head-clean (w .reading .entries) ≡ false → repair-1 w ≡ w
   unfolding repair-1
@@ -202,8 +202,8 @@ module _ (w : Work) where
 unfoldable pub calm : Reading → Bool
 calm r =
     not (head-clean (r .entries)) &&
-        (not (second-marked (r .entries)) &&
-        ((not (last-open (r .entries)) && not (wrap-torn (r .ending))) && not (any (superseded (r .entries)) (r .entries))))
+    (not (second-marked (r .entries)) &&
+    ((not (last-open (r .entries)) && not (wrap-torn (r .ending))) && not (any (superseded (r .entries)) (r .entries))))
 
 module _ (image : Image) (r : Reading) where
   by-tests : (a b c : Bool) → head-clean (r .entries) ≡ a → second-marked (r .entries) ≡ b
@@ -212,7 +212,7 @@ module _ (image : Image) (r : Reading) where
   by-tests true b c p q s =
       let w : Work = begin image r in
       grows-4 (repair-3 (repair-2-on (repair-1 w)))
-          (grows-3 (repair-2-on (repair-1 w)) (grows-2 (repair-1 w) (repair-1 w .reading .entries) (busy-1 w p)))
+      (grows-3 (repair-2-on (repair-1 w)) (grows-2 (repair-1 w) (repair-1 w .reading .entries) (busy-1 w p)))
       ∙ rw (calm, p)
   by-tests false true c p q s =
       let w : Work = begin image r in

@@ -113,7 +113,7 @@ module _ {image : List ℕ} where
   pub noted-is : (t : Tally) (e : Spot) (one two : Spot) (fine further held : Bool) → Whole image e → one ≡ cond (eqb (t .records) 0) e (t .first)
       → two ≡ cond (leb (t .records) 1) e (t .second)
       → fine ≡ (t .fine && name-fine (entry-of image e)) → further ≡ (t .further || (ltb 1 (t .records) && marked (entry-of image e)))
-          → held ≡ unfinished-at image (e .at)
+      → held ≡ unfinished-at image (e .at)
       → record {
         records = t .records + 1;
         first = one;

@@ -49,7 +49,7 @@ unfolding clean-steps
 clean-next a [] h = absurd (omega arith)
 clean-next a (x ∷ s) h =
     ap (λ (l : List Step). mark-steps a (x ∷ s) ++ l)
-        (enough (length s) (length (drop 8 (x ∷ s))) (a + 8) (drop 8 (x ∷ s)) (rw length-drop (omega arith)) (omega arith))
+    (enough (length s) (length (drop 8 (x ∷ s))) (a + 8) (drop 8 (x ∷ s)) (rw length-drop (omega arith)) (omega arith))
 
 and-false : (t : Bool) → t && false ≡ false
 and-false true = refl
@@ -86,7 +86,7 @@ mark-as-was s at d i h = ap₂ (λ (b c : ℕ). marked-steps (at + i) (is-mark b
   same j l =
       let e : at + i + j ≡ at + (i + j) = omega arith in
       getD-drop (at + i) s j 0 ∙ ap (λ (n : ℕ). getD s n 0) e
-          ∙ sym (getD-drop i (take d (drop at s)) j 0 ∙ getD-take d (drop at s) (i + j) 0 l ∙ getD-drop at s (i + j) 0)
+      ∙ sym (getD-drop i (take d (drop at s)) j 0 ∙ getD-take d (drop at s) (i + j) 0 l ∙ getD-drop at s (i + j) 0)
 
 -- what stands behind the pair stays as it was
 cleaned-behind : {s t : Image} {m r : Meter} (a k : ℕ) → a + 1 < k → (c : Bool) → Did s m (marked-steps a c) t r → drop k t ≡ drop k s
@@ -115,22 +115,19 @@ module _ {s : Image} {at d : ℕ} {m : Meter} where
     pub cleaning-more : {u : Image} {r : Meter} → at + d ≤ length s → i + 1 < d → Did t q (mark-steps (at + i) (drop (at + i) t)) u r
         → Cleaning s at d m u r (i + 8)
     cleaning-more h l f =
-        let n : 0 < length (drop i (data-from at d s)) = rw (length-drop, length-take-le d (drop at s) (rw length-drop (omega arith))) (omega arith)
-            in
-        
+        let n : 0 < length (drop i (data-from at d s)) = rw (length-drop, length-take-le d (drop at s) (rw length-drop (omega arith))) (omega arith) in
         let e : mark-steps (at + i) (drop (at + i) t) ≡ mark-steps (at + i) (drop i (data-from at d s)) = ap (mark-steps (at + i)) (w .later)
-            ∙ mark-as-was s at d i l in
-        
+        ∙ mark-as-was s at d i l in
         record {
           left =
               toward-more (w .left) (clean-next (at + i) (drop i (data-from at d s)) n
-                  ∙ ap₂ _++_ (sym e) (rw (add-assoc, drop-drop 8 i (data-from at d s)))) f;
+              ∙ ap₂ _++_ (sym e) (rw (add-assoc, drop-drop 8 i (data-from at d s)))) f;
           later =
               cleaned-behind (at + i) (at + (i + 8)) (omega arith) (mark-here (drop (at + i) t)) f
-                  ∙ later-on (at + i) (at + (i + 8)) s t (omega arith) (w .later);
+              ∙ later-on (at + i) (at + (i + 8)) s t (omega arith) (w .later);
         }
 
     pub cleaning-end : at + d ≤ length s → d ≤ i + 1 → Did s m (clean-steps d at (data-from at d s)) t q
     cleaning-end h l =
         toward-end (w .left) (clean-none (at + i) (drop i (data-from at d s))
-            (rw (length-drop, length-take-le d (drop at s) (rw length-drop (omega arith))) (omega arith)))
+        (rw (length-drop, length-take-le d (drop at s) (rw length-drop (omega arith))) (omega arith)))

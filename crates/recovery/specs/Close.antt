@@ -71,10 +71,10 @@ module _ (s : Image) (x y : Spot) (w : Whole s x) where
       let starts : List ℕ = sectors (floor (x .at)) (end-before (length s) (y .at)) in
       let own : List ℕ = take (x .d) (drop (up8 (x .n + 1)) (drop 8 (drop (x .at) s))) in
       ap₂ (λ (k n : ℕ). clean-steps k (x .at + (8 + up8 (n + 1))) own ++ vacate-steps e (entry-of s y) starts) (content-length-is s x w)
-          (name-length-is s x w)
+      (name-length-is s x w)
       ∙ ap₂ (λ (l : List Step) (r : List Step). l ++ r)
       (ap₂ (clean-steps (x .d)) (omega arith)
-          (ap (take (x .d)) (ap (drop (up8 (x .n + 1))) (drop-drop 8 (x .at) s) ∙ drop-drop (up8 (x .n + 1)) (x .at + 8) s)))
+      (ap (take (x .d)) (ap (drop (up8 (x .n + 1))) (drop-drop 8 (x .at) s) ∙ drop-drop (up8 (x .n + 1)) (x .at + 8) s)))
       (leave-is e (entry-of s y) starts)
 
   -- (c), and then (d) to (f)

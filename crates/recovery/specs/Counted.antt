@@ -44,6 +44,6 @@ module _ {s t : Image} {h k : ℕ} {m q : Meter} (w : Mends s h m t k q) where
               tail = sym (ap (λ (x : Reading). x .place .tail) r);
               files =
                   e ∙ sym (ap (λ (x : Reading). length (files (x .entries))) r
-                      ∙ ap (λ (i : ℕ). length (files (rest t (first-cursor t i) .entries))) (f .head));
+                  ∙ ap (λ (i : ℕ). length (files (rest t (first-cursor t i) .entries))) (f .head));
             };
       }

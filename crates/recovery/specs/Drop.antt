@@ -106,9 +106,9 @@ module _ (t : Image) (start c : Cursor) (before : List Entry) (e : Spot) (behind
         let f = stood-fits t e behind (turn (c .room) (c .held)) (w .1) in
         ap (λ (i : ℕ). advance (set t (i + 2) 0) c) q
         ∙ (there-again t (set t (0 + 2) 0) c e behind (w .0) (window-kept t (0 + 2) 0 c (tidy-c .ordered) (inl (omega (arith, tidy-c .apart, f))))
-            (w .1)
+        (w .1)
         (look-dropped t (turn (c .room) (c .held)) (e .n) (e .d) (w .1 .what) (omega arith) (ap (λ (k : ℕ). getD t (k + 2) 0) (sym q) ∙ old))
-            (finished 0 q)))
+        (finished 0 q)))
         (way t e behind c h)
 
     behind-passed : Passed behind (e .at + 2)
@@ -140,7 +140,7 @@ module _ (t : Image) (start c : Cursor) (before : List Entry) (e : Spot) (behind
         ap (λ (b : Bool). b && same-name x (entry-of v e)) (unnamed 0xFC (entry-of v e) (λ q. omega (arith, status-now)))
         ∙ sym (ap (λ (b : Bool). b && same-name x (entry-of t e)) (unnamed 0xFC (entry-of t e) (λ q. omega (arith, status-was)))) in
         ap (any (named-as 0xFC x)) new ∙ any-replace (named-as 0xFC x) before (entry-of v e) (entry-of t e) (rest t behind .entries) no
-            ∙ sym (ap (any (named-as 0xFC x)) was)
+        ∙ sym (ap (any (named-as 0xFC x)) was)
 
     still-dropped : Still t (set t (e .at + 2) 0) start before e behind
     still-dropped =
@@ -172,11 +172,11 @@ module _ {s t : Image} {start c : Cursor} {m q : Meter} (w : Dropping s start m 
   dropping-on {u} {r} e behind h k d =
       let p = superseded (rest s start .entries) in
       let f : map delete-step (keep p (rest t c .entries)) ≡ map delete-step (keep (superseded (rest t start .entries)) (entry-of t e ∷ [])) ++ map
-          delete-step (keep p (rest u behind .entries)) =
+      delete-step (keep p (rest u behind .entries)) =
       ap (λ (l : List Entry). map delete-step (keep p l)) (rest-here t c e behind h)
       ∙ pick-first (p (entry-of t e)) (entry-of t e) (keep p (rest t behind .entries))
       ∙ ap₂ (λ (b : Bool) (l : List Entry). map delete-step (pick b (entry-of t e) []) ++ map delete-step (keep p l)) (sym (judged (entry-of t e)))
-          (sym (k .later)) in
+      (sym (k .later)) in
       record {
         left = toward-more (w .left) f d;
         same = λ x. k .named x ∙ w .same x;
@@ -198,7 +198,7 @@ module _ {s t : Image} {start c : Cursor} {m q : Meter} (w : Dropping s start m 
     go true g =
         ⊎-elim
         (λ (k : u ≡ set t (e .at + 2) 0). rw k
-            (still-dropped t start c (w .before) e behind (w .path) tidy h fits (old-status t (rest t start .entries) e g)))
+        (still-dropped t start c (w .before) e behind (w .path) tidy h fits (old-status t (rest t start .entries) e g)))
         still
         (did-one (done true g))
     go false g = still (done false g .bytes ∙ ap (run t) (take-nil (q .allowance - q .asked)))
@@ -224,7 +224,7 @@ shown-entries s h es (Chain-step.Broken t w) = refl
 pub entries-of : (s : Image) (h : ℕ) → h ≤ length s → rest s (first-cursor s h) .entries ≡ reading-from s h .entries
 entries-of s h l =
     sym (shown-entries s h (rest s (first-cursor s h) .entries) (rest s (first-cursor s h) .ending))
-        ∙ ap (λ (r : Reading). r .entries) (reading-is s h l)
+    ∙ ap (λ (r : Reading). r .entries) (reading-is s h l)
 
 -- ---- one record, as the code finds it
 

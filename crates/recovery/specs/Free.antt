@@ -66,8 +66,7 @@ module _ (s : Image) (p : Place) where
   run-unturned {t} e h k f g =
       let a : ℕ = ceiling (p .tail) in
       let j : keep (dirty t) (sectors a (p .length)) ≡ keep (dirty s) (sectors a (p .length)) = judged s t (floor (p .head)) k a (p .length)
-          (omega arith) in
-      
+      (omega arith) in
       rw (run-both e, keep-both (dirty s) (sectors 0 (floor (p .head))) (sectors a (p .length))) (did-both f (rw j at g))
 
 -- ---- the head

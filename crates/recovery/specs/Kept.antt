@@ -73,15 +73,22 @@ module _ (s t : List ℕ) (n d : ℕ) (len : length t ≡ length s) (same : (i :
       name-kept 64 held (drop 8 s) (drop 8 t) n (w .name) (w .short) (rw length-drop (omega (arith, w .fits)))
       (λ i l. getD-drop 8 t i 0 ∙ same (8 + i) (omega arith) (omega arith) ∙ sym (getD-drop 8 s i 0)) in
       let b : data-len-of t ≡ d =
-      omega (arith, w .data-len, same 4 (omega arith) (omega arith), same 5 (omega arith) (omega arith), same 6 (omega arith) (omega arith), same 7
-          (omega arith) (omega arith)) in
+      omega (
+        arith,
+        w .data-len,
+        same 4 (omega arith) (omega arith),
+        same 5 (omega arith) (omega arith),
+        same 6 (omega arith) (omega arith),
+        same 7
+            (omega arith) (omega arith),
+      ) in
       ap₂ (sized t) a b ∙ sized-as t n d (w .short) (omega (arith, w .fits))
 
   torn-kept : (u v : Bool) → long 16 s ≡ u → is-name-begun (getD s 8 0) ≡ v → torn-at s ≡ Next.Record n d → torn-at t ≡ Next.Record n d
   unfolding torn-at
   torn-kept true true e f h =
       rw (torn-at, long-le 16 t (omega (arith, long-true 16 s e)), ap is-name-begun (same 8 (omega arith) (omega arith)) ∙ f)
-          (rw (torn-at, e, f) at h)
+      (rw (torn-at, e, f) at h)
   torn-kept true false e f h = never (rw (torn-at, e, f)) h
   torn-kept false v e f h = never (rw (torn-at, e)) h
 

@@ -98,7 +98,7 @@ module _ {s : Image} {c : Cursor} {t : Tally} (w : Tallied s c t) where
   pub last-counted : (t .records ≡ 0 → ⊥) → last-steps s (rest s c .entries) ≡ void-steps s (entry-of s (t .last))
   last-counted h =
       some-last s (rest s c .entries) (λ q. h (count-is w ∙ q)) (faithful s c (w .sound))
-          ∙ ap (λ (u : Tally). void-steps s (entry-of s (u .last))) (sym (w .same))
+      ∙ ap (λ (u : Tally). void-steps s (entry-of s (u .last))) (sym (w .same))
 
 -- ---- the whole repair
 

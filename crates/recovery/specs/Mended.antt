@@ -42,12 +42,12 @@ module _ (image : Image) (h : ℕ) where
     pub place-head : reading-from image h .place .head ≡ h
     place-head =
         ap (λ (r : Reading). r .place .head) (sym (reading-is image h l))
-            ∙ shown-head (rest image (first-cursor image h) .entries) (rest image (first-cursor image h) .ending)
+        ∙ shown-head (rest image (first-cursor image h) .entries) (rest image (first-cursor image h) .ending)
 
     pub place-length : reading-from image h .place .length ≡ length image
     place-length =
         ap (λ (r : Reading). r .place .length) (sym (reading-is image h l))
-            ∙ shown-length (rest image (first-cursor image h) .entries) (rest image (first-cursor image h) .ending)
+        ∙ shown-length (rest image (first-cursor image h) .entries) (rest image (first-cursor image h) .ending)
 
 -- ---- repair 2 moves the head only with a step
 
@@ -99,7 +99,7 @@ module _ {s t : Image} {m r : Meter} {w : Work} {h : ℕ} (v : Mending s m w t h
     pub skipped-2 : Mending s m (repair-2-on w) t j r
     skipped-2 =
         rw (repair-2-is w h (w .reading .entries))
-            (mending-stop v (steps-2 (w .reading .place .length) (w .reading .entries)) (head-2 h (w .reading .entries)) j l)
+        (mending-stop v (steps-2 (w .reading .place .length) (w .reading .entries)) (head-2 h (w .reading .entries)) j l)
 
     pub skipped-3 : Mending s m (repair-3 w) t j r
     skipped-3 = rw (repair-3-is w) (mending-stop v (steps-3 (w .image) (w .reading)) (w .reading .place .head) j l)

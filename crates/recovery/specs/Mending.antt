@@ -39,16 +39,16 @@ module _ {s t : Image} {m r : Meter} {w : Work} {h : ℕ} (v : Mending s m w t h
         image = left ss d .0;
         reading = left ss d .1 o;
       } where
-    left : (ss : List Step) → Did t r ss u q → (q .asked ≤ q .allowance → after w ss k .image ≡ u)
-        × ((empty ss ≡ false) ⊎ (k ≡ h) → q .asked ≤ q .allowance → after w ss k .reading ≡ reading-from u k)
-    left [] d =
-        let same : t ≡ u = sym (d .bytes ∙ ap (run t) (take-nil (r .allowance - r .asked))) in
-        let kept : (true ≡ false) ⊎ (k ≡ h) → h ≡ k =
+        left : (ss : List Step) → Did t r ss u q → (q .asked ≤ q .allowance → after w ss k .image ≡ u)
+            × ((empty ss ≡ false) ⊎ (k ≡ h) → q .asked ≤ q .allowance → after w ss k .reading ≡ reading-from u k)
+        left [] d =
+            let same : t ≡ u = sym (d .bytes ∙ ap (run t) (take-nil (r .allowance - r .asked))) in
+            let kept : (true ≡ false) ⊎ (k ≡ h) → h ≡ k =
             ⊎-elim (λ (e : true ≡ false). absurd (let z : _≡_ {A = ℕ} 0 1 = cc in omega arith)) (λ (e : k ≡ h). sym e) in
-        (λ b. v .image l ∙ same, λ o b. v .reading l ∙ ap₂ reading-from same (kept o))
-    left (x ∷ ss) d =
-        let done : q .asked ≤ q .allowance → run (w .image) (x ∷ ss) ≡ u = λ b. ap (λ (i : Image). run i (x ∷ ss)) (v .image l) ∙ sym (did-all d b) in
-        (done, λ o b. ap (λ (i : Image). reading-from i k) (done b))
+            (λ b. v .image l ∙ same, λ o b. v .reading l ∙ ap₂ reading-from same (kept o))
+        left (x ∷ ss) d =
+            let done : q .asked ≤ q .allowance → run (w .image) (x ∷ ss) ≡ u = λ b. ap (λ (i : Image). run i (x ∷ ss)) (v .image l) ∙ sym (did-all d b) in
+            (done, λ o b. ap (λ (i : Image). reading-from i k) (done b))
 
   -- the allowance is used up: the next phase changes nothing
   pub mending-stop : (ss : List Step) (k j : ℕ) → r .allowance < r .asked → Mending s m (after w ss k) t j r

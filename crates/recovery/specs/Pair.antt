@@ -65,7 +65,7 @@ module _ {s : Image} {h : ℕ} {v : Survey} (w : Seen s h v) where
 
   handed-by : {m r : Meter} {t : Image} (ss : List Step) (head : ℕ) → Did s m ss t r
       → (steps-2 (length s) (rest s (first-cursor s (v .place .head)) .entries) ≡ ss)
-          × (head-2 h (rest s (first-cursor s (v .place .head)) .entries) ≡ head)
+      × (head-2 h (rest s (first-cursor s (v .place .head)) .entries) ≡ head)
       → Handed s h m t head r
   handed-by ss head d e =
       record { did = rw (ap (steps-2 (length s)) entries-are ∙ e .0) d; handed = sym (ap (head-2 h) entries-are ∙ e .1) }
@@ -73,7 +73,7 @@ module _ {s : Image} {h : ℕ} {v : Survey} (w : Seen s h v) where
   pub handed-few : {m : Meter} → v .tally .records < 2 → Handed s h m s h m
   handed-few {m} l =
       handed-by [] h (did-none s m)
-          (few (length s) h (rest s (first-cursor s (v .place .head)) .entries) (omega (arith, count-is (w .surveyed .tallied))))
+      (few (length s) h (rest s (first-cursor s (v .place .head)) .entries) (omega (arith, count-is (w .surveyed .tallied))))
 
   module _ (l : 2 ≤ v .tally .records) where
     x : Entry
@@ -95,7 +95,7 @@ module _ {s : Image} {h : ℕ} {v : Survey} (w : Seen s h v) where
 
     pub handed-clean : {m r : Meter} {t : Image} → entry-of s (v .tally .second) .it .low ≡ 0xA0
         → Did s m (close-steps (length s) (entry-of s (v .tally .first)) (entry-of s (v .tally .second))) t r
-            → Handed s h m t (v .tally .second .at) r
+        → Handed s h m t (v .tally .second .at) r
     unfolding x y is-clean
     handed-clean e d = handed-pair _ _ d (pair-by (length s) h x y true _ (eq-eqb (y .it .low) 0xA0 e) refl)
 

@@ -35,7 +35,7 @@ pub rest-path : {image : Image} {c d : Cursor} {es : List Entry} → Path image 
 rest-path here = refl
 rest-path {image} {c} (there e h p) =
     ap (λ (r : Run). r .entries) (rest-step image c ∙ ap (λ (x : Step). followed image x (rest image)) h)
-        ∙ ap (λ (l : List Entry). entry-of image e ∷ l) (rest-path p)
+    ∙ ap (λ (l : List Entry). entry-of image e ∷ l) (rest-path p)
 
 pub path-tidy : {image : Image} {c d : Cursor} {es : List Entry} → Path image c es d → Tidy c → Tidy d
 path-tidy here t = t
@@ -57,7 +57,7 @@ module _ (s : Image) (a b : ℕ) where
     low-there w =
         ⊎-elim
         (λ (p : (behind .at ≤ a) × (a < behind .end)).
-            (omega (arith, ap (λ (z : Cursor). z .at) (w .moved)), omega (arith, ap (λ (z : Cursor). z .end) (w .moved))))
+        (omega (arith, ap (λ (z : Cursor). z .at) (w .moved)), omega (arith, ap (λ (z : Cursor). z .end) (w .moved))))
         (λ (p : a < behind .room). absurd (omega (arith, ap (λ (z : Cursor). z .room) (w .moved))))
         o
 
@@ -79,7 +79,7 @@ module _ (s : Image) (a b : ℕ) where
     passed-kept =
         ⊎-elim
         (λ w. entry-kept s a b e (⊎-elim (λ (u : a < c .at). inl (omega (arith, w .1 .place)))
-            (λ (u : c .at + size-of (e .n) (e .d) ≤ a). inr (omega (arith, w .1 .place))) (off-here (w .1))))
+        (λ (u : c .at + size-of (e .n) (e .d) ≤ a). inr (omega (arith, w .1 .place))) (off-here (w .1))))
         (λ w. entry-kept s a b e (inr (omega (arith, w .1 .place, low-there (w .1) .0))))
         (way s e behind c h)
 
@@ -133,18 +133,25 @@ module _ (s : Image) (a b : ℕ) where
         (λ w.
         let f = stood-fits s e behind c (w .1) in
         ⊎-elim
-        (λ (u : a < c .at). (rw (w .1 .moved) (record {
-          before = inl (omega arith);
-          low = p .low;
-        }), entry-kept s a b e (inl (omega (arith, w .1 .place)))))
-        (λ (u : c .at + (c .end - c .at) ≤ a).
-        (rw (w .1 .moved) (record { before = inr (omega (arith, t .ordered, f)); low = p .low }), entry-kept s a b e
-            (inr (omega (arith, w .1 .place, f)))))
+        (λ (u : a < c .at). (
+          rw (w .1 .moved) (record {
+            before = inl (omega arith);
+            low = p .low;
+          }),
+          entry-kept s a b e (inl (omega (arith, w .1 .place))),
+        ))
+        (λ (u : c .at + (c .end - c .at) ≤ a). (
+          rw (w .1 .moved) (record { before = inr (omega (arith, t .ordered, f)); low = p .low }),
+          entry-kept s a b e
+              (inr (omega (arith, w .1 .place, f))),
+        ))
         (p .before))
         (λ w.
-        let f = stood-fits s e behind (turn (c .room) (c .held)) (w .1) in
-        (rw (w .1 .moved) (record { before = inr (omega (arith, p .low, f)); low = omega arith }), entry-kept s a b e
-            (inr (omega (arith, w .1 .place, p .low, f)))))
+        let f = stood-fits s e behind (turn (c .room) (c .held)) (w .1) in (
+          rw (w .1 .moved) (record { before = inr (omega (arith, p .low, f)); low = omega arith }),
+          entry-kept s a b e
+              (inr (omega (arith, w .1 .place, p .low, f))),
+        ))
         (way s e behind c h)
 
   by-step : (k : ℕ) (c : Cursor) (r : Step) → advance s c ≡ r → Tidy c → Passed c a → left c < suc k → Less c r

@@ -100,7 +100,7 @@ module _ (image : Image) (c : Cursor) (e : Spot) (behind : Cursor) (tidy : Tidy 
   ahead-back a o =
       ⊎-elim
       (λ w. ⊎-elim (λ (p : (behind .at ≤ a) × (a < behind .end)). inl
-          (omega (arith, ap (λ (z : Cursor). z .at) (w .1 .moved)), omega (arith, ap (λ (z : Cursor). z .end) (w .1 .moved))))
+      (omega (arith, ap (λ (z : Cursor). z .at) (w .1 .moved)), omega (arith, ap (λ (z : Cursor). z .end) (w .1 .moved))))
       (λ (p : a < behind .room). inr (omega (arith, ap (λ (z : Cursor). z .room) (w .1 .moved)))) o)
       (λ w. inr (⊎-elim (λ (p : (behind .at ≤ a) × (a < behind .end)). omega (arith, ap (λ (z : Cursor). z .end) (w .1 .moved)))
       (λ (p : a < behind .room). absurd (omega (arith, ap (λ (z : Cursor). z .room) (w .1 .moved)))) o))
@@ -129,7 +129,7 @@ module _ (s : Image) (a b : ℕ) where
       let z : ℕ = size-of (e .n) (e .d) in
       ap (λ (x : Rec). record { at = e .at; it = x })
       (sym (rec-part z (e .n) (e .d) (drop (e .at) (set s a b)) (omega arith)) ∙ ap (λ (l : List ℕ). rec-of l (e .n) (e .d)) (part-kept (e .at) z o)
-          ∙ rec-part z (e .n) (e .d) (drop (e .at) s) (omega arith))
+      ∙ rec-part z (e .n) (e .d) (drop (e .at) s) (omega arith))
 
   pub unfinished-kept : (i : ℕ) → (i + 2 ≡ a → ⊥) → unfinished-at (set s a b) i ≡ unfinished-at s i
   unfinished-kept i h = ap is-unfinished (getD-drop i (set s a b) 2 0 ∙ getD-set-other s a (i + 2) b 0 h ∙ sym (getD-drop i s 2 0))
@@ -163,11 +163,9 @@ module _ (s : Image) (c : Cursor) (n d : ℕ) (h : look s c ≡ Next.Record n d)
   look-kept a b o =
       let p = allowed-record (c .held) (next (window s c)) n d h in
       let off : (i : ℕ) → i < size-of n d → c .at + i ≡ a
-          → ⊥ = λ i l q. ⊎-elim (λ (u : a < c .at). omega arith) (λ (u : c .at + size-of n d ≤ a). omega arith) o in
-      
+      → ⊥ = λ i l q. ⊎-elim (λ (u : a < c .at). omega arith) (λ (u : c .at + size-of n d ≤ a). omega arith) o in
       let same : (i : ℕ) → i < size-of n d
-          → getD (window (set s a b) c) i 0 ≡ getD (window s c) i 0 = λ i l. byte-kept s a b c i (omega (arith, fits)) (off i l) in
-      
+      → getD (window (set s a b) c) i 0 ≡ getD (window s c) i 0 = λ i l. byte-kept s a b c i (omega (arith, fits)) (off i l) in
       p .1 (next (window (set s a b) c))
       (next-kept (window s c) (window (set s a b) c) n d (window-long s a b c) (λ i g l. same i l)
       (rw (same 0 (omega arith), same 1 (omega arith), same 2 (omega arith), same 3 (omega arith))) (p .0))
@@ -180,8 +178,7 @@ module _ (s : Image) (c : Cursor) (n d : ℕ) (h : look s c ≡ Next.Record n d)
       let t : Image = set s a 0 in
       let p = allowed-record (c .held) (next (window s c)) n d h in
       let same : (i : ℕ) → i < size-of n d → (i ≡ 2 → ⊥)
-          → getD (window t c) i 0 ≡ getD (window s c) i 0 = λ i g o. byte-kept s a 0 c i (omega (arith, fits)) (λ q. o (omega arith)) in
-      
+      → getD (window t c) i 0 ≡ getD (window s c) i 0 = λ i g o. byte-kept s a 0 c i (omega (arith, fits)) (λ q. o (omega arith)) in
       let now : status-of (window t c) ≡ 0 =
       getD-drop (c .at) (take (c .end) t) 2 0 ∙ getD-take (c .end) t a 0 (omega (arith, fits)) ∙ getD-set-same s a 0 0 l in
       let was : status-of (window s c) ≡ 0xF8 = getD-drop (c .at) (take (c .end) s) 2 0 ∙ getD-take (c .end) s a 0 (omega (arith, fits)) ∙ f in
@@ -198,7 +195,7 @@ resettled : (s t : Image) (v : Cursor) (x : Next) (e : Spot) (behind : Cursor) �
 resettled s t v x e behind w l u =
     ap (settle t v) l
     ∙ ap₂ Step.Record (ap (λ (i : ℕ). record { at = i; n = e .n; d = e .d }) (sym (w .place)))
-        (ap (past v (size-of (e .n) (e .d))) u ∙ sym (w .moved))
+    (ap (past v (size-of (e .n) (e .d))) u ∙ sym (w .moved))
 
 pub here-again : (s t : Image) (c : Cursor) (e : Spot) (behind : Cursor) → Stood s c (look s c) e behind → look t c ≡ Next.Record (e .n) (e .d)
     → unfinished-at t (c .at) ≡ unfinished-at s (c .at)

@@ -12,7 +12,7 @@ use Rattle.spec.specs.Record.{low-of, high-of, status-of, spare-of, data
 abbrev pub erased-kind : ℕ → ℕ → Kind
 erased-kind b c =
     cond (is-high-begun c) (cond (is-record b) Kind.Torn (cond (is-wrap b) Kind.TornMarker (cond (eqb c 0xFF && eqb b 0xFF) Kind.Clear Kind.Bad)))
-        Kind.Bad
+    Kind.Bad
 
 -- "a wrap marker (magic 5AFA, status F0)"
 abbrev pub marker-kind : ℕ → Kind

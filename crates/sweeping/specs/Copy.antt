@@ -73,14 +73,18 @@ inside-record name content z e =
     inside-append 0 z (header-steps (length content)) (name-steps name ++ (d ++ commit-steps)) (
       omega arith,
       omega arith,
-      (omega arith, omega arith, inside-append 0 z (bytes-at 4 (four (length content))) (program 2 0xFE ∷ [])
-          (inside-bytes 0 z 4 (four (length content)) (omega arith) (omega arith)) (omega arith, omega arith, tt)),
+      (
+        omega arith,
+        omega arith,
+        inside-append 0 z (bytes-at 4 (four (length content))) (program 2 0xFE ∷ [])
+            (inside-bytes 0 z 4 (four (length content)) (omega arith) (omega arith)) (omega arith, omega arith, tt),
+      ),
     )
     (inside-append 0 z (name-steps name) (d ++ commit-steps)
     (inside-append 0 z (bytes-at 8 name) (program (8 + length name) 0x00 ∷ []) (inside-bytes 0 z 8 name (omega arith) (omega arith))
-        (omega arith, omega arith, tt))
+    (omega arith, omega arith, tt))
     (inside-append 0 z d commit-steps (inside-bytes 0 z (8 + up8 (length name + 1)) content (omega arith) (omega arith))
-        (omega arith, omega arith, tt)))
+    (omega arith, omega arith, tt)))
 
 copy-avoids : (p : Place) (x : Entry) → x .at ≡ p .head → HeadEnds p (size x) → fits p (size x) ≡ true → Avoids (x .at) 1 (copy-of p x)
 unfolding put-steps
@@ -88,14 +92,14 @@ copy-avoids p x e h f =
     let z : ℕ = size x in
     let a : ℕ = address p z in
     let off : Off (a + 0) (a + z) (x .at) 1 = ⊎-elim (λ (l : p .head + z ≤ a). inl (omega arith)) (λ (l : a + z ≤ p .head). inr (omega arith))
-        (copy-apart p z h f) in
+    (copy-apart p z h f) in
     let written : List Step = moved a (record-steps (name-of x) (content-of x)) in
     let marked : with-marker p z ≡ true → x .at + 1 ≤ p .tail = λ m. omega (arith, h .before (marker-before-turn p z f m .0)) in
     avoids-append (x .at) 1 (migrate-steps (some x)) (turn-steps p z ++ (written ++ delete-steps (some x))) (migrate-avoids x)
     (avoids-append (x .at) 1 (turn-steps p z) (written ++ delete-steps (some x)) (turn-avoids p z (x .at) marked)
     (avoids-append (x .at) 1 written (delete-steps (some x))
     (inside-avoids (a + 0) (a + z) (x .at) 1 written off
-        (inside-moved a 0 z (record-steps (name-of x) (content-of x)) (inside-record (name-of x) (content-of x) z refl)))
+    (inside-moved a 0 z (record-steps (name-of x) (content-of x)) (inside-record (name-of x) (content-of x) z refl)))
     (inr (omega arith), tt)))
 
 one-kept : {s t : Image} {m r : Meter} {ss : List Step} (h : ℕ) → Did s m ss t r → Avoids h 1 ss → getD t h 0 ≡ getD s h 0

@@ -105,7 +105,7 @@ module _ (image : Image) (h : ℕ) (l : h < length image) (b : Low (getD image h
       let e : low-of s ≡ getD image h 0 = getD-drop h image 0 0 ∙ ap (λ (i : ℕ). getD image i 0) (add-zero h) in
       ap (λ (t : List ℕ). goes-on (floor h) (next (drop h t))) (take-length image)
       ∙ next-plain (floor h) s _ (low-plain (high-of s) (status-of s) (spare-of s) (low-of s) (rw e b)) (one-long s (rw length-drop (omega arith)))
-          refl
+      refl
 
   from-here : (d : Cursor) → From image (first-cursor image h) d → d ≡ first-cursor image h
   from-here d here = refl

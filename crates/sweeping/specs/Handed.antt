@@ -114,7 +114,7 @@ module _ {s : Image} {h : ℕ} (w : Led s h) (m : Meter) where
           let a : ℕ = x .at + 8 + up8 (x .n + 1) in
           close-is v x y (record { fits = omega (arith, t .turned .whole .fits) })
           ∙ ap₂ (λ (own : List ℕ) (N : ℕ). clean-steps (x .d) a own ++ leave-steps (x .at) (y .at) (sectors (floor (x .at)) (end-before N (y .at))))
-              (same-data g) l
+          (same-data g) l
           ∙ sym (close-is s x y (t .turned .whole))
 
       handing-is : handing s h ≡ program (y .at) 0xA0 ∷ close-steps (length s) (entry-of s x) (entry-of s y)
@@ -132,10 +132,10 @@ module _ {s : Image} {h : ℕ} (w : Led s h) (m : Meter) where
           let did : Did s m (handing s h) z q = rw handing-is (did-both g (rw (same-close l g) at i)) in
           let low : q .asked ≤ q .allowance → getD z (y .at) 0 ≡ 0 = λ n.
           let j : z ≡ run (run s (program (y .at) 0xA0 ∷ [])) (close-steps (length s) (entry-of s x) (entry-of s y)) = did-all did n
-              ∙ ap (run s) handing-is in
+          ∙ ap (run s) handing-is in
           ap (λ (i : Image). getD i (y .at) 0) j
-              ∙ close-low (run s (program (y .at) 0xA0 ∷ [])) (length s) (entry-of s x) (entry-of s y)
-              (omega (arith, ap length j, u .turned .whole .fits)) in
+          ∙ close-low (run s (program (y .at) 0xA0 ∷ [])) (length s) (entry-of s x) (entry-of s y)
+          (omega (arith, ap length j, u .turned .whole .fits)) in
           record {
             did = did;
             head = sym heading-is;

@@ -61,7 +61,7 @@ module _ {s t : Image} {h : ℕ} {m a : Meter} (w : Led s h) (d : Did s m (copyi
         begun = rw steps-are (began-both (began-did d) l (began-did (subst (λ (i : Image). Did t a (handing i h) u (r .meter)) e (v .did))));
         left = λ n.
             let j : u ≡ run (run s (copying s h)) (handing (run s (copying s h)) h) = did-all (v .did) n
-                ∙ ap (λ (i : Image). run i (handing i h)) e in
+            ∙ ap (λ (i : Image). run i (handing i h)) e in
             record {
               image = ap (λ (y : Work). y .image) (move-is s h (stands s h w .head)) ∙ sym j;
               reading =

@@ -85,7 +85,7 @@ module _ {s : Image} {p : Place} (w : Headed s p) where
   plan-none {k} q f e z =
       let r : Reading = reading-from s (p .head) in
       let none : r .entries ≡ [] = entries-are s (p .head) (w .led)
-          ∙ ap (λ (v : Run). v .entries) (rest-done s (first-cursor s (p .head)) q (e ∙ ap (advance s) f) z) in
+      ∙ ap (λ (v : Run). v .entries) (rest-done s (first-cursor s (p .head)) q (e ∙ ap (advance s) f) z) in
       record { stop = stuck-empty r (r .entries) refl none; room = ap (no-room r) none ∙ room-empty r }
 
   module _ {x : Spot} {c : Cursor} (t : Found s (first-cursor s (p .head)) x c) where
@@ -110,7 +110,7 @@ module _ {s : Image} {p : Place} (w : Headed s p) where
       plan-full l g i j =
           let r : Reading = reading-from s (p .head) in
           let no : fits (r .place) (size (entry-of s x)) ≡ false = fitting false
-              (placed-full p (size-of (x .n) (x .d)) (ap (placed p) (sym g) ∙ sym i ∙ j)) in
+          (placed-full p (size-of (x .n) (x .d)) (ap (placed p) (sym g) ∙ sym i ∙ j)) in
           record {
             stop = stuck-live r (entry-of s x) (rest s c .entries) false listed (living b e ∙ l) no;
             room = ap (no-room r) listed ∙ room-live r (entry-of s x) (rest s c .entries) false (living b e ∙ l) no;
@@ -124,7 +124,7 @@ module _ {s : Image} {p : Place} (w : Headed s p) where
           let z : ℕ = size-of (x .n) (x .d) in
           let at : x .at ≡ p .head = head-at s (p .head) (w .led) t in
           let stand : Standing (length s) (p .head) (p .head + z) p = subst (Standing (length s) (p .head) (p .head + z)) (sym (w .same))
-              (stands-past s (p .head) (w .led) t) in
+          (stands-past s (p .head) (w .led) t) in
           let taken : fits p z ≡ true = placed-parts p z a i o (ap (placed p) (sym g) ∙ sym j ∙ k) .0 in
           record {
             on = stuck-live r (entry-of s x) (rest s c .entries) true listed (living b e ∙ l) (fitting true taken);
@@ -151,9 +151,11 @@ module _ {s : Image} {p : Place} (w : Headed s p) where
           let behind : rest s c .entries ≡ entry-of s y ∷ rest s d .entries = ap (λ (v : Run). v .entries) (u .turned .split) in
           let two : r .entries ≡ entry-of s x ∷ (entry-of s y ∷ rest s d .entries) = listed ∙ ap (λ (es : List Entry). entry-of s x ∷ es) behind in
           let dead : live (entry-of s x ∷ (entry-of s y ∷ rest s d .entries)) (entry-of s x) ≡ false =
-          sym (ap (λ (es : List Entry). live (entry-of s x ∷ es) (entry-of s x)) behind) ∙ living b e ∙ l in
-          (stuck-not r (entry-of s x) (entry-of s y) (rest s d .entries) two dead, copy-dead r (entry-of s x) (entry-of s y ∷ rest s d .entries) two
-              dead)
+          sym (ap (λ (es : List Entry). live (entry-of s x ∷ es) (entry-of s x)) behind) ∙ living b e ∙ l in (
+            stuck-not r (entry-of s x) (entry-of s y) (rest s d .entries) two dead,
+            copy-dead r (entry-of s x) (entry-of s y ∷ rest s d .entries) two
+                dead,
+          )
 
 -- ---- step (a)
 
@@ -161,13 +163,13 @@ module _ {s : Image} {p : Place} (w : Headed s p) where
   pub sound : Sound p
   sound =
       let o : Standing (length s) (p .head) (p .head) p = subst (Standing (length s) (p .head) (p .head)) (sym (w .same))
-          (stands s (p .head) (w .led)) in
+      (stands s (p .head) (w .led)) in
       record { inside = omega (arith, w .led .inside, o .whole); short = omega (arith, w .led .small, o .whole) }
 
   pub ready : {n d : ℕ} (k : ℕ) → Copies s p n d → k ≤ 2 ^ 31 → Ready p (length s) n d k
   ready k c l =
       let o : Standing (length s) (p .head) (p .head) p = subst (Standing (length s) (p .head) (p .head)) (sym (w .same))
-          (stands s (p .head) (w .led)) in
+      (stands s (p .head) (w .led)) in
       record {
         sound = sound;
         whole = o .whole;

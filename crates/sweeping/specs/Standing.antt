@@ -77,7 +77,7 @@ module _ (image : Image) (h : ℕ) (w : Led image h) where
   entries-are =
       let r : Run = rest image (first-cursor image h) in
       ap (λ (x : Reading). x .entries) (sym (reading-is image h (omega (arith, w .inside))))
-          ∙ shown-entries image (length image) h (r .entries) (r .ending)
+      ∙ shown-entries image (length image) h (r .entries) (r .ending)
 
   stands-by : (lo : ℕ) → Ends-on (length image) h lo (rest image (first-cursor image h) .ending)
       → Standing (length image) h lo (reading-from image h .place)
@@ -88,7 +88,7 @@ module _ (image : Image) (h : ℕ) (w : Led image h) where
   pub stands : Standing (length image) h h (reading-from image h .place)
   stands =
       let o : On (length image) h h (first-cursor image h) = record
-          { even = w .even; up = λ z. (omega arith, omega (arith, w .inside), refl, refl); round = λ z. never (sym z) } in
+      { even = w .even; up = λ z. (omega arith, omega (arith, w .inside), refl, refl); round = λ z. never (sym z) } in
       stands-by h (ends-on image (length image) h h (first-cursor image h) o)
 
   -- with the first record known, before the turn the tail is behind it

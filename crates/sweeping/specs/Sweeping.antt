@@ -89,12 +89,12 @@ module _ {s : Image} {m : Meter} {k h : ℕ} {t : Image} {q : Meter} {left : ℕ
     pub sweeping-cut : {u : Image} {r : Meter} → Cut-as t (p .head) q u r → Moves s m (moves k s (reading-from s h)) u n r
     sweeping-cut {u} {r} c =
         rw (add-zero n) at (w .onward u 0 r
-            (rw (next-is (c .on)) (moves-cut (moves i (moving t (p .head) .image) (moving t (p .head) .reading)) (c .begun) (c .over))))
+        (rw (next-is (c .on)) (moves-cut (moves i (moving t (p .head) .image) (moving t (p .head) .reading)) (c .begun) (c .over))))
 
     pub sweeping-more : {u : Image} {r : Meter} {v : Place} → On-as t (p .head) q u v r → Sweeping s m k h u r i v (n + 1)
     sweeping-more {u} {r} {v} c =
         let e : moves i (moving t (p .head) .image) (moving t (p .head) .reading) ≡ moves i u (reading-from u (v .head)) = ap₂ (moves i)
-            (c .left .image) (c .left .reading) in
+        (c .left .image) (c .left .reading) in
         record {
           onward = λ x j y g.
               let o : n + suc j ≡ n + 1 + j = omega arith in

@@ -28,8 +28,8 @@ copy-next {s} {t} from to n j o h l d =
     let short : length (take j w) ≡ j = length-take-le j w (omega (arith, length-part from n s l)) in
     getD-part from n j t h
     ∙ ap (λ (v : List ℕ). getD v j 0)
-        (kept from n d (inside-avoids to (to + n) from n (bytes-at to (take j w)) o
-        (inside-bytes to (to + n) to (take j w) (omega arith) (omega arith))))
+    (kept from n d (inside-avoids to (to + n) from n (bytes-at to (take j w)) o
+    (inside-bytes to (to + n) to (take j w) (omega arith) (omega arith))))
 
 -- one byte more
 pub copy-more : {s t u : Image} {m q r : Meter} (from to n j : ℕ) → Apart from to n → j < n → from + n ≤ length s
@@ -50,7 +50,7 @@ copied-name s from to n h =
 
 pub copied-data : (s : Image) (from to n d : ℕ)
     → bytes-at (to + (8 + up8 (n + 1))) (take d (drop (from + (8 + up8 (n + 1))) s)) ≡ moved to
-        (data-steps n (take d (drop (up8 (n + 1)) (drop 8 (drop from s)))))
+    (data-steps n (take d (drop (up8 (n + 1)) (drop 8 (drop from s)))))
 copied-data s from to n d = rw (drop-drop (up8 (n + 1)) 8 (drop from s), drop-drop (8 + up8 (n + 1)) from s)
     (sym (moved-bytes to (8 + up8 (n + 1)) (take d (drop (from + (8 + up8 (n + 1))) s))))
 
@@ -64,8 +64,13 @@ pub data-count : (s : Image) (from to n d : ℕ) → from + size-of n d ≤ leng
     → length (moved to (data-steps n (take d (drop (up8 (n + 1)) (drop 8 (drop from s)))))) ≡ d
 data-count s from to n d h =
     let w = take d (drop (up8 (n + 1)) (drop 8 (drop from s))) in
-    omega (arith, length-moved to (data-steps n w), length-bytes (8 + up8 (n + 1)) w, length-take-le d (drop (up8 (n + 1)) (drop 8 (drop from s)))
-        (simp length-drop (omega arith)))
+    omega (
+      arith,
+      length-moved to (data-steps n w),
+      length-bytes (8 + up8 (n + 1)) w,
+      length-take-le d (drop (up8 (n + 1)) (drop 8 (drop from s)))
+          (simp length-drop (omega arith)),
+    )
 
 -- ---- what the steps on the copy leave of the record
 
@@ -86,7 +91,7 @@ pub same-content : (n d : ℕ) (s t : List ℕ) → body n d t ≡ body n d s
 same-content n d s t e =
     let h : up8 (n + 1) + d ≤ up8 (n + 1) + up8 d = omega arith in
     part-of (up8 (n + 1) + up8 d) (up8 (n + 1)) d (drop 8 t) h ∙ ap (λ (w : List ℕ). take d (drop (up8 (n + 1)) w)) e
-        ∙ sym (part-of (up8 (n + 1) + up8 d) (up8 (n + 1)) d (drop 8 s) h)
+    ∙ sym (part-of (up8 (n + 1) + up8 d) (up8 (n + 1)) d (drop 8 s) h)
 
 pub same-body : {s t : Image} {m r : Meter} {ss : List Step} (from n d : ℕ) → Did s m ss t r → Avoids (from + 8) (up8 (n + 1) + up8 d) ss
     → body n d (drop from t) ≡ body n d (drop from s)
@@ -132,21 +137,21 @@ record-moved to name content n d e f =
 
 -- the phases of a copy, each reading the image that the one before it left
 module _ {s s₁ s₂ s₃ t : Image} {m a b c r : Meter} (from to n d : ℕ) (fits : from + size-of n d ≤ length s) (apart : Apart from to (size-of n d))
-    where
-  pub copied-record : Did s m (moved to (header-steps d)) s₁ a
-      → Did s₁ a (moved to (name-steps (rec-of (drop from s₁) n d .name))) s₂ b
-      → Did s₂ b (moved to (data-steps n (rec-of (drop from s₂) n d .content))) s₃ c
-      → Did s₃ c (program (to + 2) 0xFC ∷ []) t r
-      → Did s m (moved to (record-steps (rec-of (drop from s) n d .name) (rec-of (drop from s) n d .content))) t r
-  copied-record header name content commit =
-      let own = rec-of (drop from s) n d in
-      let name-long : length (own .name) ≡ n = length-take-le n (drop 8 (drop from s)) (simp length-drop (omega arith)) in
-      let content-long : length (own .content) ≡ d = length-take-le d (drop (up8 (n + 1)) (drop 8 (drop from s))) (simp length-drop (omega arith)) in
-      let first : body n d (drop from s₁) ≡ body n d (drop from s) = copy-keeps (header-steps d) from to n d 8 apart (omega arith) header
-          (inside-header d) in
-      let name′ : Did s₁ a (moved to (name-steps (own .name))) s₂ b = rw (same-name n d (drop from s) (drop from s₁) first) at name in
-      let second : body n d (drop from s₂) ≡ body n d (drop from s₁) = copy-keeps (name-steps (own .name)) from to n d (9 + n) apart (omega arith)
-          name′ (inside-name (9 + n) (own .name) (omega arith)) in
-      let content′ : Did s₂ b (moved to (data-steps n (own .content))) s₃ c = rw (same-content n d (drop from s) (drop from s₂) (second ∙ first)) at
-          content in
-      rw (record-moved to (own .name) (own .content) n d name-long content-long) (did-both header (did-both name′ (did-both content′ commit)))
+  where
+    pub copied-record : Did s m (moved to (header-steps d)) s₁ a
+        → Did s₁ a (moved to (name-steps (rec-of (drop from s₁) n d .name))) s₂ b
+        → Did s₂ b (moved to (data-steps n (rec-of (drop from s₂) n d .content))) s₃ c
+        → Did s₃ c (program (to + 2) 0xFC ∷ []) t r
+        → Did s m (moved to (record-steps (rec-of (drop from s) n d .name) (rec-of (drop from s) n d .content))) t r
+    copied-record header name content commit =
+        let own = rec-of (drop from s) n d in
+        let name-long : length (own .name) ≡ n = length-take-le n (drop 8 (drop from s)) (simp length-drop (omega arith)) in
+        let content-long : length (own .content) ≡ d = length-take-le d (drop (up8 (n + 1)) (drop 8 (drop from s))) (simp length-drop (omega arith)) in
+        let first : body n d (drop from s₁) ≡ body n d (drop from s) = copy-keeps (header-steps d) from to n d 8 apart (omega arith) header
+        (inside-header d) in
+        let name′ : Did s₁ a (moved to (name-steps (own .name))) s₂ b = rw (same-name n d (drop from s) (drop from s₁) first) at name in
+        let second : body n d (drop from s₂) ≡ body n d (drop from s₁) = copy-keeps (name-steps (own .name)) from to n d (9 + n) apart (omega arith)
+        name′ (inside-name (9 + n) (own .name) (omega arith)) in
+        let content′ : Did s₂ b (moved to (data-steps n (own .content))) s₃ c = rw (same-content n d (drop from s) (drop from s₂) (second ∙ first)) at
+        content in
+        rw (record-moved to (own .name) (own .content) n d name-long content-long) (did-both header (did-both name′ (did-both content′ commit)))

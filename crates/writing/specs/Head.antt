@@ -82,7 +82,7 @@ copy-count s a from n d h =
 
 module _ {s s₁ s₂ t : Image} {m a b r : Meter} (p : Place) (n d at : ℕ) (k : Bool) (q : Place)
     (ends : HeadEnds p (size-of n d)) (whole : p .length ≡ length s) (taken : fits p (size-of n d) ≡ true)
-        (e : placed p (size-of n d) ≡ placed-as.At at k q) (st : Status) (is : st .byte ≡ getD s (p .head + 2) 0) where
+    (e : placed p (size-of n d) ≡ placed-as.At at k q) (st : Status) (is : st .byte ≡ getD s (p .head + 2) 0) where
   pub copy-phases : Did s m (migrate-steps (entry-of (At (p .head) st)) ++ marks k (p .tail)) s₁ a
       → Did s₁ a (moved at (record-steps (rec-of (drop (p .head) s₁) n d .name) (rec-of (drop (p .head) s₁) n d .content))) s₂ b
       → Did s₂ b (delete-steps (entry-of (At (p .head) st))) t r
@@ -92,17 +92,17 @@ module _ {s s₁ s₂ t : Image} {m a b r : Meter} (p : Place) (n d at : ℕ) (k
       let own = rec-of (drop h s) n d in
       let size = up8 (n + 1) + up8 d in
       let marked : k ≡ true → h + 8 + size ≤
-          p .tail = (λ x. omega (arith, ends .before (marker-before-turn p (size-of n d) taken (placed-parts p (size-of n d) at k q e .2 ∙ x) .0))) in
+      p .tail = (λ x. omega (arith, ends .before (marker-before-turn p (size-of n d) taken (placed-parts p (size-of n d) at k q e .2 ∙ x) .0))) in
       let kept = same-body h n d before
-          (avoids-append (h + 8) size (migrate-steps (entry-of (At h st))) (marks k (p .tail))
-          (migrate-avoids h st size) (marks-avoid (h + 8) size (p .tail) k marked)) in
+      (avoids-append (h + 8) size (migrate-steps (entry-of (At h st))) (marks k (p .tail))
+      (migrate-avoids h st size) (marks-avoid (h + 8) size (p .tail) k marked)) in
       let middle′ : Did s₁ a (moved at (record-steps (own .name) (own .content))) s₂ b = rw
-          (same-name n d (drop h s) (drop h s₁) kept, same-content n d (drop h s) (drop h s₁) kept) at middle in
+      (same-name n d (drop h s) (drop h s₁) kept, same-content n d (drop h s) (drop h s₁) kept) at middle in
       let name-long : length (own .name) ≡ n = length-take-le n (drop 8 (drop h s)) (simp length-drop (omega (arith, ends .inside))) in
       let content-long : length (own .content) ≡ d = length-take-le d (drop (up8 (n + 1)) (drop 8 (drop h s)))
-          (simp length-drop (omega (arith, ends .inside))) in
+      (simp length-drop (omega (arith, ends .inside))) in
       let long : placed p (size-of (length (own .name)) (length (own .content))) ≡ placed-as.At at k q = rw (name-long, content-long) e in
       let status : st .byte ≡ own .status = is ∙ sym (getD-drop h s 2 0) in
       let same = ap (λ (b : ℕ). put-steps p (entry-of (At h (record { byte = b }))) (own .name) (own .content)) status
-          ∙ put-old p (some (entry-at s h n d)) (own .name) (own .content) in
+      ∙ put-old p (some (entry-at s h n d)) (own .name) (own .content) in
       rw same at (put-phases p (entry-of (At h st)) (own .name) (own .content) at k q long before middle′ behind)

@@ -88,7 +88,7 @@ nowhere : (p : Place) (s : ℕ) → Sound p → p .length < s → fits p s ≡ f
 unfolding fits fits-at-tail
 nowhere p s h l =
     rw (lt-leb (p .tail + s) (limit p) (omega (arith, limit-inside p h)), lt-leb s (floor (p .head)) (omega (arith, h .inside)), fits, fits-at-tail)
-        (and-false (not (p .turned)))
+    (and-false (not (p .turned)))
 
 pub too-long : (p : Place) (s : ℕ) (ss : List ℕ) → Sound p → p .length < s → fits-all p (s ∷ ss) ≡ false
 unfolding fits-all

@@ -49,9 +49,11 @@ loop-less c = search needs
 
 loop-again : tie.Need-loop-again Inv-loop μ-loop
 loop-again c =
-    let a = c .before .before .before .before .before .args in
-    (omega arith, ap (λ l. set l (a .at + c .before .loop .i) 255) (c .before .loop .inv .1)
-        ∙ erased-more (a .image .now) (a .at) (c .before .loop .i) (omega arith))
+    let a = c .before .before .before .before .before .args in (
+      omega arith,
+      ap (λ l. set l (a .at + c .before .loop .i) 255) (c .before .loop .inv .1)
+          ∙ erased-more (a .image .now) (a .at) (c .before .loop .i) (omega arith),
+    )
 
 counted-requires-2 : tie.Need-counted-requires-2 Inv-loop μ-loop
 counted-requires-2 c κs = search needs

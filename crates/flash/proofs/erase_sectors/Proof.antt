@@ -38,10 +38,15 @@ loop-less c = search needs
 loop-again : tie.Need-loop-again Inv-loop μ-loop
 loop-again c =
     let a = c .before .before .before .before .before .before .before .args in
-    let inv = c .before .before .before .before .before .loop .inv in
-    (omega arith, omega arith, omega arith, omega arith, toward-more (inv .4)
-        (ap (map erase) (sectors-more (c .before .before .before .before .before .loop .a) (a .to) (omega arith)))
-        (c .before .before .erase .ensures))
+    let inv = c .before .before .before .before .before .loop .inv in (
+      omega arith,
+      omega arith,
+      omega arith,
+      omega arith,
+      toward-more (inv .4)
+          (ap (map erase) (sectors-more (c .before .before .before .before .before .loop .a) (a .to) (omega arith)))
+          (c .before .before .erase .ensures),
+    )
 
 same-length : tie.Need-same-length Inv-loop μ-loop
 same-length c = search needs

@@ -40,9 +40,12 @@ loop-less c = search needs
 loop-again : tie.Need-loop-again Inv-loop μ-loop
 loop-again c =
     let l = c .before .before .before .before .before .before .loop in
-    let a = c .before .before .before .before .before .before .before .before .before .args in
-    (omega arith, omega arith, rw (bytes-more (a .at) (a .bytes .now) (l .i) (omega arith))
-        (did-both (l .inv .2) (c .before .before .program .ensures)))
+    let a = c .before .before .before .before .before .before .before .before .before .args in (
+      omega arith,
+      omega arith,
+      rw (bytes-more (a .at) (a .bytes .now) (l .i) (omega arith))
+          (did-both (l .inv .2) (c .before .before .program .ensures)),
+    )
 
 same-length : tie.Need-same-length Inv-loop μ-loop
 same-length c = search needs

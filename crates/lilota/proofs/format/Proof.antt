@@ -29,7 +29,7 @@ returns c =
     let c5 = c .before .before .before .before .before in
     let a = c5 .before .before .before .args in
     rw (c .ended .ensures) (carried (a .allowance) refl refl (c .before .before .before .format-image .ensures)
-        ∙ format-good (a .image .now) (a .allowance) (flag (c5 .before .good-length .ensures) (c5 .if1 .taken)))
+    ∙ format-good (a .image .now) (a .allowance) (flag (c5 .before .good-length .ensures) (c5 .if1 .taken)))
 
 returns-2 : tie.Need-returns-2
 returns-2 c =

@@ -23,8 +23,7 @@ part-result-end c = search needs
 
 returns : tie.Need-returns
 returns c =
-    let c2 = c .before .before in
-    let c5 = c2 .before .before .before in
+    let c2 = c .before .before in let c5 = c2 .before .before .before in
     part-is (c5 .args .image .now) (held-at (c2 .get-place .result)) _ (c2 .get-place .ensures .0)
 
 pub get-spec : {M : Type 1} → statement M

@@ -27,9 +27,11 @@ returns c =
 
 returns-2 : tie.Need-returns-2
 returns-2 c =
-    let a = c .before .before .before .before .before .before .args in
-    (get-name (a .image .now) (a .name .now) (flag (c .before .before .before .good-length .ensures) (c .before .before .if1 .taken))
-        (flag (c .before .name-ok .ensures) (c .if2 .left)), omega arith)
+    let a = c .before .before .before .before .before .before .args in (
+      get-name (a .image .now) (a .name .now) (flag (c .before .before .before .good-length .ensures) (c .before .before .if1 .taken))
+          (flag (c .before .name-ok .ensures) (c .if2 .left)),
+      omega arith,
+    )
 
 returns-3 : tie.Need-returns-3
 returns-3 c =

@@ -23,8 +23,7 @@ part-result-end c = search needs
 
 returns : tie.Need-returns
 returns c =
-    let c2 = c .before .before in
-    let c4 = c2 .before .before in
+    let c2 = c .before .before in let c4 = c2 .before .before in
     part-is (c4 .args .image .now) (listed-at (c2 .list-place .result)) _ (c2 .list-place .ensures .0)
 
 pub list-name-spec : {M : Type 1} → statement M

@@ -15,9 +15,10 @@ list-in-requires c κs = flag (c .before .good-length .ensures) (c .if1 .taken)
 
 returns : tie.Need-returns
 returns c =
-    let a = c .before .before .before .before .args in
-    (c .list-in .ensures .0 ∙ list-on (a .image .now) (a .index) (flag (c .before .before .good-length .ensures) (c .before .if1 .taken)),
-        c .list-in .ensures .1)
+    let a = c .before .before .before .before .args in (
+      c .list-in .ensures .0 ∙ list-on (a .image .now) (a .index) (flag (c .before .before .good-length .ensures) (c .before .if1 .taken)),
+      c .list-in .ensures .1,
+    )
 
 returns-2 : tie.Need-returns-2
 returns-2 c =

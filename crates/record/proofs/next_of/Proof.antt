@@ -68,58 +68,59 @@ enum-told-7 c = search needs
 returns-3 : tie.Need-returns-3
 unfolding next-at
 returns-3 c =
-    let c3 = c .before .before .before in
-    let c11 = c3 .before .before .before .before .before .before .before .before in
-    (c .record-of .ensures .0
-        ∙ next-arm (c11 .args .part .now) (c3 .kind-of .result) Kind.Record (omega arith) (c3 .kind-of .ensures) (c .before .enum-told .given .1),
-        c .record-of .ensures .1)
+    let c3 = c .before .before .before in let c11 = c3 .before .before .before .before .before .before .before .before in (
+      c .record-of .ensures .0
+          ∙ next-arm (c11 .args .part .now) (c3 .kind-of .result) Kind.Record (omega arith) (c3 .kind-of .ensures) (c .before .enum-told .given .1),
+      c .record-of .ensures .1,
+    )
 
 returns-4 : tie.Need-returns-4
 unfolding next-at
 returns-4 c =
-    let c3 = c .before .before .before in
-    let c11 = c3 .before .before .before .before .before .before .before .before in
-    (c .record-of2 .ensures .0
-        ∙ next-arm (c11 .args .part .now) (c3 .kind-of .result) Kind.Reserved (omega arith) (c3 .kind-of .ensures) (c .before .enum-told2 .given .1),
-        c .record-of2 .ensures .1)
+    let c3 = c .before .before .before in let c11 = c3 .before .before .before .before .before .before .before .before in (
+      c .record-of2 .ensures .0
+          ∙ next-arm (c11 .args .part .now) (c3 .kind-of .result) Kind.Reserved (omega arith) (c3 .kind-of .ensures) (c .before .enum-told2 .given .1),
+      c .record-of2 .ensures .1,
+    )
 
 returns-5 : tie.Need-returns-5
 unfolding next-at
 returns-5 c =
-    let c3 = c .before .before .before in
-    let c11 = c3 .before .before .before .before .before .before .before .before in
-    (c .torn-of .ensures .0 ∙ next-arm (c11 .args .part .now) (c3 .kind-of .result) Kind.Torn (omega arith) (c3 .kind-of .ensures)
-        (c .before .enum-told3 .given .1), c .torn-of .ensures .1)
+    let c3 = c .before .before .before in let c11 = c3 .before .before .before .before .before .before .before .before in (
+      c .torn-of .ensures .0 ∙ next-arm (c11 .args .part .now) (c3 .kind-of .result) Kind.Torn (omega arith) (c3 .kind-of .ensures)
+          (c .before .enum-told3 .given .1),
+      c .torn-of .ensures .1,
+    )
 
 returns-6 : tie.Need-returns-6
 unfolding next-at
 returns-6 c =
-    let c2 = c .before .before in
-    let c10 = c2 .before .before .before .before .before .before .before .before in
+    let c2 = c .before .before in let c10 = c2 .before .before .before .before .before .before .before .before in
     (next-arm (c10 .args .part .now) (c2 .kind-of .result) Kind.Marker (omega arith) (c2 .kind-of .ensures) (c .enum-told4 .given .1), tt)
 
 returns-7 : tie.Need-returns-7
 unfolding next-at
 returns-7 c =
-    let c3 = c .before .before .before in
-    let c11 = c3 .before .before .before .before .before .before .before .before in
-    (c .torn-wrap-of .ensures .0
-        ∙ next-arm (c11 .args .part .now) (c3 .kind-of .result) Kind.TornMarker (omega arith) (c3 .kind-of .ensures)
-        (c .before .enum-told5 .given .1), c .torn-wrap-of .ensures .1)
+    let c3 = c .before .before .before in let c11 = c3 .before .before .before .before .before .before .before .before in (
+      c .torn-wrap-of .ensures .0
+          ∙ next-arm (c11 .args .part .now) (c3 .kind-of .result) Kind.TornMarker (omega arith) (c3 .kind-of .ensures)
+          (c .before .enum-told5 .given .1),
+      c .torn-wrap-of .ensures .1,
+    )
 
 returns-8 : tie.Need-returns-8
 unfolding next-at
 returns-8 c =
-    let c3 = c .before .before .before in
-    let c11 = c3 .before .before .before .before .before .before .before .before in
-    (c .clear-of .ensures .0 ∙ next-arm (c11 .args .part .now) (c3 .kind-of .result) Kind.Clear (omega arith) (c3 .kind-of .ensures)
-        (c .before .enum-told6 .given .1), c .clear-of .ensures .1)
+    let c3 = c .before .before .before in let c11 = c3 .before .before .before .before .before .before .before .before in (
+      c .clear-of .ensures .0 ∙ next-arm (c11 .args .part .now) (c3 .kind-of .result) Kind.Clear (omega arith) (c3 .kind-of .ensures)
+          (c .before .enum-told6 .given .1),
+      c .clear-of .ensures .1,
+    )
 
 returns-9 : tie.Need-returns-9
 unfolding next-at
 returns-9 c =
-    let c2 = c .before .before in
-    let c10 = c2 .before .before .before .before .before .before .before .before in
+    let c2 = c .before .before in let c10 = c2 .before .before .before .before .before .before .before .before in
     (next-arm (c10 .args .part .now) (c2 .kind-of .result) Kind.Bad (omega arith) (c2 .kind-of .ensures) (c .enum-told7 .given .1), tt)
 
 pub next-of-spec : {M : Type 1} → statement M

@@ -43,9 +43,11 @@ returns-3 c =
     let a = c .before .before .before .before .before .before .before .before .args in
     let s = a .part .now in
     let n = c .before .before .before .before .name-len .result in
-    let d = c .before .before .before .data-len .result in
-    (sized-as (a .held) s _ n d (c .before .before .before .before .name-len .ensures .0) refl (c .before .before .before .data-len .ensures .0)
-        (sized-short s n d (omega arith) (omega arith)), tt)
+    let d = c .before .before .before .data-len .result in (
+      sized-as (a .held) s _ n d (c .before .before .before .before .name-len .ensures .0) refl (c .before .before .before .data-len .ensures .0)
+          (sized-short s n d (omega arith) (omega arith)),
+      tt,
+    )
 
 returns-4 : tie.Need-returns-4
 returns-4 c =

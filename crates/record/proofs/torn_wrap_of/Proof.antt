@@ -22,15 +22,25 @@ is-blank-requires c κs = search needs
 
 returns : tie.Need-returns
 unfolding torn-wrap-at
-returns c =
-    (rw (torn-wrap-at, flag (c .before .is-blank .ensures ∙ ap blank (part-to-end (c .before .before .before .before .args .part .now) 3))
-        (c .if1 .taken)), tt)
+returns c = (
+  rw (
+    torn-wrap-at,
+    flag (c .before .is-blank .ensures ∙ ap blank (part-to-end (c .before .before .before .before .args .part .now) 3))
+        (c .if1 .taken),
+  ),
+  tt,
+)
 
 returns-2 : tie.Need-returns-2
 unfolding torn-wrap-at
-returns-2 c =
-    (rw (torn-wrap-at, flag (c .before .is-blank .ensures ∙ ap blank (part-to-end (c .before .before .before .before .args .part .now) 3))
-        (c .if1 .left)), tt)
+returns-2 c = (
+  rw (
+    torn-wrap-at,
+    flag (c .before .is-blank .ensures ∙ ap blank (part-to-end (c .before .before .before .before .args .part .now) 3))
+        (c .if1 .left),
+  ),
+  tt,
+)
 
 pub torn-wrap-of-spec : {M : Type 1} → statement M
 torn-wrap-of-spec =

@@ -27,21 +27,18 @@ first-cursor-requires c κs = search needs
 
 count-files-requires : tie.Need-count-files-requires
 count-files-requires c κs =
-    let c10 = c .before .before .before .before .before .before .before .before .before .before in
-    let c13 = c10 .before .before .before in
+    let c10 = c .before .before .before .before .before .before .before .before .before .before in let c13 = c10 .before .before .before in
     rw (c .first-cursor .ensures)
-        (first-sound (c10 .repair .last .0) (c10 .repair .result .head) (omega (arith, c10 .repair .ensures .1)) (omega (arith, c13 .pre .2)))
+    (first-sound (c10 .repair .last .0) (c10 .repair .result .head) (omega (arith, c10 .repair .ensures .1)) (omega (arith, c13 .pre .2)))
 
 same-length-2 : tie.Need-same-length-2
 same-length-2 c = search needs
 
 returns-2 : tie.Need-returns-2
 returns-2 c =
-    let c4 = c .before .before .before .before in
-    let c6 = c4 .before .before in
-    let c11 = c6 .before .before .before .before .before in
+    let c4 = c .before .before .before .before in let c6 = c4 .before .before in let c11 = c6 .before .before .before .before .before in
     counted-done (c11 .repair .ensures .0) (c4 .survey .result) (c .count-files .result) (c6 .if1 .left) (c4 .survey .ensures)
-        (c .count-files .ensures ∙ ap (λ k. length (files (rest (c11 .repair .last .0) k .entries))) (c .before .first-cursor .ensures))
+    (c .count-files .ensures ∙ ap (λ k. length (files (rest (c11 .repair .last .0) k .entries))) (c .before .first-cursor .ensures))
 
 pub mend-spec : {M : Type 1} → statement M
 mend-spec =

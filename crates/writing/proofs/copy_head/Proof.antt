@@ -27,7 +27,7 @@ returns c =
     let c5 = c .before .before .before .before .before in
     let a = c5 .args in
     absurd (never-full (a .place) _ (c5 .pre .0 .taken)
-        (rw (c .before .before .before .size .ensures) at (sym (c .before .before .after .ensures) ∙ c .enum-told .given .1)))
+    (rw (c .before .before .before .size .ensures) at (sym (c .before .before .after .ensures) ∙ c .enum-told .given .1)))
 
 add-from-byte : tie.Need-add-from-byte
 add-from-byte c = search needs
@@ -40,9 +40,7 @@ from-byte-requires c κs = search needs
 
 prepare-requires : tie.Need-prepare-requires
 prepare-requires c κs =
-    let c6 = c .before .before .before .before .before .before in
-    let c7 = c6 .before in
-    let c9 = c7 .before .before in
+    let c6 = c .before .before .before .before .before .before in let c7 = c6 .before in let c9 = c7 .before .before in
     let a = c9 .args in
     let r = c9 .pre .0 in
     let e = rw (c7 .size .ensures) at (sym (c6 .after .ensures) ∙ c .before .before .before .before .at .given .1) in
@@ -57,8 +55,7 @@ copy-record-requires c κs =
     let sized = c .before .before .before .before .before .before .before .before .before .before .before .size .ensures in
     let e = rw sized at (sym (c .before .before .before .before .before .before .before .before .before .before .after .ensures) ∙ placed .1) in
     let z = size-of (a .n) (a .d) in
-    let apart = rw (placed-parts (a .place) z _ _ _ e .1) at (copy-apart (a .place) z (c13 .pre .1) (r .taken)) in
-    (
+    let apart = rw (placed-parts (a .place) z _ _ _ e .1) at (copy-apart (a .place) z (c13 .pre .1) (r .taken)) in (
       r .named,
       omega (arith, r .whole, c13 .pre .1 .inside),
       omega (arith, spot (a .place) _ _ _ _ _ _ _ r e),
@@ -68,8 +65,7 @@ copy-record-requires c κs =
 
 delete-requires : tie.Need-delete-requires
 delete-requires c κs =
-    let c7 = c .before .before .before .before .before .before .before in
-    let c12 = c7 .before .before .before .before .before in
+    let c7 = c .before .before .before .before .before .before .before in let c12 = c7 .before .before .before .before .before in
     let c17 = c12 .before .before .before .before .before in
     let a = c17 .args in
     let r = c17 .pre .0 in
@@ -87,17 +83,12 @@ same-length c = search needs
 
 returns-2 : tie.Need-returns-2
 returns-2 c =
-    let c6 = c .before .before .before .before .before .before in
-    let c10 = c6 .before .before .before .before in
-    let c12 = c10 .before .before in
-    let c15 = c12 .before .before .before in
-    let c17 = c15 .before .before in
-    let c18 = c17 .before in
-    let c20 = c18 .before .before in
+    let c6 = c .before .before .before .before .before .before in let c10 = c6 .before .before .before .before in let c12 = c10 .before .before in
+    let c15 = c12 .before .before .before in let c17 = c15 .before .before in let c18 = c17 .before in let c20 = c18 .before .before in
     let a = c20 .args in
     let r = c20 .pre .0 in
     copy-phases (a .place) (a .n) (a .d) _ _ _ (c20 .pre .1) (r .whole) (r .taken)
-        (rw (c18 .size .ensures) at (sym (c17 .after .ensures) ∙ c15 .at .given .1)) (c12 .from-byte .result) (c12 .from-byte .ensures)
+    (rw (c18 .size .ensures) at (sym (c17 .after .ensures) ∙ c15 .at .given .1)) (c12 .from-byte .result) (c12 .from-byte .ensures)
     (c10 .prepare .ensures) (c6 .copy-record .ensures) (c .before .before .delete .ensures)
 
 pub copy-head-spec : {M : Type 1} → statement M

@@ -31,8 +31,7 @@ enum-told-2 c = search needs
 
 returns-2 : tie.Need-returns-2
 returns-2 c =
-    let c4 = c .before .before .before .before in
-    let c6 = c4 .before .before in
+    let c4 = c .before .before .before .before in let c6 = c4 .before .before in
     let a = c6 .before .args in
     let first = c4 .first .given .0 .1 .1 .0 in
     sym (room-on (a .place) (a .size) (a .largest ∷ a .largest ∷ []) _ _ first (sym (c6 .after .ensures) ∙ c4 .first .given .1)
@@ -49,10 +48,7 @@ enum-told-4 c = search needs
 
 returns-3 : tie.Need-returns-3
 returns-3 c =
-    let c4 = c .before .before .before .before in
-    let c6 = c4 .before .before in
-    let c8 = c6 .before .before in
-    let c10 = c8 .before .before in
+    let c4 = c .before .before .before .before in let c6 = c4 .before .before in let c8 = c6 .before .before in let c10 = c8 .before .before in
     let a = c10 .before .args in
     let first = c8 .first .given .0 .1 .1 .0 in
     let second = c4 .second .given .0 .1 .1 .0 in
@@ -62,10 +58,7 @@ returns-3 c =
 
 returns-4 : tie.Need-returns-4
 returns-4 c =
-    let c4 = c .before .before .before .before in
-    let c6 = c4 .before .before in
-    let c8 = c6 .before .before in
-    let c10 = c8 .before .before in
+    let c4 = c .before .before .before .before in let c6 = c4 .before .before in let c8 = c6 .before .before in let c10 = c8 .before .before in
     let a = c10 .before .args in
     let first = c8 .first .given .0 .1 .1 .0 in
     let second = c4 .second .given .0 .1 .1 .0 in

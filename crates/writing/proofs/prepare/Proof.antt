@@ -22,8 +22,7 @@ same-length c = search needs
 
 returns : tie.Need-returns
 returns c =
-    let c4 = c .before .before .before .before in
-    let c7 = c4 .before .before .before in
+    let c4 = c .before .before .before .before in let c7 = c4 .before .before .before in
     rw (c4 .if1 .taken) (did-both (c7 .migrate .ensures) (c .before .before .write-marker .ensures))
 
 same-length-2 : tie.Need-same-length-2

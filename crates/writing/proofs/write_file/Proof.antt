@@ -26,34 +26,32 @@ returns c =
     let c7 = c .before .before .before .before .before .before .before in
     let a = c7 .args in
     absurd (never-full (a .place) _ (c7 .pre .0 .taken)
-        (rw (c .before .before .before .size .ensures) at (sym (c .before .before .after .ensures) ∙ c .enum-told .given .1)))
+    (rw (c .before .before .before .size .ensures) at (sym (c .before .before .after .ensures) ∙ c .enum-told .given .1)))
 
 prepare-requires : tie.Need-prepare-requires
 prepare-requires c κs =
-    let c4 = c .before .before .before .before in
-    let c5 = c4 .before in
-    let c9 = c5 .before .before .before .before in
+    let c4 = c .before .before .before .before in let c5 = c4 .before in let c9 = c5 .before .before .before .before in
     let a = c9 .args in
     let e = rw (c5 .size .ensures) at (sym (c4 .after .ensures) ∙ c .before .before .at .given .1) in
     (c9 .pre .1, (λ k. omega (arith, marker-spot (a .place) _ _ _ _ _ _ _ (c9 .pre .0) e k)), omega (arith, c9 .pre .0 .few))
 
 write-record-requires : tie.Need-write-record-requires
 write-record-requires c κs =
-    let c6 = c .before .before .before .before .before .before in
-    let c8 = c6 .before .before in
-    let c9 = c8 .before in
+    let c6 = c .before .before .before .before .before .before in let c8 = c6 .before .before in let c9 = c8 .before in
     let a = c9 .before .before .before .before .args in
     let r = c9 .before .before .before .before .pre .0 in
-    let e = rw (c9 .size .ensures) at (sym (c8 .after .ensures) ∙ c6 .at .given .1) in
-    (r .named, omega (arith, spot (a .place) _ _ _ _ _ _ _ r e), omega
-        (arith, r .few, prepare-few (a .old) (c6 .at .given .0 .1 .0) (a .place .tail)))
+    let e = rw (c9 .size .ensures) at (sym (c8 .after .ensures) ∙ c6 .at .given .1) in (
+      r .named,
+      omega (arith, spot (a .place) _ _ _ _ _ _ _ r e),
+      omega
+          (arith, r .few, prepare-few (a .old) (c6 .at .given .0 .1 .0) (a .place .tail)),
+    )
 
 delete-requires : tie.Need-delete-requires
 delete-requires c κs =
     let c17 = c .before .before .before .before .before .before .before .before .before .before .before .before .before .before .before .before .before in
     let a = c17 .args in
-    let placed = c .before .before .before .before .before .before .before .before .before .before .at .given .0 in
-    (
+    let placed = c .before .before .before .before .before .before .before .before .before .before .at .given .0 in (
       lies-same (a .old) (length (a .image .now)) _ (c17 .pre .1) (omega arith),
       omega (arith, c17 .pre .0 .few, prepare-few (a .old) (placed .1 .0) (a .place .tail), record-count (placed .0) (a .name .now) (a .content .now)),
     )
@@ -63,14 +61,11 @@ same-length c = search needs
 
 returns-2 : tie.Need-returns-2
 returns-2 c =
-    let c6 = c .before .before .before .before .before .before in
-    let c10 = c6 .before .before .before .before in
-    let c13 = c10 .before .before .before in
-    let c15 = c13 .before .before in
-    let c16 = c15 .before in
+    let c6 = c .before .before .before .before .before .before in let c10 = c6 .before .before .before .before in
+    let c13 = c10 .before .before .before in let c15 = c13 .before .before in let c16 = c15 .before in
     let a = c16 .before .before .before .before .args in
     put-phases (a .place) (entry-of (a .old)) (a .name .now) (a .content .now) _ _ _
-        (rw (c16 .size .ensures) at (sym (c15 .after .ensures) ∙ c13 .at .given .1))
+    (rw (c16 .size .ensures) at (sym (c15 .after .ensures) ∙ c13 .at .given .1))
     (c10 .prepare .ensures) (c6 .write-record .ensures) (c .before .before .delete .ensures)
 
 pub write-file-spec : {M : Type 1} → statement M

@@ -27,10 +27,9 @@ same-length c = search needs
 
 returns : tie.Need-returns
 returns c =
-    let c4 = c .before .before .before .before in
-    let c7 = c4 .before .before .before in
+    let c4 = c .before .before .before .before in let c7 = c4 .before .before .before in
     mounted-given (c7 .mount .result) _ _ _ _ _ _ _ (c .answer .ensures) (c4 .head .ensures) (c .before .before .before .tail .ensures)
-        (c .before .before .files .ensures) (c .before .steps .ensures) (c7 .mount .ensures)
+    (c .before .before .files .ensures) (c .before .steps .ensures) (c7 .mount .ensures)
 
 pub lilota-mount-spec : {M : Type 1} → statement M
 lilota-mount-spec =

@@ -29,16 +29,20 @@ enum-known-x-2 c = search needs
 returns : tie.Need-returns
 returns c =
     let g = c .before .before .before .before .before .before .before .args in
-    let s = g .image .now in
-    (c .get-of .ensures .0 ∙ ap (λ (a : Answer Reading). carry-out s 0 (onward a (file-of (g .name .now) getting)))
-        (sym (ap (answered s) (c .before .before .x .given .1)) ∙ c .before .before .before .before .read-settled .ensures .0), c .get-of .ensures .1)
+    let s = g .image .now in (
+      c .get-of .ensures .0 ∙ ap (λ (a : Answer Reading). carry-out s 0 (onward a (file-of (g .name .now) getting)))
+          (sym (ap (answered s) (c .before .before .x .given .1)) ∙ c .before .before .before .before .read-settled .ensures .0),
+      c .get-of .ensures .1,
+    )
 
 returns-2 : tie.Need-returns-2
 returns-2 c =
     let g = c .before .before .before .before .before .before .args in
-    let s = g .image .now in
-    (read-refused s 0 _ (file-of (g .name .now) getting)
-        (sym (ap (answered s) (c .before .x2 .given .1)) ∙ c .before .before .before .read-settled .ensures .0), omega arith)
+    let s = g .image .now in (
+      read-refused s 0 _ (file-of (g .name .now) getting)
+          (sym (ap (answered s) (c .before .x2 .given .1)) ∙ c .before .before .before .read-settled .ensures .0),
+      omega arith,
+    )
 
 pub get-in-spec : {M : Type 1} → statement M
 get-in-spec =

@@ -23,52 +23,46 @@ enum-told c = search needs
 
 returns : tie.Need-returns
 returns c =
-    let c2 = c .before .before in
-    let c7 = c2 .before .before .before .before .before in
+    let c2 = c .before .before in let c7 = c2 .before .before .before .before .before in
     let a = c7 .args in
     let s = a .image .now in
     let q = named-file s (a .s) (c7 .pre .1) (c2 .file-named .result) (a .name .now)
-        (rw (c2 .before .first-cursor .ensures) at (c2 .file-named .ensures .0)) in
+    (rw (c2 .before .first-cursor .ensures) at (c2 .file-named .ensures .0)) in
     (found-none s _ getting (sym (ap (found-in s) (c .enum-told .given .1)) ∙ q), omega arith)
 
 add-up-8 : tie.Need-add-up-8
 add-up-8 c =
-    let c4 = c .before .before .before .before in
-    let c9 = c4 .before .before .before .before .before in
+    let c4 = c .before .before .before .before in let c9 = c4 .before .before .before .before .before in
     let w = rw (c .before .before .f .given .1) at (c4 .file-named .ensures .1) in omega (arith, w .fits, c9 .pre .0 .place .small)
 
 up-8-requires : tie.Need-up-8-requires
 up-8-requires c κs =
-    let c4 = c .before .before .before .before in
-    let c9 = c4 .before .before .before .before .before in
+    let c4 = c .before .before .before .before in let c9 = c4 .before .before .before .before .before in
     let w = rw (c .before .before .f .given .1) at (c4 .file-named .ensures .1) in omega (arith, w .fits, c9 .pre .0 .place .small)
 
 add-t10 : tie.Need-add-t10
 add-t10 c =
-    let c5 = c .before .before .before .before .before in
-    let c10 = c5 .before .before .before .before .before in
+    let c5 = c .before .before .before .before .before in let c10 = c5 .before .before .before .before .before in
     let w = rw (c .before .before .before .f .given .1) at (c5 .file-named .ensures .1) in
     omega (arith, w .fits, c .up-8 .ensures, c10 .pre .0 .place .small)
 
 add-t11 : tie.Need-add-t11
 add-t11 c =
-    let c4 = c .before .before .before .before in
-    let c6 = c4 .before .before in
-    let c11 = c6 .before .before .before .before .before in
+    let c4 = c .before .before .before .before in let c6 = c4 .before .before in let c11 = c6 .before .before .before .before .before in
     let w = rw (c4 .f .given .1) at (c6 .file-named .ensures .1) in omega (arith, w .fits, c .before .up-8 .ensures, c11 .pre .0 .place .small)
 
 returns-2 : tie.Need-returns-2
 returns-2 c =
-    let c4 = c .before .before .before .before in
-    let c6 = c4 .before .before in
-    let c7 = c6 .before in
+    let c4 = c .before .before .before .before in let c6 = c4 .before .before in let c7 = c6 .before in
     let c11 = c7 .before .before .before .before in
     let a = c11 .args in
     let s = a .image .now in
     let q = named-file s (a .s) (c11 .pre .1) (c6 .file-named .result) (a .name .now) (rw (c7 .first-cursor .ensures) at (c6 .file-named .ensures .0)) in
-    let w = rw (c4 .f .given .1) at (c6 .file-named .ensures .1) in
-    (found-get s _ (c4 .f .given .0 .0) w (sym (ap (found-in s) (c4 .f .given .1)) ∙ q) _ (rw (c .before .up-8 .ensures)), omega
-        (arith, w .fits, c .before .up-8 .ensures))
+    let w = rw (c4 .f .given .1) at (c6 .file-named .ensures .1) in (
+      found-get s _ (c4 .f .given .0 .0) w (sym (ap (found-in s) (c4 .f .given .1)) ∙ q) _ (rw (c .before .up-8 .ensures)),
+      omega
+          (arith, w .fits, c .before .up-8 .ensures),
+    )
 
 pub get-of-spec : {M : Type 1} → statement M
 get-of-spec =

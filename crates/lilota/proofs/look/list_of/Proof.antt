@@ -23,30 +23,25 @@ enum-told c = search needs
 
 returns : tie.Need-returns
 returns c =
-    let c2 = c .before .before in
-    let c6 = c2 .before .before .before .before in
+    let c2 = c .before .before in let c6 = c2 .before .before .before .before in
     let a = c6 .args in
     let s = a .image .now in
     let q = indexed-file s (a .s) (c6 .pre .1) (c2 .file-indexed .result) (a .index)
-        (rw (c2 .before .first-cursor .ensures) at (c2 .file-indexed .ensures .0)) in
+    (rw (c2 .before .first-cursor .ensures) at (c2 .file-indexed .ensures .0)) in
     (found-none s _ listing (sym (ap (found-in s) (c .enum-told .given .1)) ∙ q), omega arith)
 
 add-t8 : tie.Need-add-t8
 add-t8 c =
-    let c4 = c .before .before .before .before in
-    let c8 = c4 .before .before .before .before in
+    let c4 = c .before .before .before .before in let c8 = c4 .before .before .before .before in
     let w = rw (c .before .before .f .given .1) at (c4 .file-indexed .ensures .1) in omega (arith, w .fits, c8 .pre .0 .place .small)
 
 returns-2 : tie.Need-returns-2
 returns-2 c =
-    let c2 = c .before .before in
-    let c4 = c2 .before .before in
-    let c5 = c4 .before in
-    let c8 = c5 .before .before .before in
+    let c2 = c .before .before in let c4 = c2 .before .before in let c5 = c4 .before in let c8 = c5 .before .before .before in
     let a = c8 .args in
     let s = a .image .now in
     let q = indexed-file s (a .s) (c8 .pre .1) (c4 .file-indexed .result) (a .index)
-        (rw (c5 .first-cursor .ensures) at (c4 .file-indexed .ensures .0)) in
+    (rw (c5 .first-cursor .ensures) at (c4 .file-indexed .ensures .0)) in
     let w = rw (c2 .f .given .1) at (c4 .file-indexed .ensures .1) in
     (found-listed s _ (c2 .f .given .0 .0) w (sym (ap (found-in s) (c2 .f .given .1)) ∙ q), omega (arith, w .fits))
 

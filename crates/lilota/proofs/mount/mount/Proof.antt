@@ -17,8 +17,7 @@ same-length c = search needs
 
 returns : tie.Need-returns
 returns c =
-    let c4 = c .before .before .before .before in
-    let c5 = c4 .before in
+    let c4 = c .before .before .before .before in let c5 = c4 .before in
     let a = c5 .before .before .args in
     let whole = flag (c5 .good-length .ensures) (c4 .if1 .taken) in
     c .before .before .mount-read .ensures ∙ mount-on (a .image .now) (a .allowance) whole

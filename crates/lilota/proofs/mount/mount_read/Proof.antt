@@ -23,7 +23,7 @@ mount-from-requires c κs =
     let x = c .before .before .x .given in
     let r = c .before .before .before .before .read .ensures in
     legal-of (a .image .now) (x .0 .0) (c .before .before .before .before .before .before .before .pre)
-        (sym (ap (answered (a .image .now)) (x .1)) ∙ r .0)
+    (sym (ap (answered (a .image .now)) (x .1)) ∙ r .0)
 
 enum-known-x-2 : tie.Need-enum-known-x-2
 enum-known-x-2 c = search needs

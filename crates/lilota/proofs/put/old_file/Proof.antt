@@ -18,14 +18,15 @@ enum-told : tie.Need-enum-told
 enum-told c = search needs
 
 returns : tie.Need-returns
-returns c =
-    (ap old-of (sym (ap (found-in (c .before .before .before .before .before .args .image .now)) (c .enum-told .given .1))
-        ∙ c .before .before .file-named .ensures .0), tt)
+returns c = (
+  ap old-of (sym (ap (found-in (c .before .before .before .before .before .args .image .now)) (c .enum-told .given .1))
+      ∙ c .before .before .file-named .ensures .0),
+  tt,
+)
 
 add-a : tie.Need-add-a
 add-a c =
-    let c4 = c .before .before .before .before in
-    let c7 = c4 .before .before .before in
+    let c4 = c .before .before .before .before in let c7 = c4 .before .before .before in
     let w = rw (c .before .before .f .given .1) at (c4 .file-named .ensures .1) in
     omega (arith, w .fits, c7 .pre .small)
 

@@ -22,10 +22,7 @@ same-length c = search needs
 
 returns : tie.Need-returns
 returns c =
-    let c4 = c .before .before .before .before in
-    let c5 = c4 .before in
-    let c6 = c5 .before in
-    let c7 = c6 .before in
+    let c4 = c .before .before .before .before in let c5 = c4 .before in let c6 = c5 .before in let c7 = c6 .before in
     let a = c7 .before .before .before .before .args in
     let whole = flag (c7 .good-length .ensures) (c6 .if1 .taken) in
     let named = flag (c5 .name-ok .ensures) (c4 .if2 .taken) in

@@ -25,12 +25,11 @@ same-length c = search needs
 
 returns : tie.Need-returns
 returns c =
-    let c5 = c .before .before .before .before .before in
-    let c6 = c5 .before in
+    let c5 = c .before .before .before .before .before in let c6 = c5 .before in
     let a = c6 .before .before .before .before .before .args in
     let roomy = sym (flag (c6 .has-room .ensures) (c5 .if1 .taken)) in
     rw (c .ended .ensures) (carried (a .allowance) refl refl (c .before .before .before .replace .ensures)
-        ∙ put-room (a .image .now) (a .allowance) (a .name .now) (a .content .now) (reading-of (a .image .now) (a .s)) true roomy)
+    ∙ put-room (a .image .now) (a .allowance) (a .name .now) (a .content .now) (reading-of (a .image .now) (a .s)) true roomy)
 
 same-length-2 : tie.Need-same-length-2
 same-length-2 c = search needs
@@ -40,7 +39,7 @@ returns-2 c =
     let a = c .before .before .before .before .before .before .args in
     let full = sym (flag (c .before .has-room .ensures) (c .if1 .left)) in
     refused (a .image .now) (a .allowance) 28
-        ∙ put-room (a .image .now) (a .allowance) (a .name .now) (a .content .now) (reading-of (a .image .now) (a .s)) false full
+    ∙ put-room (a .image .now) (a .allowance) (a .name .now) (a .content .now) (reading-of (a .image .now) (a .s)) false full
 
 pub put-into-spec : {M : Type 1} → statement M
 put-into-spec =

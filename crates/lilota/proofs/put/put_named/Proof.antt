@@ -24,9 +24,11 @@ put-into-requires c κs =
     let c9 = c .before .before .before .before .before .before .before .before .before in
     let a = c9 .args in
     let x = c .before .before .x .given in
-    let r = c .before .before .before .before .read-settled .ensures in
-    (settled-of (a .image .now) (x .0 .0) (c9 .pre .0) (sym (ap (answered (a .image .now)) (x .1)) ∙ r .0) (rw (x .1) at (r .1))
-        (rw (x .1) at (r .2)), name-short (a .name .now) (c9 .pre .1))
+    let r = c .before .before .before .before .read-settled .ensures in (
+      settled-of (a .image .now) (x .0 .0) (c9 .pre .0) (sym (ap (answered (a .image .now)) (x .1)) ∙ r .0) (rw (x .1) at (r .1))
+          (rw (x .1) at (r .2)),
+      name-short (a .name .now) (c9 .pre .1),
+    )
 
 enum-known-x-2 : tie.Need-enum-known-x-2
 enum-known-x-2 c = search needs
@@ -41,7 +43,7 @@ returns c =
     let x = c .before .before .before .before .before .x .given in
     let told = sym (ap (answered (a .image .now)) (x .1)) ∙ c7 .read-settled .ensures .0 in
     c .before .before .put-into .ensures
-        ∙ read-on (a .image .now) (a .allowance) (reading-of (a .image .now) (x .0 .0)) (put-into (a .name .now) (a .content .now)) told
+    ∙ read-on (a .image .now) (a .allowance) (reading-of (a .image .now) (x .0 .0)) (put-into (a .name .now) (a .content .now)) told
 
 same-length-2 : tie.Need-same-length-2
 same-length-2 c = search needs

@@ -14,22 +14,21 @@ old-file-requires c κs = rw (c .first-cursor .ensures) (c .before .before .befo
 write-file-requires : tie.Need-write-file-requires
 write-file-requires c κs =
     let a = c .before .before .before .before .before .before .before .before .args in
-    let p = c .before .before .before .before .before .before .before .before .pre in
-    (ready (a .image .now) (a .s) (length (a .name .now)) (length (a .content .now)) (a .m .asked) (p .0) (p .1) (p .2) (p .3),
-        c .before .old-file .ensures .1)
+    let p = c .before .before .before .before .before .before .before .before .pre in (
+      ready (a .image .now) (a .s) (length (a .name .now)) (length (a .content .now)) (a .m .asked) (p .0) (p .1) (p .2) (p .3),
+      c .before .old-file .ensures .1,
+    )
 
 same-length : tie.Need-same-length
 same-length c = search needs
 
 returns : tie.Need-returns
 returns c =
-    let c4 = c .before .before .before .before in
-    let c5 = c4 .before in
-    let c11 = c5 .before .before .before .before .before .before in
+    let c4 = c .before .before .before .before in let c5 = c4 .before in let c11 = c5 .before .before .before .before .before .before in
     let a = c11 .args in
     let old = rw (c5 .first-cursor .ensures) at (c4 .old-file .ensures .0) in
     rw (old-named (a .image .now) (a .s) (a .s .place) (c4 .old-file .result) (a .name .now) (a .content .now) (c11 .pre .0) old) at
-        (c .before .before .write-file .ensures)
+    (c .before .before .write-file .ensures)
 
 pub replace-spec : {M : Type 1} → statement M
 replace-spec =

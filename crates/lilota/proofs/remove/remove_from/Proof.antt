@@ -27,13 +27,12 @@ same-length c = search needs
 
 returns : tie.Need-returns
 returns c =
-    let c2 = c .before .before in
-    let c8 = c2 .before .before .before .before .before .before in
+    let c2 = c .before .before in let c8 = c2 .before .before .before .before .before .before in
     let a = c8 .args in
     let q = rw (c2 .before .first-cursor .ensures) at (c2 .file-named .ensures .0) in
     refused (a .image .now) (a .allowance) 2
-        ∙ found-file (a .image .now) (a .allowance) (a .s) (a .name .now) (c8 .pre) (c2 .file-named .result) q none
-        (ap (found-in (a .image .now)) (c .enum-told .given .1))
+    ∙ found-file (a .image .now) (a .allowance) (a .s) (a .name .now) (c8 .pre) (c2 .file-named .result) q none
+    (ap (found-in (a .image .now)) (c .enum-told .given .1))
 
 set-status-requires : tie.Need-set-status-requires
 set-status-requires c κs =
@@ -48,15 +47,14 @@ same-length-2 c = search needs
 
 returns-2 : tie.Need-returns-2
 returns-2 c =
-    let c8 = c .before .before .before .before .before .before .before .before in
-    let c9 = c8 .before in
+    let c8 = c .before .before .before .before .before .before .before .before in let c9 = c8 .before in
     let c14 = c9 .before .before .before .before .before in
     let a = c14 .args in
     let f = c .before .before .before .before .before .before .f .given in
     let q = rw (c9 .first-cursor .ensures) at (c8 .file-named .ensures .0) in
     rw (c .ended .ensures) (carried (a .allowance) refl refl (c .before .before .before .set-status .ensures)
-        ∙ found-file (a .image .now) (a .allowance) (a .s) (a .name .now) (c14 .pre) (c8 .file-named .result) q
-        (some (entry-of (a .image .now) (f .0 .0))) (ap (found-in (a .image .now)) (f .1)))
+    ∙ found-file (a .image .now) (a .allowance) (a .s) (a .name .now) (c14 .pre) (c8 .file-named .result) q
+    (some (entry-of (a .image .now) (f .0 .0))) (ap (found-in (a .image .now)) (f .1)))
 
 pub remove-from-spec : {M : Type 1} → statement M
 remove-from-spec =

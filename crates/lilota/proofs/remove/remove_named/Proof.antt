@@ -39,7 +39,7 @@ returns c =
     let x = c .before .before .before .before .before .x .given in
     let told = sym (ap (answered (a .image .now)) (x .1)) ∙ c7 .read-settled .ensures .0 in
     c .before .before .remove-from .ensures
-        ∙ read-on (a .image .now) (a .allowance) (reading-of (a .image .now) (x .0 .0)) (file-of (a .name .now) removing) told
+    ∙ read-on (a .image .now) (a .allowance) (reading-of (a .image .now) (x .0 .0)) (file-of (a .name .now) removing) told
 
 same-length-2 : tie.Need-same-length-2
 same-length-2 c = search needs

@@ -18,8 +18,8 @@ returns : tie.Need-returns
 returns c =
     let a = c .before .before .before .before .before .before .args in
     refused (a .image .now) (a .allowance) 28
-        ∙ sweep-room (a .image .now) (a .allowance) (a .s) true (c .before .before .before .before .before .before .pre)
-        (sym (flag (c .before .no-room .ensures) (c .if1 .taken)))
+    ∙ sweep-room (a .image .now) (a .allowance) (a .s) true (c .before .before .before .before .before .before .pre)
+    (sym (flag (c .before .no-room .ensures) (c .if1 .taken)))
 
 sweep-requires : tie.Need-sweep-requires
 sweep-requires c κs = search needs
@@ -29,26 +29,22 @@ same-length-2 c = search needs
 
 returns-2 : tie.Need-returns-2
 returns-2 c =
-    let c5 = c .before .before .before .before .before in
-    let c7 = c5 .before .before in
-    let c8 = c7 .before in
+    let c5 = c .before .before .before .before .before in let c7 = c5 .before .before in let c8 = c7 .before in
     let c13 = c8 .before .before .before .before .before in
     let a = c13 .args in
     swept-done (a .allowance) refl refl (c5 .sweep .ensures) (c .if2 .taken)
-        ∙ sweep-room (a .image .now) (a .allowance) (a .s) false (c13 .pre) (sym (flag (c8 .no-room .ensures) (c7 .if1 .left)))
+    ∙ sweep-room (a .image .now) (a .allowance) (a .s) false (c13 .pre) (sym (flag (c8 .no-room .ensures) (c7 .if1 .left)))
 
 same-length-3 : tie.Need-same-length-3
 same-length-3 c = search needs
 
 returns-3 : tie.Need-returns-3
 returns-3 c =
-    let c5 = c .before .before .before .before .before in
-    let c7 = c5 .before .before in
-    let c8 = c7 .before in
+    let c5 = c .before .before .before .before .before in let c7 = c5 .before .before in let c8 = c7 .before in
     let c13 = c8 .before .before .before .before .before in
     let a = c13 .args in
     swept-cut (a .allowance) refl refl (c5 .sweep .ensures) (c .if2 .left)
-        ∙ sweep-room (a .image .now) (a .allowance) (a .s) false (c13 .pre) (sym (flag (c8 .no-room .ensures) (c7 .if1 .left)))
+    ∙ sweep-room (a .image .now) (a .allowance) (a .s) false (c13 .pre) (sym (flag (c8 .no-room .ensures) (c7 .if1 .left)))
 
 pub sweep-read-spec : {M : Type 1} → statement M
 sweep-read-spec =

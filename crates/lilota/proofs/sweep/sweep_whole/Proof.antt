@@ -19,12 +19,10 @@ enum-known-x c = search needs
 
 sweep-read-requires : tie.Need-sweep-read-requires
 sweep-read-requires c κs =
-    let c2 = c .before .before in
-    let c4 = c2 .before .before in
-    let c7 = c4 .before .before .before in
+    let c2 = c .before .before in let c4 = c2 .before .before in let c7 = c4 .before .before .before in
     readied (c7 .args .image .now) (c2 .x .given .0 .0) (c7 .pre)
-        (sym (ap (answered (c7 .args .image .now)) (c2 .x .given .1)) ∙ c4 .read-settled .ensures .0)
-        (rw (c2 .x .given .1) at (c4 .read-settled .ensures .1))
+    (sym (ap (answered (c7 .args .image .now)) (c2 .x .given .1)) ∙ c4 .read-settled .ensures .0)
+    (rw (c2 .x .given .1) at (c4 .read-settled .ensures .1))
 
 enum-known-x-2 : tie.Need-enum-known-x-2
 enum-known-x-2 c = search needs
@@ -34,13 +32,11 @@ same-length c = search needs
 
 returns : tie.Need-returns
 returns c =
-    let c5 = c .before .before .before .before .before in
-    let c7 = c5 .before .before in
-    let c10 = c7 .before .before .before in
+    let c5 = c .before .before .before .before .before in let c7 = c5 .before .before in let c10 = c7 .before .before .before in
     let a = c10 .args in
     c .before .before .sweep-read .ensures
-        ∙ read-on (a .image .now) (a .allowance) (reading-of (a .image .now) (c5 .x .given .0 .0)) (sweep-of (a .image .now))
-        (sym (ap (answered (c10 .args .image .now)) (c5 .x .given .1)) ∙ c7 .read-settled .ensures .0)
+    ∙ read-on (a .image .now) (a .allowance) (reading-of (a .image .now) (c5 .x .given .0 .0)) (sweep-of (a .image .now))
+    (sym (ap (answered (c10 .args .image .now)) (c5 .x .given .1)) ∙ c7 .read-settled .ensures .0)
 
 same-length-2 : tie.Need-same-length-2
 same-length-2 c = search needs
@@ -50,7 +46,7 @@ returns-2 c =
     let c6 = c .before .before .before .before .before .before in
     let a = c6 .args in
     read-refused (a .image .now) (a .allowance) (c .before .x2 .given .0 .0) (sweep-of (a .image .now))
-        (sym (ap (answered (c6 .args .image .now)) (c .before .x2 .given .1)) ∙ c .before .before .before .read-settled .ensures .0)
+    (sym (ap (answered (c6 .args .image .now)) (c .before .x2 .given .1)) ∙ c .before .before .before .read-settled .ensures .0)
 
 pub sweep-whole-spec : {M : Type 1} → statement M
 sweep-whole-spec =

@@ -21,12 +21,9 @@ settle-requires c κs = (rw (c .before .turn .ensures) (sound-turn _ _ (c .befor
 
 returns : tie.Need-returns
 returns c =
-    let c2 = c .before .before in
-    let c4 = c2 .before .before in
-    let c5 = c4 .before in
-    let c7 = c5 .before .before in
+    let c2 = c .before .before in let c4 = c2 .before .before in let c5 = c4 .before in let c7 = c5 .before .before in
     advanced-on _ _ (c5 .look .result) (c4 .goes-on .result) (c7 .pre) (c5 .look .ensures .0) (c4 .goes-on .ensures) (c2 .turn .result)
-        (c .before .look2 .result) (c .settle .result) (c2 .before .if1 .taken) (c2 .turn .ensures)
+    (c .before .look2 .result) (c .settle .result) (c2 .before .if1 .taken) (c2 .turn .ensures)
     (c .before .look2 .ensures .0) (c .settle .ensures) (c .before .look2 .ensures .1)
 
 settle-requires-2 : tie.Need-settle-requires-2
@@ -34,11 +31,9 @@ settle-requires-2 c κs = search needs
 
 returns-2 : tie.Need-returns-2
 returns-2 c =
-    let c2 = c .before .before in
-    let c3 = c2 .before in
-    let c5 = c3 .before .before in
+    let c2 = c .before .before in let c3 = c2 .before in let c5 = c3 .before .before in
     advanced-here _ _ (c3 .look .result) (c2 .goes-on .result) (c5 .pre) (c3 .look .ensures .0) (c2 .goes-on .ensures) (c .settle2 .result)
-        (c .before .if1 .left) (c .settle2 .ensures) (c3 .look .ensures .1)
+    (c .before .if1 .left) (c .settle2 .ensures) (c3 .look .ensures .1)
 
 pub advance-spec : {M : Type 1} → statement M
 advance-spec =

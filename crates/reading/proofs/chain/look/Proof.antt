@@ -32,8 +32,7 @@ returns c =
     let s = a .image .now in
     let k = a .c in
     let w = subst (λ (l : ℕ). Within (c .before .next-of .result) l) (sym (part-count s (k .at) (k .end) (p .ordered, p .inside)))
-        (c .before .next-of .ensures .1) in
-    (
+    (c .before .next-of .ensures .1) in (
       look-is s k (c .allowed .result) (c .before .next-of .result) (p .ordered) (c .before .next-of .ensures .0) (c .allowed .ensures),
       subst (λ (x : Next). Within x (k .end - k .at)) (sym (c .allowed .ensures))
           (allowed-keeps (λ (x : Next). Within x (k .end - k .at)) (k .held) (c .before .next-of .result) tt w),

@@ -28,7 +28,7 @@ returns : tie.Need-returns Inv-loop μ-loop
 returns c =
     let a = c .before .before .before .before .args in
     any-over (superseded (rest (a .image .now) (a .start) .entries)) (c .before .before .loop .inv) (c .before .advance .result)
-        (c .before .advance .ensures .0) (other-step (c .before .advance .result) (c .match .keys2))
+    (c .before .advance .ensures .0) (other-step (c .before .advance .result) (c .match .keys2))
 
 is-superseded-requires : tie.Need-is-superseded-requires Inv-loop μ-loop
 is-superseded-requires c κs =
@@ -37,9 +37,7 @@ is-superseded-requires c κs =
 
 returns-2 : tie.Need-returns-2 Inv-loop μ-loop
 returns-2 c =
-    let c3 = c .before .before .before in
-    let c5 = c3 .before .before in
-    let c6 = c5 .before in
+    let c3 = c .before .before .before in let c5 = c3 .before .before in let c6 = c5 .before in
     let a = c6 .before .before .args in
     let t = turned (c5 .advance .ensures) (c3 .s .given .1) in
     any-found (superseded (rest (a .image .now) (a .start) .entries)) (c6 .loop .inv) t (flag (c .before .is-superseded .ensures) (c .if1 .taken))
@@ -51,9 +49,7 @@ loop-less c =
 
 loop-again : tie.Need-loop-again Inv-loop μ-loop
 loop-again c =
-    let c3 = c .before .before .before in
-    let c5 = c3 .before .before in
-    let c6 = c5 .before in
+    let c3 = c .before .before .before in let c5 = c3 .before .before in let c6 = c5 .before in
     let a = c6 .before .before .args in
     let t = turned (c5 .advance .ensures) (c3 .s .given .1) in
     any-onward (superseded (rest (a .image .now) (a .start) .entries)) (c6 .loop .inv) t (flag (c .before .is-superseded .ensures) (c .if1 .left))

@@ -29,7 +29,7 @@ returns : tie.Need-returns Inv-loop μ-loop
 returns c =
     let a = c .before .before .before .before .args in
     count-over (live (rest (a .image .now) (a .start) .entries)) (c .before .before .loop .inv) (c .before .advance .result)
-        (c .before .advance .ensures .0) (other-step (c .before .advance .result) (c .match .keys2))
+    (c .before .advance .ensures .0) (other-step (c .before .advance .result) (c .match .keys2))
 
 is-live-requires : tie.Need-is-live-requires Inv-loop μ-loop
 is-live-requires c κs =
@@ -48,9 +48,7 @@ loop-less c =
 
 loop-again : tie.Need-loop-again Inv-loop μ-loop
 loop-again c =
-    let c3 = c .before .before .before in
-    let c5 = c3 .before .before in
-    let c6 = c5 .before in
+    let c3 = c .before .before .before in let c5 = c3 .before .before in let c6 = c5 .before in
     let a = c6 .before .before .args in
     let t = turned (c5 .advance .ensures) (c3 .s .given .1) in
     count-one (live (rest (a .image .now) (a .start) .entries)) (c6 .loop .inv) t (flag (c .before .is-live .ensures) (c .if1 .taken))
@@ -62,9 +60,7 @@ loop-less-2 c =
 
 loop-again-2 : tie.Need-loop-again-2 Inv-loop μ-loop
 loop-again-2 c =
-    let c3 = c .before .before .before in
-    let c5 = c3 .before .before in
-    let c6 = c5 .before in
+    let c3 = c .before .before .before in let c5 = c3 .before .before in let c6 = c5 .before in
     let a = c6 .before .before .args in
     let t = turned (c5 .advance .ensures) (c3 .s .given .1) in
     count-none (live (rest (a .image .now) (a .start) .entries)) (c6 .loop .inv) t (flag (c .before .is-live .ensures) (c .if1 .left))

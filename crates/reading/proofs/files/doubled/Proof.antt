@@ -26,7 +26,7 @@ returns : tie.Need-returns Inv-loop μ-loop
 returns c =
     let c4 = c .before .before .before .before in
     doubled-over (c4 .args .status .byte) (c .before .before .loop .inv) (c .before .advance .result) (c .before .advance .ensures .0)
-        (other-step (c .before .advance .result) (c .match .keys2))
+    (other-step (c .before .advance .result) (c .match .keys2))
 
 again-requires : tie.Need-again-requires Inv-loop μ-loop
 again-requires c κs =
@@ -35,10 +35,7 @@ again-requires c κs =
 
 returns-2 : tie.Need-returns-2 Inv-loop μ-loop
 returns-2 c =
-    let c3 = c .before .before .before in
-    let c5 = c3 .before .before in
-    let c6 = c5 .before in
-    let c8 = c6 .before .before in
+    let c3 = c .before .before .before in let c5 = c3 .before .before in let c6 = c5 .before in let c8 = c6 .before .before in
     let t = turned (c5 .advance .ensures) (c3 .s .given .1) in
     doubled-found (c8 .args .status .byte) (c6 .loop .inv) t (flag (c .before .again .ensures) (c .if1 .taken))
 
@@ -49,10 +46,7 @@ loop-less c =
 
 loop-again : tie.Need-loop-again Inv-loop μ-loop
 loop-again c =
-    let c3 = c .before .before .before in
-    let c5 = c3 .before .before in
-    let c6 = c5 .before in
-    let c8 = c6 .before .before in
+    let c3 = c .before .before .before in let c5 = c3 .before .before in let c6 = c5 .before in let c8 = c6 .before .before in
     let t = turned (c5 .advance .ensures) (c3 .s .given .1) in
     doubled-onward (c8 .args .status .byte) (c6 .loop .inv) t (flag (c .before .again .ensures) (c .if1 .left))
 

@@ -25,18 +25,18 @@ enum-known-s : tie.Need-enum-known-s Inv-loop μ-loop
 enum-known-s c = c .match .keys1
 
 returns : tie.Need-returns Inv-loop μ-loop
-returns c =
-    (nth-over is-file (c .before .before .loop .inv) (c .before .advance .result) (c .before .advance .ensures .0)
-        (other-step (c .before .advance .result) (c .match .keys2)), tt)
+returns c = (
+  nth-over is-file (c .before .before .loop .inv) (c .before .advance .result) (c .before .advance .ensures .0)
+      (other-step (c .before .advance .result) (c .match .keys2)),
+  tt,
+)
 
 is-file-requires : tie.Need-is-file-requires Inv-loop μ-loop
 is-file-requires c κs = turned (c .before .before .before .advance .ensures) (c .before .s .given .1) .whole
 
 returns-2 : tie.Need-returns-2 Inv-loop μ-loop
 returns-2 c =
-    let c4 = c .before .before .before .before in
-    let c6 = c4 .before .before in
-    let c7 = c6 .before in
+    let c4 = c .before .before .before .before in let c6 = c4 .before .before in let c7 = c6 .before in
     let t = turned (c6 .advance .ensures) (c4 .s .given .1) in
     (nth-found is-file (c7 .loop .inv) t (flag (c .before .before .is-file .ensures) (c .before .if1 .taken)) (c .if2 .taken), t .whole)
 
@@ -50,9 +50,7 @@ loop-less c =
 
 loop-again : tie.Need-loop-again Inv-loop μ-loop
 loop-again c =
-    let c4 = c .before .before .before .before in
-    let c6 = c4 .before .before in
-    let c7 = c6 .before in
+    let c4 = c .before .before .before .before in let c6 = c4 .before .before in let c7 = c6 .before in
     let t = turned (c6 .advance .ensures) (c4 .s .given .1) in
     nth-onward is-file (c7 .loop .inv) t (flag (c .before .before .is-file .ensures) (c .before .if1 .taken)) (c .if2 .left)
 
@@ -63,9 +61,7 @@ loop-less-2 c =
 
 loop-again-2 : tie.Need-loop-again-2 Inv-loop μ-loop
 loop-again-2 c =
-    let c3 = c .before .before .before in
-    let c5 = c3 .before .before in
-    let c6 = c5 .before in
+    let c3 = c .before .before .before in let c5 = c3 .before .before in let c6 = c5 .before in
     let t = turned (c5 .advance .ensures) (c3 .s .given .1) in
     nth-skip is-file (c6 .loop .inv) t (flag (c .before .is-file .ensures) (c .if1 .left))
 

@@ -26,9 +26,11 @@ enum-known-s c = c .match .keys1
 
 returns : tie.Need-returns Inv-loop μ-loop
 returns c =
-    let c5 = c .before .before .before .before .before in
-    (first-over (has-name (c5 .args .name .now)) is-file (c .before .before .loop .inv) (c .before .advance .result) (c .before .advance .ensures .0)
-        (other-step (c .before .advance .result) (c .match .keys2)), tt)
+    let c5 = c .before .before .before .before .before in (
+      first-over (has-name (c5 .args .name .now)) is-file (c .before .before .loop .inv) (c .before .advance .result) (c .before .advance .ensures .0)
+          (other-step (c .before .advance .result) (c .match .keys2)),
+      tt,
+    )
 
 is-file-requires : tie.Need-is-file-requires Inv-loop μ-loop
 is-file-requires c κs = turned (c .before .before .before .advance .ensures) (c .before .s .given .1) .whole
@@ -40,14 +42,13 @@ has-name-requires c κs =
 
 returns-2 : tie.Need-returns-2 Inv-loop μ-loop
 returns-2 c =
-    let c5 = c .before .before .before .before .before in
-    let c7 = c5 .before .before in
-    let c8 = c7 .before in
+    let c5 = c .before .before .before .before .before in let c7 = c5 .before .before in let c8 = c7 .before in
     let c11 = c8 .before .before .before in
-    let t = turned (c7 .advance .ensures) (c5 .s .given .1) in
-    (first-found (has-name (c11 .args .name .now)) is-file (c8 .loop .inv) t
-        (flag (c .before .before .before .is-file .ensures) (c .before .before .if1 .taken)) (flag (c .before .has-name .ensures) (c .if2 .taken)),
-        t .whole)
+    let t = turned (c7 .advance .ensures) (c5 .s .given .1) in (
+      first-found (has-name (c11 .args .name .now)) is-file (c8 .loop .inv) t
+          (flag (c .before .before .before .is-file .ensures) (c .before .before .if1 .taken)) (flag (c .before .has-name .ensures) (c .if2 .taken)),
+      t .whole,
+    )
 
 loop-less : tie.Need-loop-less Inv-loop μ-loop
 loop-less c =
@@ -56,13 +57,11 @@ loop-less c =
 
 loop-again : tie.Need-loop-again Inv-loop μ-loop
 loop-again c =
-    let c5 = c .before .before .before .before .before in
-    let c7 = c5 .before .before in
-    let c8 = c7 .before in
+    let c5 = c .before .before .before .before .before in let c7 = c5 .before .before in let c8 = c7 .before in
     let c11 = c8 .before .before .before in
     let t = turned (c7 .advance .ensures) (c5 .s .given .1) in
     first-other (has-name (c11 .args .name .now)) is-file (c8 .loop .inv) t
-        (flag (c .before .before .before .is-file .ensures) (c .before .before .if1 .taken)) (flag (c .before .has-name .ensures) (c .if2 .left))
+    (flag (c .before .before .before .is-file .ensures) (c .before .before .if1 .taken)) (flag (c .before .has-name .ensures) (c .if2 .left))
 
 loop-less-2 : tie.Need-loop-less-2 Inv-loop μ-loop
 loop-less-2 c =
@@ -71,10 +70,7 @@ loop-less-2 c =
 
 loop-again-2 : tie.Need-loop-again-2 Inv-loop μ-loop
 loop-again-2 c =
-    let c3 = c .before .before .before in
-    let c5 = c3 .before .before in
-    let c6 = c5 .before in
-    let c9 = c6 .before .before .before in
+    let c3 = c .before .before .before in let c5 = c3 .before .before in let c6 = c5 .before in let c9 = c6 .before .before .before in
     let t = turned (c5 .advance .ensures) (c3 .s .given .1) in
     first-skip (has-name (c9 .args .name .now)) is-file (c6 .loop .inv) t (flag (c .before .is-file .ensures) (c .if1 .left))
 

@@ -30,7 +30,7 @@ returns c =
     let a = c .before .before .before .before .args in
     let p = named-as (a .status .byte) (entry-of (a .image .now) (a .e)) in
     any-over p (c .before .before .loop .inv) (c .before .advance .result) (c .before .advance .ensures .0)
-        (other-step (c .before .advance .result) (c .match .keys2))
+    (other-step (c .before .advance .result) (c .match .keys2))
 
 named-as-requires : tie.Need-named-as-requires Inv-loop μ-loop
 named-as-requires c κs =
@@ -40,9 +40,7 @@ named-as-requires c κs =
 returns-2 : tie.Need-returns-2 Inv-loop μ-loop
 unfolding has-named
 returns-2 c =
-    let c3 = c .before .before .before in
-    let c5 = c3 .before .before in
-    let c6 = c5 .before in
+    let c3 = c .before .before .before in let c5 = c3 .before .before in let c6 = c5 .before in
     let a = c6 .before .before .args in
     let p = named-as (a .status .byte) (entry-of (a .image .now) (a .e)) in
     let t = turned (c5 .advance .ensures) (c3 .s .given .1) in
@@ -55,9 +53,7 @@ loop-less c =
 
 loop-again : tie.Need-loop-again Inv-loop μ-loop
 loop-again c =
-    let c3 = c .before .before .before in
-    let c5 = c3 .before .before in
-    let c6 = c5 .before in
+    let c3 = c .before .before .before in let c5 = c3 .before .before in let c6 = c5 .before in
     let a = c6 .before .before .args in
     let p = named-as (a .status .byte) (entry-of (a .image .now) (a .e)) in
     let t = turned (c5 .advance .ensures) (c3 .s .given .1) in

@@ -22,12 +22,12 @@ returns-2 : tie.Need-returns-2
 returns-2 c =
     let c3 = c .before .before .before in
     live-f8 _ _ _ (flag (c3 .before .named .ensures) (c3 .if1 .left)) (flag (c .before .before .named2 .ensures) (c .before .if2 .taken))
-        (sym (c .has-named .ensures))
+    (sym (c .has-named .ensures))
 
 returns-3 : tie.Need-returns-3
 returns-3 c =
     live-none _ _ (flag (c .before .before .before .named .ensures) (c .before .before .if1 .left))
-        (flag (c .before .named2 .ensures) (c .if2 .left))
+    (flag (c .before .named2 .ensures) (c .if2 .left))
 
 pub is-live-spec : {M : Type 1} → statement M
 is-live-spec =

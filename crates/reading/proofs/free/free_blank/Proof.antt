@@ -16,7 +16,7 @@ returns : tie.Need-returns
 returns c =
     let a = c .before .before .before .before .args in
     free-turned (a .image .now) (a .p) (c .before .before .floor .result) (c .before .before .floor .ensures .0) _ (c .before .if1 .taken)
-        (c .blank-part .ensures)
+    (c .blank-part .ensures)
 
 blank-part-requires-2 : tie.Need-blank-part-requires-2
 blank-part-requires-2 c κs = omega (arith, c .before .before .before .pre .head)
@@ -29,14 +29,14 @@ returns-2 c =
     let c4 = c .before .before .before .before in
     let a = c4 .before .before .args in
     free-both (a .image .now) (a .p) (c4 .floor .result) (c4 .floor .ensures .0) _ (c .before .before .before .if1 .left)
-        (flag (c .before .before .blank-part2 .ensures) (c .before .if2 .taken)) (c .blank-part3 .ensures)
+    (flag (c .before .before .blank-part2 .ensures) (c .before .if2 .taken)) (c .blank-part3 .ensures)
 
 returns-3 : tie.Need-returns-3
 returns-3 c =
     let c3 = c .before .before .before in
     let a = c3 .before .before .args in
     free-first (a .image .now) (a .p) (c3 .floor .result) (c3 .floor .ensures .0) (c .before .before .if1 .left)
-        (flag (c .before .blank-part2 .ensures) (c .if2 .left))
+    (flag (c .before .blank-part2 .ensures) (c .if2 .left))
 
 pub free-blank-spec : {M : Type 1} → statement M
 free-blank-spec =

@@ -20,9 +20,10 @@ magic-requires-2 c κs = search needs
 
 returns-2 : tie.Need-returns-2
 unfolding is-start is-high is-wrap head
-returns-2 c =
-    (rw (flag (c .before .before .before .magic .ensures) (c .before .before .if1 .left), flag (c .before .magic2 .ensures) (c .if2 .taken), head),
-        tt)
+returns-2 c = (
+  rw (flag (c .before .before .before .magic .ensures) (c .before .before .if1 .left), flag (c .before .magic2 .ensures) (c .if2 .taken), head),
+  tt,
+)
 
 walk-requires : tie.Need-walk-requires
 walk-requires c κs = search needs
@@ -36,9 +37,7 @@ chosen-requires c κs = search needs
 returns-3 : tie.Need-returns-3
 unfolding is-start is-high is-wrap head
 returns-3 c =
-    let c4 = c .before .before .before .before in
-    let c5 = c4 .before in
-    let c6 = c5 .before in
+    let c4 = c .before .before .before .before in let c5 = c4 .before in let c6 = c5 .before in
     let s = c6 .before .before .args .image .now in (
       c .chosen .ensures .0 ∙ ap (chosen s) (c .before .search .ensures .0 ∙ ap (sought s) (c .before .before .walk .ensures .0))
           ∙ rw (flag (c6 .magic .ensures) (c5 .if1 .left), flag (c4 .magic2 .ensures) (c .before .before .before .if2 .left), head),

@@ -33,9 +33,10 @@ returns : tie.Need-returns Inv-loop μ-loop
 returns c = (sought-hit _ _ _ (c .before .before .loop .inv) (flag (c .before .mark-here .ensures) (c .if1 .taken)), omega arith)
 
 returns-2 : tie.Need-returns-2 Inv-loop μ-loop
-returns-2 c =
-    (sought-end _ _ _ (c .before .before .before .loop .inv) (flag (c .before .before .mark-here .ensures) (c .before .if1 .left)) (c .if2 .taken),
-        omega arith)
+returns-2 c = (
+  sought-end _ _ _ (c .before .before .before .loop .inv) (flag (c .before .before .mark-here .ensures) (c .before .if1 .left)) (c .if2 .taken),
+  omega arith,
+)
 
 pub search-spec : {M : Type 1} → statement M
 search-spec =

@@ -18,11 +18,14 @@ byte-requires-3 c κs = search needs
 returns : tie.Need-returns
 unfolding is-erased is-record is-high-begun
 returns c =
-    let c4 = c .before .before .before .before in
-    let c6 = c4 .before .before in
-    rw (eq-eqb _ _ (flag (c6 .byte .ensures) (c4 .if1 .taken)), eq-eqb _ _
-        (flag (c .before .before .before .byte2 .ensures) (c .before .before .if2 .taken)), eq-eqb _ _
-        (flag (c .before .byte3 .ensures) (c .if3 .taken)))
+    let c4 = c .before .before .before .before in let c6 = c4 .before .before in
+    rw (
+      eq-eqb _ _ (flag (c6 .byte .ensures) (c4 .if1 .taken)),
+      eq-eqb _ _
+          (flag (c .before .before .before .byte2 .ensures) (c .before .before .if2 .taken)),
+      eq-eqb _ _
+          (flag (c .before .byte3 .ensures) (c .if3 .taken)),
+    )
 
 byte-requires-4 : tie.Need-byte-requires-4
 byte-requires-4 c κs = search needs
@@ -30,17 +33,23 @@ byte-requires-4 c κs = search needs
 returns-2 : tie.Need-returns-2
 unfolding is-erased is-record is-high-begun
 returns-2 c =
-    let c4 = c .before .before .before .before in
-    let c5 = c4 .before in
-    let c7 = c5 .before .before in
-    rw (eq-eqb _ _ (flag (c7 .byte .ensures) (c5 .if1 .taken)), eq-eqb _ _ (flag (c4 .byte2 .ensures) (c .before .before .before .if2 .taken)), ne-eqb
-        _ _ (unflag (c .before .before .byte3 .ensures) (c .before .if3 .left)), c .byte4 .ensures)
+    let c4 = c .before .before .before .before in let c5 = c4 .before in let c7 = c5 .before .before in
+    rw (
+      eq-eqb _ _ (flag (c7 .byte .ensures) (c5 .if1 .taken)),
+      eq-eqb _ _ (flag (c4 .byte2 .ensures) (c .before .before .before .if2 .taken)),
+      ne-eqb
+          _ _ (unflag (c .before .before .byte3 .ensures) (c .before .if3 .left)),
+      c .byte4 .ensures,
+    )
 
 returns-3 : tie.Need-returns-3
 unfolding is-erased is-record is-high-begun
 returns-3 c =
-    rw (eq-eqb _ _ (flag (c .before .before .before .before .byte .ensures) (c .before .before .if1 .taken)), ne-eqb _ _
-        (unflag (c .before .byte2 .ensures) (c .if2 .left)))
+    rw (
+      eq-eqb _ _ (flag (c .before .before .before .before .byte .ensures) (c .before .before .if1 .taken)),
+      ne-eqb _ _
+          (unflag (c .before .byte2 .ensures) (c .if2 .left)),
+    )
 
 returns-4 : tie.Need-returns-4
 unfolding is-erased is-record is-high-begun

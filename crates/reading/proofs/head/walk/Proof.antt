@@ -35,9 +35,11 @@ enum-known-x c = c .match .keys1
 returns-2 : tie.Need-returns-2 Inv-loop μ-loop
 returns-2 c =
     let c4 = c .before .before .before .before in
-    let x = c .before .walk-next .result in
-    (walked-stop _ _ (c4 .loop .inv) x (flag (c .before .before .before .torn-here .ensures) (c .before .before .if1 .left))
-        (c .before .walk-next .ensures .0) (other-next x (c .match .keys2)), omega arith)
+    let x = c .before .walk-next .result in (
+      walked-stop _ _ (c4 .loop .inv) x (flag (c .before .before .before .torn-here .ensures) (c .before .before .if1 .left))
+          (c .before .walk-next .ensures .0) (other-next x (c .match .keys2)),
+      omega arith,
+    )
 
 size-requires : tie.Need-size-requires Inv-loop μ-loop
 size-requires c κs = let w = rw (c .before .x .given .1) at (c .before .before .before .walk-next .ensures .1) in omega arith
@@ -50,15 +52,11 @@ loop-less c = let w = rw (c .before .before .x .given .1) at (c .before .before 
 
 loop-again : tie.Need-loop-again Inv-loop μ-loop
 loop-again c =
-    let c2 = c .before .before in
-    let c4 = c2 .before .before in
-    let c5 = c4 .before in
-    let c6 = c5 .before in
-    let c7 = c6 .before in
+    let c2 = c .before .before in let c4 = c2 .before .before in let c5 = c4 .before in let c6 = c5 .before in let c7 = c6 .before in
     let w = rw (c2 .x .given .1) at (c4 .walk-next .ensures .1) in
     rw (c .size .ensures)
     (walked-step _ _ (c7 .loop .inv) (c4 .walk-next .result) (flag (c6 .torn-here .ensures) (c5 .if1 .left)) (c4 .walk-next .ensures .0)
-        (c2 .x .given .0 .0) (c2 .x .given .0 .1 .0) (c2 .x .given .1) (omega arith))
+    (c2 .x .given .0 .0) (c2 .x .given .0 .1 .0) (c2 .x .given .1) (omega arith))
 
 pub walk-spec : {M : Type 1} → statement M
 walk-spec =

@@ -30,8 +30,7 @@ record-of-requires c κs = search needs
 
 returns : tie.Need-returns
 returns c =
-    let c4 = c .before .before .before .before in
-    let c5 = c4 .before in
+    let c4 = c .before .before .before .before in let c5 = c4 .before in
     let a = c5 .before .before .args in
     let s = a .image .now in
     let at = a .at in (

@@ -19,8 +19,11 @@ magic-requires c κs = search needs
 returns-2 : tie.Need-returns-2
 unfolding is-erased is-record is-high is-clean
 returns-2 c =
-    rw (ne-eqb _ _ (unflag (c .before .before .before .before .byte .ensures) (c .before .before .if1 .left)), flag (c .before .magic .ensures)
-        (c .if2 .taken))
+    rw (
+      ne-eqb _ _ (unflag (c .before .before .before .before .byte .ensures) (c .before .before .if1 .left)),
+      flag (c .before .magic .ensures)
+          (c .if2 .taken),
+    )
 
 magic-requires-2 : tie.Need-magic-requires-2
 magic-requires-2 c κs = search needs
@@ -28,17 +31,24 @@ magic-requires-2 c κs = search needs
 returns-3 : tie.Need-returns-3
 unfolding is-erased is-record is-high is-clean
 returns-3 c =
-    let c4 = c .before .before .before .before in
-    let c6 = c4 .before .before in
-    rw (ne-eqb _ _ (unflag (c6 .byte .ensures) (c4 .if1 .left)), flag (c .before .before .before .magic .ensures) (c .before .before .if2 .left),
-        eq-eqb _ _ (c .before .if3 .taken), c .magic2 .ensures)
+    let c4 = c .before .before .before .before in let c6 = c4 .before .before in
+    rw (
+      ne-eqb _ _ (unflag (c6 .byte .ensures) (c4 .if1 .left)),
+      flag (c .before .before .before .magic .ensures) (c .before .before .if2 .left),
+      eq-eqb _ _ (c .before .if3 .taken),
+      c .magic2 .ensures,
+    )
 
 returns-4 : tie.Need-returns-4
 unfolding is-erased is-record is-high is-clean
 returns-4 c =
     let c5 = c .before .before .before .before .before in
-    rw (ne-eqb _ _ (unflag (c5 .byte .ensures) (c .before .before .before .if1 .left)), flag (c .before .before .magic .ensures)
-        (c .before .if2 .left), ne-eqb _ _ (c .if3 .left))
+    rw (
+      ne-eqb _ _ (unflag (c5 .byte .ensures) (c .before .before .before .if1 .left)),
+      flag (c .before .before .magic .ensures)
+          (c .before .if2 .left),
+      ne-eqb _ _ (c .if3 .left),
+    )
 
 pub walked-here-spec : {M : Type 1} → statement M
 walked-here-spec =

@@ -22,17 +22,19 @@ enum-known-x-2 c = search needs
 
 returns : tie.Need-returns
 returns c =
-    let c2 = c .before .before in
-    let c4 = c2 .before .before in
-    let c6 = c4 .before .before in
-    (c .read-from .ensures .0
-        ∙ reading-by (c6 .args .image .now) (c2 .x .given .0 .0) (sym (ap headed (c2 .x .given .1)) ∙ c4 .head .ensures .0), c .read-from .ensures .1)
+    let c2 = c .before .before in let c4 = c2 .before .before in let c6 = c4 .before .before in (
+      c .read-from .ensures .0
+          ∙ reading-by (c6 .args .image .now) (c2 .x .given .0 .0) (sym (ap headed (c2 .x .given .1)) ∙ c4 .head .ensures .0),
+      c .read-from .ensures .1,
+    )
 
 returns-2 : tie.Need-returns-2
 returns-2 c =
-    let c5 = c .before .before .before .before .before in
-    (reading-refused (c5 .args .image .now) (c .before .x2 .given .0 .0)
-        (sym (ap headed (c .before .x2 .given .1)) ∙ c .before .before .before .head .ensures .0), tt)
+    let c5 = c .before .before .before .before .before in (
+      reading-refused (c5 .args .image .now) (c .before .x2 .given .0 .0)
+          (sym (ap headed (c .before .x2 .given .1)) ∙ c .before .before .before .head .ensures .0),
+      tt,
+    )
 
 pub read-spec : {M : Type 1} → statement M
 read-spec =

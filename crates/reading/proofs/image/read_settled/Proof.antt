@@ -21,7 +21,7 @@ returns : tie.Need-returns
 returns c =
     let s = c .before .before .before .before .args .image .now in
     rw (c .enum-told .given .1)
-        (settled-none s (c .enum-told .given .0 .0) (sym (ap (answered s) (c .enum-told .given .1)) ∙ c .before .before .read .ensures .0), tt, tt)
+    (settled-none s (c .enum-told .given .0 .0) (sym (ap (answered s) (c .enum-told .given .1)) ∙ c .before .before .read .ensures .0), tt, tt)
 
 first-cursor-requires : tie.Need-first-cursor-requires
 first-cursor-requires c κs = search needs
@@ -33,8 +33,7 @@ settled-requires c κs =
 
 returns-2 : tie.Need-returns-2
 returns-2 c =
-    let c5 = c .before .before .before .before .before in
-    let c7 = c5 .before .before in
+    let c5 = c .before .before .before .before .before in let c7 = c5 .before .before in
     let s = c7 .before .before .args .image .now in (
       settled-by s (reading-of s (c5 .x .given .0 .0)) true (sym (ap (answered s) (c5 .x .given .1)) ∙ c7 .read .ensures .0)
           (flag (c .before .settled .ensures) (c .if1 .taken)),
@@ -44,11 +43,13 @@ returns-2 c =
 
 returns-3 : tie.Need-returns-3
 returns-3 c =
-    let c5 = c .before .before .before .before .before in
-    let c7 = c5 .before .before in
-    let s = c7 .before .before .args .image .now in
-    (settled-by s (reading-of s (c5 .x .given .0 .0)) false (sym (ap (answered s) (c5 .x .given .1)) ∙ c7 .read .ensures .0)
-        (flag (c .before .settled .ensures) (c .if1 .left)), tt, tt)
+    let c5 = c .before .before .before .before .before in let c7 = c5 .before .before in
+    let s = c7 .before .before .args .image .now in (
+      settled-by s (reading-of s (c5 .x .given .0 .0)) false (sym (ap (answered s) (c5 .x .given .1)) ∙ c7 .read .ensures .0)
+          (flag (c .before .settled .ensures) (c .if1 .left)),
+      tt,
+      tt,
+    )
 
 pub read-settled-spec : {M : Type 1} → statement M
 read-settled-spec =

@@ -15,28 +15,30 @@ has-name-requires c κs = search needs
 returns : tie.Need-returns
 returns c =
     larger-replaced _ _ _ (flag (c .before .before .before .is-file .ensures) (c .before .before .if1 .taken))
-        (flag (c .before .has-name .ensures) (c .if2 .taken))
+    (flag (c .before .has-name .ensures) (c .if2 .taken))
 
 size-requires : tie.Need-size-requires
 size-requires c κs = search needs
 
 returns-2 : tie.Need-returns-2
 returns-2 c =
-    let c4 = c .before .before .before .before in
-    let c5 = c4 .before in
-    let c8 = c5 .before .before .before in
+    let c4 = c .before .before .before .before in let c5 = c4 .before in let c8 = c5 .before .before .before in
     let a = c8 .args in
-    omega (arith, larger-by (a .name .now) (a .image .now) (a .e) (a .most) (c .before .size .result) (c8 .pre .0) (c .before .size .ensures)
-        (flag (c5 .is-file .ensures) (c4 .if1 .taken)) (flag (c .before .before .before .has-name .ensures) (c .before .before .if2 .left)))
+    omega (
+      arith,
+      larger-by (a .name .now) (a .image .now) (a .e) (a .most) (c .before .size .result) (c8 .pre .0) (c .before .size .ensures)
+          (flag (c5 .is-file .ensures) (c4 .if1 .taken)) (flag (c .before .before .before .has-name .ensures) (c .before .before .if2 .left)),
+    )
 
 returns-3 : tie.Need-returns-3
 returns-3 c =
-    let c4 = c .before .before .before .before in
-    let c5 = c4 .before in
-    let c8 = c5 .before .before .before in
+    let c4 = c .before .before .before .before in let c5 = c4 .before in let c8 = c5 .before .before .before in
     let a = c8 .args in
-    omega (arith, larger-by (a .name .now) (a .image .now) (a .e) (a .most) (c .before .size .result) (c8 .pre .0) (c .before .size .ensures)
-        (flag (c5 .is-file .ensures) (c4 .if1 .taken)) (flag (c .before .before .before .has-name .ensures) (c .before .before .if2 .left)))
+    omega (
+      arith,
+      larger-by (a .name .now) (a .image .now) (a .e) (a .most) (c .before .size .result) (c8 .pre .0) (c .before .size .ensures)
+          (flag (c5 .is-file .ensures) (c4 .if1 .taken)) (flag (c .before .before .before .has-name .ensures) (c .before .before .if2 .left)),
+    )
 
 returns-4 : tie.Need-returns-4
 returns-4 c = larger-no-file _ _ _ (flag (c .before .is-file .ensures) (c .if1 .left))

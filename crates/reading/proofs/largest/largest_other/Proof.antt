@@ -24,7 +24,7 @@ enum-known-s c = c .match .keys1
 returns : tie.Need-returns Inv-loop μ-loop
 returns c =
     largest-over _ (c .before .before .loop .inv) (c .before .advance .result) (c .before .advance .ensures .0)
-        (other-step (c .before .advance .result) (c .match .keys2))
+    (other-step (c .before .advance .result) (c .match .keys2))
 
 larger-with-requires : tie.Need-larger-with-requires Inv-loop μ-loop
 larger-with-requires c κs =
@@ -34,16 +34,13 @@ larger-with-requires c κs =
 
 loop-less : tie.Need-loop-less Inv-loop μ-loop
 loop-less c =
-    let c2 = c .before .before in
-    let c4 = c2 .before .before in
+    let c2 = c .before .before in let c4 = c2 .before .before in
     let t = turned (c4 .advance .ensures) (c2 .s .given .1) in
     t .onward .less
 
 loop-again : tie.Need-loop-again Inv-loop μ-loop
 loop-again c =
-    let c2 = c .before .before in
-    let c4 = c2 .before .before in
-    let c5 = c4 .before in
+    let c2 = c .before .before in let c4 = c2 .before .before in let c5 = c4 .before in
     let t = turned (c4 .advance .ensures) (c2 .s .given .1) in
     largest-onward _ (c5 .loop .inv) t _ (c .larger-with .ensures)
 

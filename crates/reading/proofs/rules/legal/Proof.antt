@@ -29,39 +29,33 @@ free-ok-requires c κs = search needs
 
 returns : tie.Need-returns
 returns c =
-    let c2 = c .before .before in
-    let c4 = c2 .before .before in
-    let c6 = c4 .before .before in
-    let c7 = c6 .before in
+    let c2 = c .before .before in let c4 = c2 .before .before in let c6 = c4 .before .before in let c7 = c6 .before in
     let start = c7 .before .before .before .before .before in
     let p = start .pre in
     let a = start .args in
     legal-free (a .image .now) (reading-of (a .image .now) (a .s)) (flag (c7 .before .whole .ensures) (c7 .if1 .taken))
-        (c .before .head-clean .result) _ (flag (fine-is (p .0 .tallied)) (c6 .if2 .taken))
-        (flag (rw (p .1) at (c4 .before .single .ensures)) (c4 .if3 .taken))
-        (flag (rw (p .1) at (c2 .before .marks-ok .ensures)) (c2 .if4 .taken)) (rw (p .1) at (c .before .head-clean .ensures)) (c .free-ok .ensures)
+    (c .before .head-clean .result) _ (flag (fine-is (p .0 .tallied)) (c6 .if2 .taken))
+    (flag (rw (p .1) at (c4 .before .single .ensures)) (c4 .if3 .taken))
+    (flag (rw (p .1) at (c2 .before .marks-ok .ensures)) (c2 .if4 .taken)) (rw (p .1) at (c .before .head-clean .ensures)) (c .free-ok .ensures)
 
 returns-2 : tie.Need-returns-2
 returns-2 c =
-    let c2 = c .before .before in
-    let c4 = c2 .before .before in
-    let c5 = c4 .before in
+    let c2 = c .before .before in let c4 = c2 .before .before in let c5 = c4 .before in
     let start = c5 .before .before .before .before .before in
     let p = start .pre in
     let a = start .args in
     legal-marks (a .image .now) (reading-of (a .image .now) (a .s)) (flag (c5 .before .whole .ensures) (c5 .if1 .taken))
-        (flag (fine-is (p .0 .tallied)) (c4 .if2 .taken)) (flag (rw (p .1) at (c2 .before .single .ensures)) (c2 .if3 .taken))
-        (flag (rw (p .1) at (c .before .marks-ok .ensures)) (c .if4 .left))
+    (flag (fine-is (p .0 .tallied)) (c4 .if2 .taken)) (flag (rw (p .1) at (c2 .before .single .ensures)) (c2 .if3 .taken))
+    (flag (rw (p .1) at (c .before .marks-ok .ensures)) (c .if4 .left))
 
 returns-3 : tie.Need-returns-3
 returns-3 c =
-    let c2 = c .before .before in
-    let c3 = c2 .before in
+    let c2 = c .before .before in let c3 = c2 .before in
     let start = c3 .before .before .before .before .before in
     let p = start .pre in
     let a = start .args in
     legal-single (a .image .now) (reading-of (a .image .now) (a .s)) (flag (c3 .before .whole .ensures) (c3 .if1 .taken))
-        (flag (fine-is (p .0 .tallied)) (c2 .if2 .taken)) (flag (rw (p .1) at (c .before .single .ensures)) (c .if3 .left))
+    (flag (fine-is (p .0 .tallied)) (c2 .if2 .taken)) (flag (rw (p .1) at (c .before .single .ensures)) (c .if3 .left))
 
 returns-4 : tie.Need-returns-4
 returns-4 c =
@@ -69,7 +63,7 @@ returns-4 c =
     let start = c1 .before .before .before .before .before in
     let a = start .args in
     legal-names (a .image .now) (reading-of (a .image .now) (a .s)) (flag (c1 .before .whole .ensures) (c1 .if1 .taken))
-        (flag (fine-is (start .pre .0 .tallied)) (c .if2 .left))
+    (flag (fine-is (start .pre .0 .tallied)) (c .if2 .left))
 
 returns-5 : tie.Need-returns-5
 returns-5 c =

@@ -17,8 +17,7 @@ second-ok-requires c κs =
 
 returns-3 : tie.Need-returns-3
 returns-3 c =
-    let c4 = c .before .before .before .before in
-    let c7 = c4 .before .before .before in
+    let c4 = c .before .before .before .before in let c7 = c4 .before .before .before in
     c .second-ok .ensures ∙ marks-second (c7 .pre) (c4 .if1 .left) (c .before .before .before .if2 .left)
 
 pub marks-ok-spec : {M : Type 1} → statement M

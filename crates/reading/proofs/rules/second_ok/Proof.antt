@@ -19,7 +19,7 @@ is-live-requires c κs = search needs
 returns : tie.Need-returns
 returns c =
     second-live _ _ _ (flag (c .before .before .before .marked .ensures) (c .before .before .if1 .taken))
-        (flag (c .before .is-live .ensures) (c .if2 .taken))
+    (flag (c .before .is-live .ensures) (c .if2 .taken))
 
 low-of-requires : tie.Need-low-of-requires
 low-of-requires c κs = search needs
@@ -27,11 +27,10 @@ low-of-requires c κs = search needs
 returns-2 : tie.Need-returns-2
 unfolding is-clean
 returns-2 c =
-    let c4 = c .before .before .before .before in
-    let c5 = c4 .before in
+    let c4 = c .before .before .before .before in let c5 = c4 .before in
     second-clean _ _ _ (flag (c5 .marked .ensures) (c4 .if1 .taken))
-        (flag (c .before .before .before .is-live .ensures) (c .before .before .if2 .left))
-        (rw (← c .before .low-of .ensures) (eq-eqb _ _ (c .if3 .taken)))
+    (flag (c .before .before .before .is-live .ensures) (c .before .before .if2 .left))
+    (rw (← c .before .low-of .ensures) (eq-eqb _ _ (c .if3 .taken)))
 
 floor-requires : tie.Need-floor-requires
 floor-requires c κs = search needs
@@ -42,13 +41,10 @@ floor-requires-2 c κs = search needs
 returns-3 : tie.Need-returns-3
 unfolding is-clean
 returns-3 c =
-    let c4 = c .before .before .before .before in
-    let c5 = c4 .before in
-    let c6 = c5 .before in
-    let c7 = c6 .before in
+    let c4 = c .before .before .before .before in let c5 = c4 .before in let c6 = c5 .before in let c7 = c6 .before in
     ap₂ (λ (a b : ℕ). eqb a b) (c .before .floor .ensures .0) (c .floor2 .ensures .0)
     ∙ second-start _ _ _ (flag (c7 .marked .ensures) (c6 .if1 .taken)) (flag (c5 .is-live .ensures) (c4 .if2 .left))
-        (rw (← c .before .before .before .low-of .ensures) (ne-eqb _ _ (c .before .before .if3 .left)))
+    (rw (← c .before .before .before .low-of .ensures) (ne-eqb _ _ (c .before .before .if3 .left)))
 
 returns-4 : tie.Need-returns-4
 returns-4 c = second-plain _ _ _ (flag (c .before .marked .ensures) (c .if1 .left))

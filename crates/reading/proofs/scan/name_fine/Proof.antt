@@ -32,8 +32,7 @@ name-ok-requires c κs = tt
 returns : tie.Need-returns
 unfolding name-fine
 returns c =
-    let c4 = c .before .before .before .before in
-    let c5 = c4 .before in
+    let c4 = c .before .before .before .before in let c5 = c4 .before in
     let a = c5 .before .before .args in
     let e = a .e in
     rw (name-fine, flag (c5 .is-file .ensures) (c4 .if1 .taken)) (c .name-ok .ensures ∙ ap name-ok (name-part (a .image .now) (e .at) (e .n)))

@@ -28,11 +28,13 @@ enum-known-s c = c .match .keys1
 
 returns : tie.Need-returns Inv-loop μ-loop
 returns c =
-    let c2 = c .before .before in
-    let c5 = c2 .before .before .before in
-    (fold-end passed _ _ none-yet _ _ (c2 .loop .inv .fold) (c .before .advance .result) (c .before .advance .ensures .0)
-        (other-step (c .before .advance .result) (c .match .keys2)), c2 .loop .inv .spots, end-inside (c5 .args .image .now) (c2 .loop .c)
-        (c .before .advance .result) (c .before .advance .ensures .1))
+    let c2 = c .before .before in let c5 = c2 .before .before .before in (
+      fold-end passed _ _ none-yet _ _ (c2 .loop .inv .fold) (c .before .advance .result) (c .before .advance .ensures .0)
+          (other-step (c .before .advance .result) (c .match .keys2)),
+      c2 .loop .inv .spots,
+      end-inside (c5 .args .image .now) (c2 .loop .c)
+          (c .before .advance .result) (c .before .advance .ensures .1),
+    )
 
 noted-requires : tie.Need-noted-requires Inv-loop μ-loop
 noted-requires c κs =
@@ -45,8 +47,7 @@ loop-less c = turned (c .before .before .before .before .advance .ensures) (c .b
 
 loop-again : tie.Need-loop-again Inv-loop μ-loop
 loop-again c =
-    let c2 = c .before .before in
-    let c4 = c2 .before .before in
+    let c2 = c .before .before in let c4 = c2 .before .before in
     passing-step (c4 .before .loop .inv) (turned (c4 .advance .ensures) (c2 .s .given .1)) (c .noted .ensures)
 
 pub pass-spec : {M : Type 1} → statement M

@@ -20,15 +20,13 @@ returns-2 c = search (eq-eqb, ne-eqb, flag (c .before .before .before .is-high-b
 returns-3 : tie.Need-returns-3
 unfolding is-record is-wrap
 returns-3 c =
-    let c4 = c .before .before .before .before in
-    let c5 = c4 .before in
+    let c4 = c .before .before .before .before in let c5 = c4 .before in
     search (eq-eqb, ne-eqb, flag (c5 .is-high-begun .ensures) (c4 .if1 .taken))
 
 returns-4 : tie.Need-returns-4
 unfolding is-record is-wrap
 returns-4 c =
-    let c4 = c .before .before .before .before in
-    let c5 = c4 .before in
+    let c4 = c .before .before .before .before in let c5 = c4 .before in
     search (eq-eqb, ne-eqb, flag (c5 .is-high-begun .ensures) (c4 .if1 .taken))
 
 returns-5 : tie.Need-returns-5

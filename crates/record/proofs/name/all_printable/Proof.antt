@@ -34,15 +34,17 @@ loop-less c = search needs
 
 loop-again : tie.Need-loop-again Inv-loop μ-loop
 loop-again c =
-    let l = c .before .before .before .before .loop in
-    (omega arith, l .inv .1 ∙ all-next is-printable (c .before .before .before .before .before .before .args .name .now) (l .i) (omega arith)
-        (flag (c .before .is-printable .ensures) (c .if1 .taken)))
+    let l = c .before .before .before .before .loop in (
+      omega arith,
+      l .inv .1 ∙ all-next is-printable (c .before .before .before .before .before .before .args .name .now) (l .i) (omega arith)
+          (flag (c .before .is-printable .ensures) (c .if1 .taken)),
+    )
 
 returns : tie.Need-returns Inv-loop μ-loop
 returns c =
     let l = c .before .before .before .before .loop in
     sym (l .inv .1 ∙ all-stop is-printable (c .before .before .before .before .before .before .args .name .now) (l .i) (omega arith)
-        (flag (c .before .is-printable .ensures) (c .if1 .left)))
+    (flag (c .before .is-printable .ensures) (c .if1 .left)))
 
 returns-2 : tie.Need-returns-2 Inv-loop μ-loop
 returns-2 c = sym (c .before .loop .inv .1 ∙ all-over is-printable (c .before .before .before .args .name .now) (c .before .loop .i) (omega arith))

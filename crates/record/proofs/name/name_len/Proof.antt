@@ -34,8 +34,11 @@ returns-2 : tie.Need-returns-2 Inv-loop μ-loop
 returns-2 c =
     let i = c .before .before .before .before .before .loop .i in
     let a = c .before .before .before .before .before .before .before .args in
-    omega (arith, name-hit (64 - i) (64 - (i + 1)) (a .held) (a .part .now) i (omega arith) (omega arith)
-        (flag (c .before .ends .ensures) (c .if2 .taken)))
+    omega (
+      arith,
+      name-hit (64 - i) (64 - (i + 1)) (a .held) (a .part .now) i (omega arith) (omega arith)
+          (flag (c .before .ends .ensures) (c .if2 .taken)),
+    )
 
 add-i : tie.Need-add-i Inv-loop μ-loop
 add-i c = search needs
@@ -47,8 +50,11 @@ loop-again : tie.Need-loop-again Inv-loop μ-loop
 loop-again c =
     let i = c .before .before .before .before .before .loop .i in
     let a = c .before .before .before .before .before .before .before .args in
-    omega (arith, name-miss (64 - i) (64 - (i + 1)) (a .held) (a .part .now) i (omega arith) (omega arith)
-        (flag (c .before .ends .ensures) (c .if2 .left)))
+    omega (
+      arith,
+      name-miss (64 - i) (64 - (i + 1)) (a .held) (a .part .now) i (omega arith) (omega arith)
+          (flag (c .before .ends .ensures) (c .if2 .left)),
+    )
 
 returns-3 : tie.Need-returns-3 Inv-loop μ-loop
 returns-3 c =

@@ -21,12 +21,12 @@ last-is-slash-requires c κs = search needs
 returns-3 : tie.Need-returns-3
 returns-3 c =
     ok-slash (c .before .before .before .before .before .before .args .name .now) (omega arith) (omega arith)
-        (flag (c .before .before .all-printable .ensures) (c .before .if3 .taken)) (c .last-is-slash .result) (c .last-is-slash .ensures)
+    (flag (c .before .before .all-printable .ensures) (c .before .if3 .taken)) (c .last-is-slash .result) (c .last-is-slash .ensures)
 
 returns-4 : tie.Need-returns-4
 returns-4 c =
     ok-byte (c .before .before .before .before .before .args .name .now) (omega arith) (omega arith)
-        (flag (c .before .all-printable .ensures) (c .if3 .left))
+    (flag (c .before .all-printable .ensures) (c .if3 .left))
 
 pub name-ok-spec : {M : Type 1} → statement M
 name-ok-spec =

@@ -35,9 +35,14 @@ loop-less c = search needs
 
 loop-again : tie.Need-loop-again Inv-loop μ-loop
 loop-again c =
-    let inv = c .before .before .before .before .before .loop .inv in
-    (omega arith, omega arith, omega arith, omega arith, cleaning-more (inv .4) (omega arith) (omega arith)
-        (c .before .before .clean-pair .ensures .0))
+    let inv = c .before .before .before .before .before .loop .inv in (
+      omega arith,
+      omega arith,
+      omega arith,
+      omega arith,
+      cleaning-more (inv .4) (omega arith) (omega arith)
+          (c .before .before .clean-pair .ensures .0),
+    )
 
 same-length : tie.Need-same-length Inv-loop μ-loop
 same-length c = search needs

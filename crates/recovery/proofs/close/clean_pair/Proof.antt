@@ -31,17 +31,20 @@ same-length c = search needs
 
 returns : tie.Need-returns
 returns c =
-    let c4 = c .before .before .before .before in
-    let c5 = c4 .before in
-    let a = c5 .before .before .before .before .args in
-    (rw (marked (a .image .now) (a .at) (sym (mark-at (a .image .now) (a .at)) ∙ flag (c5 .is-mark .ensures) (c4 .if1 .taken)))
-        (c .before .before .program .ensures), omega arith)
+    let c4 = c .before .before .before .before in let c5 = c4 .before in
+    let a = c5 .before .before .before .before .args in (
+      rw (marked (a .image .now) (a .at) (sym (mark-at (a .image .now) (a .at)) ∙ flag (c5 .is-mark .ensures) (c4 .if1 .taken)))
+          (c .before .before .program .ensures),
+      omega arith,
+    )
 
 returns-2 : tie.Need-returns-2
 returns-2 c =
-    let a = c .before .before .before .before .before .args in
-    (rw (unmarked (a .image .now) (a .at) (sym (mark-at (a .image .now) (a .at)) ∙ flag (c .before .is-mark .ensures) (c .if1 .left)))
-        (did-none (a .image .now) (a .m)), omega arith)
+    let a = c .before .before .before .before .before .args in (
+      rw (unmarked (a .image .now) (a .at) (sym (mark-at (a .image .now) (a .at)) ∙ flag (c .before .is-mark .ensures) (c .if1 .left)))
+          (did-none (a .image .now) (a .m)),
+      omega arith,
+    )
 
 pub clean-pair-spec : {M : Type 1} → statement M
 clean-pair-spec =

@@ -28,12 +28,12 @@ same-length c = search needs
 
 returns : tie.Need-returns
 returns c =
-    let c6 = c .before .before .before .before .before .before in
-    let c7 = c6 .before in
-    let c12 = c7 .before .before .before .before .before in
-    let a = c12 .args in
-    (closed (a .image .now) (a .x) (a .y) (c12 .pre .0) (c7 .up-8 .result) (c7 .up-8 .ensures) (omega arith) (c6 .clean-data .ensures .0)
-        (c .before .before .vacate .ensures .0), omega arith)
+    let c6 = c .before .before .before .before .before .before in let c7 = c6 .before in let c12 = c7 .before .before .before .before .before in
+    let a = c12 .args in (
+      closed (a .image .now) (a .x) (a .y) (c12 .pre .0) (c7 .up-8 .result) (c7 .up-8 .ensures) (omega arith) (c6 .clean-data .ensures .0)
+          (c .before .before .vacate .ensures .0),
+      omega arith,
+    )
 
 pub close-spec : {M : Type 1} → statement M
 close-spec =

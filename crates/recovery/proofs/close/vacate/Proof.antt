@@ -26,11 +26,12 @@ same-length c = search needs
 
 returns : tie.Need-returns
 returns c =
-    let c7 = c .before .before .before .before .before .before .before in
-    let c9 = c7 .before .before in
-    let a = c9 .before .before .before .args in
-    (left-erased (a .x) (a .y) (length (a .image .now)) (c9 .before .floor .ensures .0) (c9 .vacated-end .ensures .0) (c7 .erase-sectors .ensures .0)
-        (c .before .before .before .program .ensures) (c .if1 .taken), omega arith)
+    let c7 = c .before .before .before .before .before .before .before in let c9 = c7 .before .before in
+    let a = c9 .before .before .before .args in (
+      left-erased (a .x) (a .y) (length (a .image .now)) (c9 .before .floor .ensures .0) (c9 .vacated-end .ensures .0) (c7 .erase-sectors .ensures .0)
+          (c .before .before .before .program .ensures) (c .if1 .taken),
+      omega arith,
+    )
 
 add-program : tie.Need-add-program
 add-program c = search needs
@@ -43,13 +44,13 @@ same-length-2 c = search needs
 
 returns-2 : tie.Need-returns-2
 returns-2 c =
-    let c4 = c .before .before .before .before in
-    let c7 = c4 .before .before .before in
-    let c11 = c7 .before .before .before .before in
+    let c4 = c .before .before .before .before in let c7 = c4 .before .before .before in let c11 = c7 .before .before .before .before in
     let c13 = c11 .before .before in
-    let a = c13 .before .before .before .args in
-    (left-there (a .x) (a .y) (length (a .image .now)) (c13 .before .floor .ensures .0) (c13 .vacated-end .ensures .0)
-        (c11 .erase-sectors .ensures .0) (c7 .program .ensures) (c4 .if1 .left) (c .before .before .program2 .ensures), omega arith)
+    let a = c13 .before .before .before .args in (
+      left-there (a .x) (a .y) (length (a .image .now)) (c13 .before .floor .ensures .0) (c13 .vacated-end .ensures .0)
+          (c11 .erase-sectors .ensures .0) (c7 .program .ensures) (c4 .if1 .left) (c .before .before .program2 .ensures),
+      omega arith,
+    )
 
 pub vacate-spec : {M : Type 1} → statement M
 vacate-spec =

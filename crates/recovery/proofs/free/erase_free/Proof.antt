@@ -34,24 +34,23 @@ same-length-2 c = search needs
 
 returns-2 : tie.Need-returns-2
 returns-2 c =
-    let c6 = c .before .before .before .before .before .before in
-    let c8 = c6 .before .before in
-    let c9 = c8 .before in
-    let c12 = c9 .before .before .before in
-    let c16 = c12 .before .before .before .before in
-    (head-cleaned (c16 .survey .ensures) (c12 .if1 .left) (sym (c9 .low-of .ensures) ∙ c8 .if2 .taken) (c6 .erase-run .ensures .0)
-        (c .before .before .program .ensures), omega arith)
+    let c6 = c .before .before .before .before .before .before in let c8 = c6 .before .before in let c9 = c8 .before in
+    let c12 = c9 .before .before .before in let c16 = c12 .before .before .before .before in (
+      head-cleaned (c16 .survey .ensures) (c12 .if1 .left) (sym (c9 .low-of .ensures) ∙ c8 .if2 .taken) (c6 .erase-run .ensures .0)
+          (c .before .before .program .ensures),
+      omega arith,
+    )
 
 same-length-3 : tie.Need-same-length-3
 same-length-3 c = search needs
 
 returns-3 : tie.Need-returns-3
 returns-3 c =
-    let c4 = c .before .before .before .before in
-    let c8 = c4 .before .before .before .before in
-    let a = c8 .before .before .before .args in
-    (rw (head-other (c8 .survey .ensures) (c4 .if1 .left) (λ q. c .if2 .left (c .before .low-of .ensures ∙ q))) (did-none (a .image .now) (a .m)),
-        omega arith)
+    let c4 = c .before .before .before .before in let c8 = c4 .before .before .before .before in
+    let a = c8 .before .before .before .args in (
+      rw (head-other (c8 .survey .ensures) (c4 .if1 .left) (λ q. c .if2 .left (c .before .low-of .ensures ∙ q))) (did-none (a .image .now) (a .m)),
+      omega arith,
+    )
 
 pub erase-free-spec : {M : Type 1} → statement M
 erase-free-spec =

@@ -33,13 +33,13 @@ same-length-2 c = search needs
 
 returns-2 : tie.Need-returns-2
 returns-2 c =
-    let c5 = c .before .before .before .before .before in
-    let c6 = c5 .before in
-    let c10 = c6 .before .before .before .before in
+    let c5 = c .before .before .before .before .before in let c6 = c5 .before in let c10 = c6 .before .before .before .before in
     let w = c10 .before .before .before .survey .ensures in
-    rw (c .at-head2 .ensures)
-        (handed-clean w (c10 .if1 .left) (sym (c6 .low-of .ensures) ∙ c5 .if2 .taken) (c .before .before .before .close .ensures .0), omega arith,
-        omega (arith, w .surveyed .tallied .spots .second .fits))
+    rw (c .at-head2 .ensures) (
+      handed-clean w (c10 .if1 .left) (sym (c6 .low-of .ensures) ∙ c5 .if2 .taken) (c .before .before .before .close .ensures .0),
+      omega arith,
+      omega (arith, w .surveyed .tallied .spots .second .fits),
+    )
 
 add-program : tie.Need-add-program
 add-program c = search needs
@@ -55,13 +55,13 @@ same-length-3 c = search needs
 
 returns-3 : tie.Need-returns-3
 returns-3 c =
-    let c6 = c .before .before .before .before .before .before in
-    let c8 = c6 .before .before in
-    let c12 = c8 .before .before .before .before in
+    let c6 = c .before .before .before .before .before .before in let c8 = c6 .before .before in let c12 = c8 .before .before .before .before in
     let w = c12 .before .before .before .survey .ensures in
-    rw (c .at-head3 .ensures)
-        (handed-start w (c12 .if1 .left) (sym (c8 .low-of .ensures) ∙ c6 .if3 .taken) (c .before .before .before .program .ensures), omega arith,
-        omega (arith, w .surveyed .tallied .spots .second .fits))
+    rw (c .at-head3 .ensures) (
+      handed-start w (c12 .if1 .left) (sym (c8 .low-of .ensures) ∙ c6 .if3 .taken) (c .before .before .before .program .ensures),
+      omega arith,
+      omega (arith, w .surveyed .tallied .spots .second .fits),
+    )
 
 at-head-requires-4 : tie.Need-at-head-requires-4
 at-head-requires-4 c κs = search needs
@@ -71,12 +71,14 @@ same-length-4 c = search needs
 
 returns-4 : tie.Need-returns-4
 returns-4 c =
-    let c3 = c .before .before .before in
-    let c7 = c3 .before .before .before .before in
+    let c3 = c .before .before .before in let c7 = c3 .before .before .before .before in
     let w = c7 .before .before .before .survey .ensures in
-    rw (c .at-head4 .ensures)
-        (handed-plain w (c7 .if1 .left) (λ q. c .before .before .if2 .left (c3 .low-of .ensures ∙ q))
-        (λ q. c .before .if3 .left (c3 .low-of .ensures ∙ q)), omega arith, omega arith)
+    rw (c .at-head4 .ensures) (
+      handed-plain w (c7 .if1 .left) (λ q. c .before .before .if2 .left (c3 .low-of .ensures ∙ q))
+          (λ q. c .before .if3 .left (c3 .low-of .ensures ∙ q)),
+      omega arith,
+      omega arith,
+    )
 
 pub hand-over-spec : {M : Type 1} → statement M
 hand-over-spec =

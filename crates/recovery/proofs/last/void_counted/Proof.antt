@@ -19,8 +19,7 @@ same-length c = search needs
 
 returns-2 : tie.Need-returns-2
 returns-2 c =
-    let c5 = c .before .before .before .before .before in
-    let c8 = c5 .before .before .before in
+    let c5 = c .before .before .before .before .before in let c8 = c5 .before .before .before in
     (rw (last-counted (c8 .pre .0) (c5 .if1 .left)) (c .before .before .void-record .ensures .0), omega arith)
 
 pub void-counted-spec : {M : Type 1} → statement M

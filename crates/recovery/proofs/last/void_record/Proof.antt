@@ -31,9 +31,11 @@ same-length-2 c = search needs
 
 returns-2 : tie.Need-returns-2
 returns-2 c =
-    let a = c .before .before .before .before .before .before .before .before .before .before .before .args in
-    (rw (void-reserved (a .image .now) (a .e) (c .before .before .before .before .if2 .taken)) (c .before .before .void-reserved .ensures .0), omega
-        arith)
+    let a = c .before .before .before .before .before .before .before .before .before .before .before .args in (
+      rw (void-reserved (a .image .now) (a .e) (c .before .before .before .before .if2 .taken)) (c .before .before .void-reserved .ensures .0),
+      omega
+          arith,
+    )
 
 returns-3 : tie.Need-returns-3
 returns-3 c =

@@ -26,8 +26,7 @@ same-length c = search needs
 
 returns : tie.Need-returns
 returns c =
-    let c7 = c .before .before .before .before .before .before .before in
-    let c12 = c7 .before .before .before .before .before in
+    let c7 = c .before .before .before .before .before .before .before in let c12 = c7 .before .before .before .before .before in
     let a = c12 .args in
     (rw (reserved-is (a .image .now) (a .e) (c12 .pre .0)) (did-both (c7 .end-name .ensures .0) (c .before .before .program .ensures)), omega arith)
 

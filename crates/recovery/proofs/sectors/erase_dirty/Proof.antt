@@ -46,19 +46,29 @@ loop-again c =
     let to = c5 .before .before .args .to in
     let a = c5 .loop .a in
     let inv = c5 .loop .inv in
-    let e = c .before .before .erase-if-dirty .ensures in
-    (omega arith, omega arith, omega arith, omega arith, e .2 (a + 4096) (omega arith)
-        ∙ later-on a (a + 4096) s (c5 .loop .image) (omega arith) (inv .4), e .2 to (omega arith)
-        ∙ inv .5, toward-more (inv .6) (dirty-more s (c5 .loop .image) a to (omega arith) (inv .4)) (e .0))
+    let e = c .before .before .erase-if-dirty .ensures in (
+      omega arith,
+      omega arith,
+      omega arith,
+      omega arith,
+      e .2 (a + 4096) (omega arith)
+          ∙ later-on a (a + 4096) s (c5 .loop .image) (omega arith) (inv .4),
+      e .2 to (omega arith)
+          ∙ inv .5,
+      toward-more (inv .6) (dirty-more s (c5 .loop .image) a to (omega arith) (inv .4)) (e .0),
+    )
 
 same-length : tie.Need-same-length Inv-loop μ-loop
 same-length c = search needs
 
 returns : tie.Need-returns Inv-loop μ-loop
 returns c =
-    let inv = c .before .loop .inv in
-    (toward-end (inv .6) (ap (λ l. map erase (keep (dirty (c .before .before .before .args .image .now)) l))
-        (sectors-none (c .before .loop .a) (c .before .before .before .args .to) (omega arith))), omega arith, inv .5)
+    let inv = c .before .loop .inv in (
+      toward-end (inv .6) (ap (λ l. map erase (keep (dirty (c .before .before .before .args .image .now)) l))
+          (sectors-none (c .before .loop .a) (c .before .before .before .args .to) (omega arith))),
+      omega arith,
+      inv .5,
+    )
 
 pub erase-dirty-spec : {M : Type 1} → statement M
 erase-dirty-spec =

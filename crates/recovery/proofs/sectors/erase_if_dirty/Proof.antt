@@ -27,9 +27,12 @@ same-length c = search needs
 
 returns : tie.Need-returns
 returns c =
-    let a = c .before .before .before .before .before .args in
-    (rw (erase-kept (a .image .now) (a .at) (dirty-is (a .image .now) (a .at) (c .before .is-blank .ensures) (c .if1 .taken)))
-        (did-none (a .image .now) (a .m)), omega arith, λ k h. refl)
+    let a = c .before .before .before .before .before .args in (
+      rw (erase-kept (a .image .now) (a .at) (dirty-is (a .image .now) (a .at) (c .before .is-blank .ensures) (c .if1 .taken)))
+          (did-none (a .image .now) (a .m)),
+      omega arith,
+      λ k h. refl,
+    )
 
 erase-requires : tie.Need-erase-requires
 erase-requires c κs = search needs
@@ -39,12 +42,13 @@ same-length-2 c = search needs
 
 returns-2 : tie.Need-returns-2
 returns-2 c =
-    let c2 = c .before .before in
-    let c4 = c2 .before .before in
-    let c5 = c4 .before in
-    let a = c5 .before .before .before .before .args in
-    (rw (erase-kept (a .image .now) (a .at) (dirty-is (a .image .now) (a .at) (c5 .is-blank .ensures) (c4 .if1 .left))) (c2 .erase .ensures), omega
-        arith, λ k h. erased-behind (a .at) k h (omega arith) (c2 .erase .ensures))
+    let c2 = c .before .before in let c4 = c2 .before .before in let c5 = c4 .before in
+    let a = c5 .before .before .before .before .args in (
+      rw (erase-kept (a .image .now) (a .at) (dirty-is (a .image .now) (a .at) (c5 .is-blank .ensures) (c4 .if1 .left))) (c2 .erase .ensures),
+      omega
+          arith,
+      λ k h. erased-behind (a .at) k h (omega arith) (c2 .erase .ensures),
+    )
 
 pub erase-if-dirty-spec : {M : Type 1} → statement M
 erase-if-dirty-spec =

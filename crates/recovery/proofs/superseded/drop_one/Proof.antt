@@ -22,20 +22,23 @@ same-length c = search needs
 
 returns : tie.Need-returns
 returns c =
-    let c5 = c .before .before .before .before .before in
-    let c6 = c5 .before in
-    let a = c6 .before .before .before .args in
-    (rw (drop-this (a .image .now) (rest (a .image .now) (a .start) .entries) (entry-of (a .image .now) (a .e))
-        (flag (c6 .is-superseded .ensures) (c5 .if1 .taken))) (c .before .before .program .ensures), omega arith)
+    let c5 = c .before .before .before .before .before in let c6 = c5 .before in
+    let a = c6 .before .before .before .args in (
+      rw (drop-this (a .image .now) (rest (a .image .now) (a .start) .entries) (entry-of (a .image .now) (a .e))
+          (flag (c6 .is-superseded .ensures) (c5 .if1 .taken))) (c .before .before .program .ensures),
+      omega arith,
+    )
 
 same-length-2 : tie.Need-same-length-2
 same-length-2 c = search needs
 
 returns-2 : tie.Need-returns-2
 returns-2 c =
-    let a = c .before .before .before .before .args in
-    (rw (drop-none (a .image .now) (rest (a .image .now) (a .start) .entries) (entry-of (a .image .now) (a .e))
-        (flag (c .before .is-superseded .ensures) (c .if1 .left))) (did-none (a .image .now) (a .m)), omega arith)
+    let a = c .before .before .before .before .args in (
+      rw (drop-none (a .image .now) (rest (a .image .now) (a .start) .entries) (entry-of (a .image .now) (a .e))
+          (flag (c .before .is-superseded .ensures) (c .if1 .left))) (did-none (a .image .now) (a .m)),
+      omega arith,
+    )
 
 pub drop-one-spec : {M : Type 1} → statement M
 drop-one-spec =

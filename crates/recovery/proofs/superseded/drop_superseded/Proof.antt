@@ -26,9 +26,12 @@ first-cursor-requires c κs = search needs
 
 loop-holds : tie.Need-loop-holds Inv-loop μ-loop
 loop-holds c =
-    let a = c .before .before .before .args in
-    (refl, rw (c .first-cursor .ensures) (first-sound (a .image .now) (a .h) (omega arith) (c .before .before .before .pre .1)), omega arith,
-        dropping-start (a .image .now) (c .first-cursor .result) (a .m))
+    let a = c .before .before .before .args in (
+      refl,
+      rw (c .first-cursor .ensures) (first-sound (a .image .now) (a .h) (omega arith) (c .before .before .before .pre .1)),
+      omega arith,
+      dropping-start (a .image .now) (c .first-cursor .result) (a .m),
+    )
 
 advance-requires : tie.Need-advance-requires Inv-loop μ-loop
 advance-requires c κs = c .before .loop .inv .1
@@ -44,44 +47,40 @@ returns c =
     let c4 = c .before .before .before .before in
     let a = c4 .before .before .before .args in
     rw (ap (λ k. rest (a .image .now) k .entries) (c4 .first-cursor .ensures) ∙ entries-of (a .image .now) (a .h) (omega arith)) at
-        (dropping-end (c .before .before .before .loop .inv .3) (c .before .advance .result) (c .before .advance .ensures .0)
-        (other-step (c .before .advance .result) (c .match .keys2)))
+    (dropping-end (c .before .before .before .loop .inv .3) (c .before .advance .result) (c .before .advance .ensures .0)
+    (other-step (c .before .advance .result) (c .match .keys2)))
 
 drop-one-requires : tie.Need-drop-one-requires Inv-loop μ-loop
 drop-one-requires c κs =
-    let c2 = c .before .before in
-    let c4 = c2 .before .before in
-    let c6 = c4 .before .before in
-    let c7 = c6 .before in
+    let c2 = c .before .before in let c4 = c2 .before .before in let c6 = c4 .before .before in let c7 = c6 .before in
     let c10 = c7 .before .before .before in
     let t = turned (c4 .advance .ensures) (c2 .s .given .1) in
-    let a = c10 .args in
-    (sound-same (a .image .now) (c6 .loop .image) (c7 .first-cursor .result)
-        (rw (c7 .first-cursor .ensures) (first-sound (a .image .now) (a .h) (omega (arith, c10 .pre .0)) (c10 .pre .1))) (c6 .loop .inv .0), t .whole,
-        omega (arith, c6 .loop .inv .2, ap left (c7 .first-cursor .ensures), t .onward .less, c10 .pre .2))
+    let a = c10 .args in (
+      sound-same (a .image .now) (c6 .loop .image) (c7 .first-cursor .result)
+          (rw (c7 .first-cursor .ensures) (first-sound (a .image .now) (a .h) (omega (arith, c10 .pre .0)) (c10 .pre .1))) (c6 .loop .inv .0),
+      t .whole,
+      omega (arith, c6 .loop .inv .2, ap left (c7 .first-cursor .ensures), t .onward .less, c10 .pre .2),
+    )
 
 loop-less : tie.Need-loop-less Inv-loop μ-loop
 loop-less c =
-    let c5 = c .before .before .before .before .before in
-    let c7 = c5 .before .before in
-    let c9 = c7 .before .before in
+    let c5 = c .before .before .before .before .before in let c7 = c5 .before .before in let c9 = c7 .before .before in
     let t = turned (c7 .advance .ensures) (c5 .s .given .1) in
     t .onward .less
 
 loop-again : tie.Need-loop-again Inv-loop μ-loop
 loop-again c =
-    let c2 = c .before .before in
-    let c5 = c2 .before .before .before in
-    let c7 = c5 .before .before in
-    let c9 = c7 .before .before in
-    let c10 = c9 .before in
-    let c13 = c10 .before .before .before in
+    let c2 = c .before .before in let c5 = c2 .before .before .before in let c7 = c5 .before .before in let c9 = c7 .before .before in
+    let c10 = c9 .before in let c13 = c10 .before .before .before in
     let t = turned (c7 .advance .ensures) (c5 .s .given .1) in
-    let a = c13 .args in
-    (omega (arith, c9 .loop .inv .0), sound-same (c9 .loop .image) (c2 .drop-one .last .0) (c5 .s .given .0 .1 .0) (t .onward .sound) (omega arith),
-        omega (arith, c9 .loop .inv .2, t .onward .less, c2 .drop-one .ensures .1), dropping-more (c9 .loop .inv .3) (c5 .s .given .0 .0)
-        (c5 .s .given .0 .1 .0) (rw (c10 .first-cursor .ensures) (tidy-first (a .image .now) (a .h) (omega (arith, c13 .pre .0))))
-        (sym (c7 .advance .ensures .0) ∙ c5 .s .given .1) (t .whole .fits) (c2 .drop-one .ensures .0))
+    let a = c13 .args in (
+      omega (arith, c9 .loop .inv .0),
+      sound-same (c9 .loop .image) (c2 .drop-one .last .0) (c5 .s .given .0 .1 .0) (t .onward .sound) (omega arith),
+      omega (arith, c9 .loop .inv .2, t .onward .less, c2 .drop-one .ensures .1),
+      dropping-more (c9 .loop .inv .3) (c5 .s .given .0 .0)
+          (c5 .s .given .0 .1 .0) (rw (c10 .first-cursor .ensures) (tidy-first (a .image .now) (a .h) (omega (arith, c13 .pre .0))))
+          (sym (c7 .advance .ensures .0) ∙ c5 .s .given .1) (t .whole .fits) (c2 .drop-one .ensures .0),
+    )
 
 pub drop-superseded-spec : {M : Type 1} → statement M
 drop-superseded-spec =

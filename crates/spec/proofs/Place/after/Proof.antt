@@ -13,8 +13,12 @@ fits-at-tail-requires c κs = search needs
 add-moved : tie.Need-add-moved
 add-moved c =
     let a = c .before .before .before .args in
-    omega (arith, tail-inside (a .self) (a .size) (sym (c .before .before .fits-at-tail .ensures) ∙ c .before .if1 .taken), limit-below (a .self)
-        (2 ^ 64) (omega arith) (omega arith))
+    omega (
+      arith,
+      tail-inside (a .self) (a .size) (sym (c .before .before .fits-at-tail .ensures) ∙ c .before .if1 .taken),
+      limit-below (a .self)
+          (2 ^ 64) (omega arith) (omega arith),
+    )
 
 moved-requires : tie.Need-moved-requires
 moved-requires c κs = search needs
@@ -23,7 +27,7 @@ returns : tie.Need-returns
 returns c =
     let a = c .before .before .before .before .args in
     rw (c .moved .ensures) (sym
-        (placed-at-tail (a .self) (a .size) (sym (c .before .before .before .fits-at-tail .ensures) ∙ c .before .before .if1 .taken)))
+    (placed-at-tail (a .self) (a .size) (sym (c .before .before .before .fits-at-tail .ensures) ∙ c .before .before .if1 .taken)))
 
 returns-2 : tie.Need-returns-2
 returns-2 c =
@@ -38,19 +42,17 @@ moved-requires-2 c κs = search needs
 
 returns-3 : tie.Need-returns-3
 returns-3 c =
-    let c4 = c .before .before .before .before in
-    let c5 = c4 .before in
-    let c6 = c5 .before in
+    let c4 = c .before .before .before .before in let c5 = c4 .before in let c6 = c5 .before in
     let a = c6 .before .args in
     rw (c .moved2 .ensures) (sym
-        (placed-at-start (a .self) (a .size) (c4 .if2 .left) (sym (c6 .fits-at-tail .ensures) ∙ c5 .if1 .left) (omega arith)))
+    (placed-at-start (a .self) (a .size) (c4 .if2 .left) (sym (c6 .fits-at-tail .ensures) ∙ c5 .if1 .left) (omega arith)))
 
 returns-4 : tie.Need-returns-4
 returns-4 c =
     let c4 = c .before .before .before .before in
     let a = c4 .before .args in
     sym (placed-nowhere (a .self) (a .size) (c .before .before .if2 .left) (sym (c4 .fits-at-tail .ensures) ∙ c .before .before .before .if1 .left)
-        (omega arith))
+    (omega arith))
 
 pub after-spec : {M : Type 1} → statement M
 after-spec =

@@ -35,10 +35,9 @@ same-length c = search needs
 
 returns-3 : tie.Need-returns-3
 returns-3 c =
-    let c5 = c .before .before .before .before .before in
-    let c8 = c5 .before .before .before in
+    let c5 = c .before .before .before .before .before in let c8 = c5 .before .before .before in
     copied (c8 .pre .0) (subst (Going (c8 .args .image .now) (c8 .args .place)) (c5 .plan .given .1) (c8 .pre .1))
-        (c .before .before .copy-head .ensures)
+    (c .before .before .copy-head .ensures)
 
 pub copy-spec : {M : Type 1} → statement M
 copy-spec =

@@ -19,20 +19,17 @@ enum-told-2 c = search needs
 
 returns : tie.Need-returns
 returns c =
-    let c3 = c .before .before .before in
-    let c5 = c3 .before .before in
+    let c3 = c .before .before .before in let c5 = c3 .before .before in
     ap full (sym (c .before .p .given .1)) ∙ full-is (c5 .args .image .now) (c5 .args .place) (c3 .plan .result) (c3 .plan .ensures)
 
 returns-2 : tie.Need-returns-2
 returns-2 c =
-    let c2 = c .before .before in
-    let c4 = c2 .before .before in
+    let c2 = c .before .before in let c4 = c2 .before .before in
     ap full (sym (c .enum-told .given .1)) ∙ full-is (c4 .args .image .now) (c4 .args .place) (c2 .plan .result) (c2 .plan .ensures)
 
 returns-3 : tie.Need-returns-3
 returns-3 c =
-    let c2 = c .before .before in
-    let c4 = c2 .before .before in
+    let c2 = c .before .before in let c4 = c2 .before .before in
     ap full (sym (c .enum-told2 .given .1)) ∙ full-is (c4 .args .image .now) (c4 .args .place) (c2 .plan .result) (c2 .plan .ensures)
 
 pub no-room-spec : {M : Type 1} → statement M

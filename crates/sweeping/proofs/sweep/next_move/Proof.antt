@@ -24,8 +24,7 @@ returns c =
 
 move-head-requires : tie.Need-move-head-requires
 move-head-requires c κs =
-    let c2 = c .before .before in
-    let c5 = c2 .before .before .before in
+    let c2 = c .before .before in let c5 = c2 .before .before .before in
     (c5 .pre .0, not-stopped (c5 .args .image .now) (c5 .args .place) (c2 .plan .result) (c .before .match .keys2) (c2 .plan .ensures), c5 .pre .1)
 
 same-length-2 : tie.Need-same-length-2
@@ -33,14 +32,12 @@ same-length-2 c = search needs
 
 returns-2 : tie.Need-returns-2
 returns-2 c =
-    let c5 = c .before .before .before .before .before in
-    let c7 = c5 .before .before in
-    let c8 = c7 .before in
+    let c5 = c .before .before .before .before .before in let c7 = c5 .before .before in let c8 = c7 .before in
     let c11 = c8 .before .before .before in
     record {
       on =
           going-on (c11 .args .image .now) (c11 .args .place) (c8 .plan .result)
-              (not-stopped (c11 .args .image .now) (c11 .args .place) (c8 .plan .result) (c7 .match .keys2) (c8 .plan .ensures));
+          (not-stopped (c11 .args .image .now) (c11 .args .place) (c8 .plan .result) (c7 .match .keys2) (c8 .plan .ensures));
       begun = c5 .move-head .ensures .begun;
       over = c .if1 .taken;
     }
@@ -55,13 +52,11 @@ same-length-3 c = search needs
 
 returns-3 : tie.Need-returns-3
 returns-3 c =
-    let c8 = c .before .before .before .before .before .before .before .before in
-    let c10 = c8 .before .before in
-    let c11 = c10 .before in
+    let c8 = c .before .before .before .before .before .before .before .before in let c10 = c8 .before .before in let c11 = c10 .before in
     let c14 = c11 .before .before .before in
     on-seen (going-on (c14 .args .image .now) (c14 .args .place) (c11 .plan .result)
-        (not-stopped (c14 .args .image .now) (c14 .args .place) (c11 .plan .result) (c10 .match .keys2) (c11 .plan .ensures)))
-        (c8 .move-head .ensures) (c .before .before .before .if1 .left) (c .before .survey .ensures)
+    (not-stopped (c14 .args .image .now) (c14 .args .place) (c11 .plan .result) (c10 .match .keys2) (c11 .plan .ensures)))
+    (c8 .move-head .ensures) (c .before .before .before .if1 .left) (c .before .survey .ensures)
 
 pub next-move-spec : {M : Type 1} → statement M
 next-move-spec =

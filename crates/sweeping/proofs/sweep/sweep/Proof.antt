@@ -19,9 +19,12 @@ at-most-requires : tie.Need-at-most-requires Inv-loop μ-loop
 at-most-requires c κs = search needs
 
 loop-holds : tie.Need-loop-holds Inv-loop μ-loop
-loop-holds c =
-    (refl, omega (arith, c .at-most .ensures), rw (c .at-most .ensures)
-        (sweeping-start (c .before .before .args .place) (c .before .before .pre .0) (omega arith) (c .before .before .pre .1)))
+loop-holds c = (
+  refl,
+  omega (arith, c .at-most .ensures),
+  rw (c .at-most .ensures)
+      (sweeping-start (c .before .before .args .place) (c .before .before .pre .0) (omega arith) (c .before .before .pre .1)),
+)
 
 next-move-requires : tie.Need-next-move-requires Inv-loop μ-loop
 next-move-requires c κs = let w = c .before .before .loop .inv .2 in (w .headed, omega (arith, w .few))
@@ -34,11 +37,10 @@ same-length c = search needs
 
 returns : tie.Need-returns Inv-loop μ-loop
 returns c =
-    let c4 = c .before .before .before .before in
-    let c7 = c4 .before .before .before in
+    let c4 = c .before .before .before .before in let c7 = c4 .before .before .before in
     sweeping-stuck (c7 .loop .inv .2)
-        (subst (Turned-as (c7 .loop .image) (c7 .loop .p .head) (c7 .loop .q) (c4 .next-move .last .0)) (c .enum-told .given .1)
-        (c4 .next-move .ensures))
+    (subst (Turned-as (c7 .loop .image) (c7 .loop .p .head) (c7 .loop .q) (c4 .next-move .last .0)) (c .enum-told .given .1)
+    (c4 .next-move .ensures))
 
 enum-known-t : tie.Need-enum-known-t Inv-loop μ-loop
 enum-known-t c = search needs
@@ -48,11 +50,10 @@ same-length-2 c = search needs
 
 returns-2 : tie.Need-returns-2 Inv-loop μ-loop
 returns-2 c =
-    let c5 = c .before .before .before .before .before in
-    let c8 = c5 .before .before .before in
+    let c5 = c .before .before .before .before .before in let c8 = c5 .before .before .before in
     sweeping-cut (c8 .loop .inv .2) (c8 .loop .left - 1) (omega arith)
-        (subst (Turned-as (c8 .loop .image) (c8 .loop .p .head) (c8 .loop .q) (c5 .next-move .last .0)) (c .before .t .given .1)
-        (c5 .next-move .ensures))
+    (subst (Turned-as (c8 .loop .image) (c8 .loop .p .head) (c8 .loop .q) (c5 .next-move .last .0)) (c .before .t .given .1)
+    (c5 .next-move .ensures))
 
 enum-known-t-2 : tie.Need-enum-known-t-2 Inv-loop μ-loop
 enum-known-t-2 c = search needs
@@ -68,11 +69,13 @@ loop-less c = search needs
 
 loop-again : tie.Need-loop-again Inv-loop μ-loop
 loop-again c =
-    let c5 = c .before .before .before .before .before in
-    let c8 = c5 .before .before .before in
-    (omega arith, omega arith, sweeping-more (c8 .loop .inv .2) (c8 .loop .left - 1) (omega arith)
-        (subst (Turned-as (c8 .loop .image) (c8 .loop .p .head) (c8 .loop .q) (c5 .next-move .last .0)) (c .before .t2 .given .1)
-        (c5 .next-move .ensures)))
+    let c5 = c .before .before .before .before .before in let c8 = c5 .before .before .before in (
+      omega arith,
+      omega arith,
+      sweeping-more (c8 .loop .inv .2) (c8 .loop .left - 1) (omega arith)
+          (subst (Turned-as (c8 .loop .image) (c8 .loop .p .head) (c8 .loop .q) (c5 .next-move .last .0)) (c .before .t2 .given .1)
+          (c5 .next-move .ensures)),
+    )
 
 same-length-3 : tie.Need-same-length-3 Inv-loop μ-loop
 same-length-3 c = search needs

@@ -18,8 +18,7 @@ same-length c = search needs
 
 returns : tie.Need-returns
 returns c =
-    let c6 = c .before .before .before .before .before .before in
-    let c10 = c6 .before .before .before .before in
+    let c6 = c .before .before .before .before .before .before in let c10 = c6 .before .before .before .before in
     did-both
     (did-both (c10 .program .ensures)
     (c6 .program2 .ensures))

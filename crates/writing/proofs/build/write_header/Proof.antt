@@ -29,20 +29,18 @@ set-status-requires : tie.Need-set-status-requires
 set-status-requires c κs =
     let c14 = c .before .before .before .before .before .before .before .before .before .before .before .before .before .before in
     omega (
-  arith,
-  ap (λ (l : List ℕ). length (bytes-at 4 l))
-      (c14 .four-of .ensures),
-)
+      arith,
+      ap (λ (l : List ℕ). length (bytes-at 4 l))
+          (c14 .four-of .ensures),
+    )
 
 same-length : tie.Need-same-length
 same-length c = search needs
 
 returns : tie.Need-returns
 returns c =
-    let c6 = c .before .before .before .before .before .before in
-    let c11 = c6 .before .before .before .before .before in
-    let c15 = c11 .before .before .before .before in
-    let c17 = c15 .before .before in
+    let c6 = c .before .before .before .before .before .before in let c11 = c6 .before .before .before .before .before in
+    let c15 = c11 .before .before .before .before in let c17 = c15 .before .before in
     did-both
     (did-both
     (did-both (c15 .program .ensures)

@@ -48,8 +48,7 @@ loop-less c = search needs
 
 loop-again : tie.Need-loop-again Inv-loop μ-loop
 loop-again c =
-    let c6 = c .before .before .before .before .before .before in
-    let c8 = c6 .before .before in
+    let c6 = c .before .before .before .before .before .before in let c8 = c6 .before .before in
     let a = c8 .args in (
       omega arith,
       omega arith,

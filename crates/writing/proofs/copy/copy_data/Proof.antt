@@ -41,7 +41,7 @@ returns : tie.Need-returns
 returns c =
     let a = c .before .before .before .before .before .before .args in
     rw (← copied-data (a .image .now) (a .from) (a .to) (a .n) (a .d))
-        (rw (c .before .before .before .before .up-8 .ensures) at (c .before .before .copy-bytes .ensures))
+    (rw (c .before .before .before .before .up-8 .ensures) at (c .before .before .copy-bytes .ensures))
 
 pub copy-data-spec : {M : Type 1} → statement M
 copy-data-spec =

@@ -28,8 +28,12 @@ add-program-2 c = search needs
 program-requires : tie.Need-program-requires
 program-requires c κs =
     let a = c .before .before .before .before .before .before .args in
-    omega (arith, length-bytes (a .to + 8) (take (a .n) (drop (a .from + 8) (a .image .now))), length-part (a .from + 8) (a .n) (a .image .now)
-        (omega arith))
+    omega (
+      arith,
+      length-bytes (a .to + 8) (take (a .n) (drop (a .from + 8) (a .image .now))),
+      length-part (a .from + 8) (a .n) (a .image .now)
+          (omega arith),
+    )
 
 same-length : tie.Need-same-length
 same-length c = search needs
@@ -39,7 +43,7 @@ returns c =
     let c6 = c .before .before .before .before .before .before in
     let a = c6 .before .before .before .args in
     rw (← copied-name (a .image .now) (a .from) (a .to) (a .n) (omega arith))
-        (did-both (c6 .copy-bytes .ensures) (c .before .before .program .ensures))
+    (did-both (c6 .copy-bytes .ensures) (c .before .before .program .ensures))
 
 pub copy-name-spec : {M : Type 1} → statement M
 copy-name-spec =
