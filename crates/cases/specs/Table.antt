@@ -32,10 +32,10 @@ mount = uncut Request.mount
 unfoldable pub table : List Case
 table =
     -- "All FF: 6"
-    row (filled 8192 255) [] mount (gives 6 0 0 0 0)
+    row (filled 8192 0xFF) [] mount (gives 6 0 0 0 0)
     -- "N = 4,096 or 8,193: 22"
-    ∷ row (filled 4096 255) [] mount (gives 22 0 0 0 0)
-    ∷ row (filled 8193 255) [] mount (gives 22 0 0 0 0)
+    ∷ row (filled 4096 0xFF) [] mount (gives 22 0 0 0 0)
+    ∷ row (filled 8193 0xFF) [] mount (gives 22 0 0 0 0)
     -- "After format: h 0, T 16, 0 files", and the bytes at 0 that "Placing and writing" gives
     ∷ row-bytes formatted [] mount (gives 0 0 16 0 0) 0
     (0x00 ∷ 0x5A ∷ 0x00 ∷ 0xFF ∷ 0 ∷ 0 ∷ 0 ∷ 0 ∷ 0 ∷ 0xFF ∷ 0xFF ∷ 0xFF ∷ 0xFF ∷ 0xFF ∷ 0xFF ∷ 0xFF ∷ 0xFF ∷ [])

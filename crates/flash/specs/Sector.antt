@@ -11,23 +11,23 @@ use Rattle.flash.specs.Did.{set-past}
 
 -- s with FF in the first i bytes from address a on
 unfoldable pub erased : Image → ℕ → ℕ → Image
-erased s a i = take a s ++ (replicate i 255 ++ drop i (drop a s))
+erased s a i = take a s ++ (replicate i 0xFF ++ drop i (drop a s))
 
 pub erased-none : (s : Image) (a : ℕ) → s ≡ erased s a 0
 unfolding erased
 erased-none s a = sym (take-append-drop a s)
 
-one-more : (l : List ℕ) (i : ℕ) → i < length l → set (replicate i 255 ++ drop i l) i 255 ≡ replicate (suc i) 255 ++ drop (suc i) l
+one-more : (l : List ℕ) (i : ℕ) → i < length l → set (replicate i 0xFF ++ drop i l) i 0xFF ≡ replicate (suc i) 0xFF ++ drop (suc i) l
 one-more [] i h = absurd (omega arith)
 one-more (x ∷ l) zero h = refl
-one-more (x ∷ l) (suc i) h = ap (λ (t : List ℕ). 255 ∷ t) (one-more l i (omega arith))
+one-more (x ∷ l) (suc i) h = ap (λ (t : List ℕ). 0xFF ∷ t) (one-more l i (omega arith))
 
-pub erased-more : (s : Image) (a i : ℕ) → a + i < length s → set (erased s a i) (a + i) 255 ≡ erased s a (i + 1)
+pub erased-more : (s : Image) (a i : ℕ) → a + i < length s → set (erased s a i) (a + i) 0xFF ≡ erased s a (i + 1)
 unfolding erased
 erased-more s a i h =
     let l = drop a s in
-    ap (λ (n : ℕ). set (take a s ++ (replicate i 255 ++ drop i l)) (n + i) 255) (sym (length-take-le a s (omega arith)))
-    ∙ set-past (take a s) (replicate i 255 ++ drop i l) i 255
+    ap (λ (n : ℕ). set (take a s ++ (replicate i 0xFF ++ drop i l)) (n + i) 0xFF) (sym (length-take-le a s (omega arith)))
+    ∙ set-past (take a s) (replicate i 0xFF ++ drop i l) i 0xFF
     ∙ rw add-one (ap (λ (t : List ℕ). take a s ++ t) (one-more l i (rw length-drop (omega arith))))
 
 pub erased-all : (s : Image) (a : ℕ) → erased s a 4096 ≡ apply s (erase a)

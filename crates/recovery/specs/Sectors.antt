@@ -20,7 +20,7 @@ use Rattle.flash.specs.Sectors.{sectors-more}
 
 length-sector : length sector ≡ 4096
 unfolding sector
-length-sector = length-replicate {A = ℕ} 4096 255
+length-sector = length-replicate {A = ℕ} 4096 0xFF
 
 erase-behind : (s : Image) (a k : ℕ) → a + 4096 ≤ k → a + 4096 ≤ length s → drop k (apply s (erase a)) ≡ drop k s
 erase-behind s a k h l =

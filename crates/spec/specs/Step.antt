@@ -12,7 +12,7 @@ pub data Step : Type 0 where
 
 -- an erased sector; shut, so that no goal writes out its 4,096 bytes
 unfoldable pub sector : List ℕ
-sector = replicate 4096 255
+sector = replicate 4096 0xFF
 
 -- what one step does to an image
 abbrev pub apply : Image → Step → Image

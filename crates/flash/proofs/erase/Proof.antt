@@ -51,7 +51,7 @@ loop-again : tie.Need-loop-again Inv-loop μ-loop
 loop-again c =
     let a = c .before .before .before .before .before .args in (
       omega arith,
-      ap (λ l. set l (a .at + c .before .loop .i) 255) (c .before .loop .inv .1)
+      ap (λ l. set l (a .at + c .before .loop .i) 0xFF) (c .before .loop .inv .1)
           ∙ erased-more (a .image .now) (a .at) (c .before .loop .i) (omega arith),
     )
 
