@@ -107,6 +107,12 @@ fn moving(img: &[u8], c: &Chain, found: &mut Vec<Broken>) {
     }
 }
 
+/// What a move's step (c) leaves of a mark.
+fn cleaned_mark(img: &[u8], at: u64) -> bool {
+    let at = at as usize;
+    matches!(img[at], 0x00 | 0xA0 | 0xA5) && img[at + 1] == 0x00
+}
+
 /// A name for the kind of image, for the table of kinds seen.
 fn kind(img: &[u8], c: &Chain) -> String {
     let (n, f) = (img.len() as u64, floor(c.head));
@@ -135,7 +141,11 @@ fn kind(img: &[u8], c: &Chain) -> String {
         t if c.turned && t == f => "T = floor(h)",
         _ => "T",
     };
-    let lost = if c.head > f { "lost bytes" } else { "h = floor(h)" };
+    let lost = match () {
+        _ if c.head == f => "h = floor(h)",
+        _ if cleaned_mark(img, f) => "lost bytes, first a cleaned mark",
+        _ => "lost bytes",
+    };
     let at = if c.head == 0 { " at 0" } else { "" };
     format!("head {head}{at} | next {next} | last {last} | superseded {} | {turn}, {tail} | {lost}", c.superseded.len())
 }

@@ -15,8 +15,9 @@ const LENGTHS: [usize; 9] = [8192, 8192, 8192, 12288, 12288, 16384, 20480, 32768
 /// Few, for long histories come to more kinds of image in the same time.
 const PERCENT: u64 = 2;
 /// The images that the histories have to come to.
-const AIMED: [&str; 10] = [
+const AIMED: [&str; 11] = [
     "T = floor(h)",
+    "T = floor(h) | lost bytes, first a cleaned mark",
     "T = N",
     "turned at N",
     "next CLEAN at 0",
