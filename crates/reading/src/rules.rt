@@ -96,12 +96,13 @@ pub fn legal(image: &[u8], start: Cursor, s: Survey) -> bool
     let t = s.tally;
     let p = s.place;
     let ending = s.ending;
-    if whole(ending) {
-        if t.fine {
-            if single(image, start) {
-                if marks_ok(image, start, t) {
-                    return free_ok(image, head_clean(image, start, t), p);
-                }
+    if !whole(ending) {
+        return false;
+    }
+    if t.fine {
+        if single(image, start) {
+            if marks_ok(image, start, t) {
+                return free_ok(image, head_clean(image, start, t), p);
             }
         }
     }

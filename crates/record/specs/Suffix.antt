@@ -3,8 +3,8 @@ use Prim.Native.Nat.{ℕ, zero, suc, _+_, _≤_, _<_}
 use native.Mathlib.Omega.{arith}
 use native.Mathlib.Nat.{not-suc-le-zero, le-of-suc-le-suc}
 use native.Mathlib.Numerals.{add-one}
-use mathlib.Core.Path.{_≡_, refl, sym, _∙_}
-use mathlib.Core.Bool.{true, false}
+use mathlib.Core.Path.{_≡_, refl, sym, ap, _∙_}
+use mathlib.Core.Bool.{Bool, true, false, not}
 use mathlib.Core.List.{List, [], _∷_}
 use lib.ListN.{length, drop, getD}
 use lib.Seq.{drop-cons}
@@ -16,6 +16,14 @@ drop-next s i h = rw (add-one, drop-cons s i 0)
 -- what a callee ensures of a flag, and what a branch says of it
 pub flag : {A : Type 0} {x y z : A} → x ≡ y → x ≡ z → y ≡ z
 flag p q = sym p ∙ q
+
+not-swap : (b t : Bool) → not b ≡ t → b ≡ not t
+not-swap true t h = ap not h
+not-swap false t h = ap not h
+
+-- the same where the code tests that it is not so
+pub flag-not : {b x t : Bool} → b ≡ x → not b ≡ t → x ≡ not t
+flag-not {b} {x} {t} e h = sym e ∙ not-swap b t h
 
 pub unflag : {A : Type 0} {x y z : A} → x ≡ y → (x ≡ z → ⊥) → y ≡ z → ⊥
 unflag p q e = q (p ∙ e)
