@@ -41,6 +41,7 @@ fn get_of(image: &[u8], name: &[u8], s: Survey) -> Held
     }
 }
 
+// The same on an image of a good length: what its reading refuses is refused.
 pub fn get_in(image: &[u8], name: &[u8]) -> Held
     requires { ⌜ good-length (length (now image)) ≡ true ⌝ }
     ensures { λ r. ⌜ (outcome (held-at r) (now (image .exit)) ≡ carry-out (now (image .entry)) 0 (onward (settled-reading (now (image .entry))) (file-of (now (name .entry)) getting))) × (r .offset + r .length ≤ length (now (image .entry))) ⌝ }
@@ -79,6 +80,7 @@ fn list_of(image: &[u8], index: usize, s: Survey) -> Listed
     }
 }
 
+// The same on an image of a good length: what its reading refuses is refused.
 pub fn list_in(image: &[u8], index: usize) -> Listed
     requires { ⌜ good-length (length (now image)) ≡ true ⌝ }
     ensures { λ r. ⌜ (outcome (listed-at r) (now (image .exit)) ≡ carry-out (now (image .entry)) 0 (onward (settled-reading (now (image .entry))) (list-of index))) × (r .offset + r .length ≤ length (now (image .entry))) ⌝ }

@@ -166,6 +166,7 @@ pub fn is_superseded(image: &[u8], start: Cursor, e: Spot) -> bool
     false
 }
 
+// Whether the chain has such a record.
 pub fn any_superseded(image: &[u8], start: Cursor) -> bool
     requires { ⌜ Sound (now image) start ⌝ }
     ensures { λ r. ⌜ r ≡ any (superseded (rest (now (image .entry)) start .entries)) (rest (now (image .entry)) start .entries) ⌝ }

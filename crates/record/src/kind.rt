@@ -97,6 +97,7 @@ fn written_kind(b: u8, c: u8, status: u8) -> Kind
     Kind::Bad
 }
 
+// What all four say; the fourth, which is spare, is always FF.
 pub fn kind_of(b: u8, c: u8, status: u8, spare: u8) -> Kind
     ensures { λ r. ⌜ r ≡ kind b c status spare ⌝ }
 {

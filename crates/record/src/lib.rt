@@ -29,6 +29,7 @@ pub fn data_len(part: &[u8]) -> usize
     wide(part[4]) + 256 * wide(part[5]) + 65536 * wide(part[6]) + 16777216 * wide(part[7])
 }
 
+// Rounded up to a multiple of 8.
 pub fn up_8(n: usize) -> usize
     requires { ⌜ n < 2 ^ 32 ⌝ }
     ensures { λ r. ⌜ r ≡ up8 n ⌝ }

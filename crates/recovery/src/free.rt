@@ -42,6 +42,7 @@ fn erase_run(image: &mut [u8], p: Place, m: Meter) -> Meter
     erase_dirty(image, from, p.length, a)
 }
 
+// The repair, on what is read from the head h on.
 pub fn erase_free(image: &mut [u8], h: usize, m: Meter) -> Meter
     requires { ⌜ (h < length (now image)) × (16 ≤ length (now image)) × (length (now image) ≤ 2 ^ 24) × (m .asked + 2 * length (now image) + 1 ≤ 2 ^ 32) ⌝ }
     ensures { λ r. ⌜ Did (now (image .entry)) m (steps-1 (now (image .entry)) (reading-from (now (image .entry)) h)) (now (image .exit)) r × (r .asked ≤ m .asked + 2 * length (now (image .entry)) + 1) ⌝ }

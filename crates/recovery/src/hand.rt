@@ -21,6 +21,7 @@ fn at_head(head: usize, m: Meter) -> Progress
     }
 }
 
+// The repair, on what is read from the head h on: a second record CLEAN, START, or neither.
 pub fn hand_over(image: &mut [u8], h: usize, m: Meter) -> Progress
     requires { ⌜ (h < length (now image)) × (16 ≤ length (now image)) × (length (now image) ≤ 2 ^ 24) × (m .asked + 2 * length (now image) + 2 ≤ 2 ^ 32) ⌝ }
     ensures { λ r. ⌜ Handed (now (image .entry)) h m (now (image .exit)) (r .head) (r .meter) × (r .meter .asked ≤ m .asked + 2 * length (now (image .entry)) + 2) × (r .head < length (now (image .entry))) ⌝ }

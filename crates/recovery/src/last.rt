@@ -109,6 +109,7 @@ fn finish_wrap(image: &mut [u8], ending: Ending, m: Meter) -> Meter
     }
 }
 
+// The repair, on what is read from the head h on.
 pub fn void_last(image: &mut [u8], h: usize, m: Meter) -> Meter
     requires { ⌜ (h ≤ length (now image)) × (16 ≤ length (now image)) × (length (now image) ≤ 2 ^ 24) × (m .asked + 9 ≤ 2 ^ 32) ⌝ }
     ensures { λ r. ⌜ Did (now (image .entry)) m (steps-3 (now (image .entry)) (reading-from (now (image .entry)) h)) (now (image .exit)) r × (r .asked ≤ m .asked + 9) ⌝ }

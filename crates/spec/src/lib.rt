@@ -107,6 +107,7 @@ pub struct Status {
 }
 
 impl Status {
+    // The seven published values.
     pub const ERASED: Status = Status { byte: 0xFF };
 
     pub const RESERVED: Status = Status { byte: 0xFE };
@@ -121,6 +122,7 @@ impl Status {
 
     pub const DELETED: Status = Status { byte: 0x00 };
 
+    // The status that a byte of an image stands for, published or not.
     pub fn from_byte(byte: u8) -> Status
         ensures { λ r. ⌜ r .byte ≡ byte ⌝ }
     {
