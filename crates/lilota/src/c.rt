@@ -1,7 +1,7 @@
 // The C interface: each call with numbers and byte slices; it gives the answer back, and its other numbers through lent ones.
 use crate::format;
-use crate::get_place;
-use crate::list_place;
+use crate::get::get_place;
+use crate::list::list_place;
 use crate::mount::mount;
 use crate::put::put;
 use crate::remove::remove;

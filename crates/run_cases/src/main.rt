@@ -1,8 +1,8 @@
 // The cases of document 01 that it does not mark with *, run on the proved library and printed as a table.
 // The stored output, which the run is held to, was worked out by hand from document 01.
 use lilota::format;
-use lilota::get;
-use lilota::get_place;
+use lilota::get::get;
+use lilota::get::get_place;
 use lilota::mount::mount;
 use lilota::put::put;
 use lilota::sweep::sweep;

@@ -4,8 +4,8 @@ use Rattle.record.specs.Suffix.{flag}
 use Rattle.lilota.specs.Look.{get-length, get-name, get-on}
 use native.Mathlib.Omega.{arith}
 use borrow.Author.Needs.{needs}
-use Rattle.lilota.proofs.get_place.Statement.{statement}
-use Rattle.lilota.proofs.get_place.Tie as tie
+use Rattle.lilota.proofs.get.get_place.Statement.{statement}
+use Rattle.lilota.proofs.get.get_place.Tie as tie
 
 good-length-requires : tie.Need-good-length-requires
 good-length-requires c κs = search needs

@@ -6,8 +6,8 @@ use Rattle.spec.specs.Answers.{listing}
 use Rattle.spec.specs.Files.{file-indexed}
 use native.Mathlib.Omega.{arith}
 use borrow.Author.Needs.{needs}
-use Rattle.lilota.proofs.look.list_of.Statement.{statement}
-use Rattle.lilota.proofs.look.list_of.Tie as tie
+use Rattle.lilota.proofs.list.list_of.Statement.{statement}
+use Rattle.lilota.proofs.list.list_of.Tie as tie
 
 first-cursor-requires : tie.Need-first-cursor-requires
 first-cursor-requires c κs = search needs

@@ -3,8 +3,8 @@ use Prim.Native.Nat.{_-_}
 use Rattle.lilota.specs.Look.{part-is}
 use Rattle.lilota.specs.Numbers.{held-at}
 use borrow.Author.Needs.{needs}
-use Rattle.lilota.proofs.get.Statement.{statement}
-use Rattle.lilota.proofs.get.Tie as tie
+use Rattle.lilota.proofs.get.get.Statement.{statement}
+use Rattle.lilota.proofs.get.get.Tie as tie
 
 get-place-requires : tie.Need-get-place-requires
 get-place-requires c κs = tt

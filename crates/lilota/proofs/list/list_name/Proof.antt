@@ -3,8 +3,8 @@ use Prim.Native.Nat.{_-_}
 use Rattle.lilota.specs.Look.{part-is}
 use Rattle.lilota.specs.Numbers.{listed-at}
 use borrow.Author.Needs.{needs}
-use Rattle.lilota.proofs.list_name.Statement.{statement}
-use Rattle.lilota.proofs.list_name.Tie as tie
+use Rattle.lilota.proofs.list.list_name.Statement.{statement}
+use Rattle.lilota.proofs.list.list_name.Tie as tie
 
 list-place-requires : tie.Need-list-place-requires
 list-place-requires c κs = tt

@@ -1,61 +1,22 @@
-// The lookups, on an image of a good length: the file of a name, and the file with an index.
-use crate::Held;
+// List: the name of the file with an index, as a part of the image, or where it stands.
 use crate::Listed;
+use crate::good_length;
 use reading::Found;
 use reading::Read;
 use reading::Survey;
 use reading::files::file_indexed;
-use reading::files::file_named;
 use reading::image::first_cursor;
 use reading::image::read_settled;
-use record::up_8;
 ghost use mathlib.Core.Path.{_≡_};
 ghost use mathlib.Core.Bool.{true};
 ghost use Prim.Native.Nat.{_+_, _≤_};
 ghost use lib.ListN.{length};
 ghost use Rattle.spec.specs.Basics.{onward};
 ghost use Rattle.spec.specs.Geometry.{good-length};
-ghost use Rattle.spec.specs.Answers.{carry-out, file-of, getting, list-of, settled-reading};
+ghost use Rattle.spec.specs.Answers.{carry-out, list-of, settled-reading, list, part-of};
 ghost use Rattle.reading.specs.Read.{reading-of, Surveyed, Quiet};
 ghost use Rattle.reading.specs.declared.Read.{Read};
-ghost use Rattle.lilota.specs.Numbers.{held-at, listed-at, outcome};
-
-// The file of this name, of what was read.
-fn get_of(image: &[u8], name: &[u8], s: Survey) -> Held
-    requires { ⌜ Surveyed (now image) s × Quiet (now image) (Read.Good s) ⌝ }
-    ensures { λ r. ⌜ (outcome (held-at r) (now (image .exit)) ≡ carry-out (now (image .entry)) 0 (file-of (now (name .entry)) getting (reading-of (now (image .entry)) s))) × (r .offset + r .length ≤ length (now (image .entry))) ⌝ }
-{
-    let place = s.place;
-    let f = file_named(image, first_cursor(image, place.head), name);
-    let Found::At(e) = f else {
-        return Held {
-            answer: 2,
-            offset: 0,
-            length: 0,
-        };
-    };
-    Held {
-        answer: 0,
-        offset: e.at + (8 + up_8(e.n + 1)),
-        length: e.d,
-    }
-}
-
-// The same on an image of a good length: what its reading refuses is refused.
-pub fn get_in(image: &[u8], name: &[u8]) -> Held
-    requires { ⌜ good-length (length (now image)) ≡ true ⌝ }
-    ensures { λ r. ⌜ (outcome (held-at r) (now (image .exit)) ≡ carry-out (now (image .entry)) 0 (onward (settled-reading (now (image .entry))) (file-of (now (name .entry)) getting))) × (r .offset + r .length ≤ length (now (image .entry))) ⌝ }
-{
-    let x = read_settled(image);
-    match x {
-        Read::Good(s) => get_of(image, name, s),
-        Read::Refused(n) => Held {
-            answer: n,
-            offset: 0,
-            length: 0,
-        },
-    }
-}
+ghost use Rattle.lilota.specs.Numbers.{listed-at, outcome};
 
 // The file with this index, of what was read.
 fn list_of(image: &[u8], index: usize, s: Survey) -> Listed
@@ -81,7 +42,7 @@ fn list_of(image: &[u8], index: usize, s: Survey) -> Listed
 }
 
 // The same on an image of a good length: what its reading refuses is refused.
-pub fn list_in(image: &[u8], index: usize) -> Listed
+fn list_in(image: &[u8], index: usize) -> Listed
     requires { ⌜ good-length (length (now image)) ≡ true ⌝ }
     ensures { λ r. ⌜ (outcome (listed-at r) (now (image .exit)) ≡ carry-out (now (image .entry)) 0 (onward (settled-reading (now (image .entry))) (list-of index))) × (r .offset + r .length ≤ length (now (image .entry))) ⌝ }
 {
@@ -95,4 +56,29 @@ pub fn list_in(image: &[u8], index: usize) -> Listed
             content: 0,
         },
     }
+}
+
+// The file with this index, in the chain's order.
+pub fn list_place(image: &[u8], index: usize) -> Listed
+    ensures { λ r. ⌜ (outcome (listed-at r) (now (image .exit)) ≡ list (now (image .entry)) index) × (r .offset + r .length ≤ length (now (image .entry))) ⌝ }
+{
+    if good_length(image.len()) {
+        return list_in(image, index);
+    }
+    Listed {
+        answer: 22,
+        offset: 0,
+        length: 0,
+        content: 0,
+    }
+}
+
+// The name of the file with this index, or none.
+pub fn list_name(image: &[u8], index: usize) -> &[u8]
+    ensures { λ r. ⌜ now r ≡ part-of (now (image .entry)) (list (now (image .entry)) index .numbers) ⌝ }
+{
+    let p = list_place(image, index);
+    let start = p.offset;
+    let end = start + p.length;
+    &image[start..end]
 }

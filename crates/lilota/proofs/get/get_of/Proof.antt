@@ -6,8 +6,8 @@ use Rattle.spec.specs.Answers.{getting}
 use Rattle.spec.specs.Files.{file-named}
 use native.Mathlib.Omega.{arith}
 use borrow.Author.Needs.{needs}
-use Rattle.lilota.proofs.look.get_of.Statement.{statement}
-use Rattle.lilota.proofs.look.get_of.Tie as tie
+use Rattle.lilota.proofs.get.get_of.Statement.{statement}
+use Rattle.lilota.proofs.get.get_of.Tie as tie
 
 first-cursor-requires : tie.Need-first-cursor-requires
 first-cursor-requires c κs = search needs

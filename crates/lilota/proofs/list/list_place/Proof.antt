@@ -4,8 +4,8 @@ use Rattle.record.specs.Suffix.{flag}
 use Rattle.lilota.specs.Look.{list-length, list-on}
 use native.Mathlib.Omega.{arith}
 use borrow.Author.Needs.{needs}
-use Rattle.lilota.proofs.list_place.Statement.{statement}
-use Rattle.lilota.proofs.list_place.Tie as tie
+use Rattle.lilota.proofs.list.list_place.Statement.{statement}
+use Rattle.lilota.proofs.list.list_place.Tie as tie
 
 good-length-requires : tie.Need-good-length-requires
 good-length-requires c κs = search needs
