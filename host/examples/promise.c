@@ -26,7 +26,7 @@ static const char *const WORDS[] = {"none", "old, 01 02 03", "new, 07 08 09", "N
 /* A call that may be cut. */
 typedef uint32_t (*Call)(uint8_t *image, size_t allowance, size_t *steps);
 
-/* A step that programs a byte; if it is cut inside, the values that may stand there, and what the pump loads with each. */
+/* A step that programs a byte; cut inside it, the values that may stand there, and what the pump loads with each. */
 typedef struct {
     size_t at;
     uint8_t found, listed;
@@ -125,7 +125,7 @@ static int alike(const Inside *in)
     return 1;
 }
 
-/* The put's next step: its byte, how many values may stand there, and what the pump loads, for each value if it matters. */
+/* The put's next step: its byte, how many values may stand there, and what the pump loads, by value if it differs. */
 static int print_next(const uint8_t *before, size_t done)
 {
     Inside in;
@@ -171,7 +171,8 @@ static int restart(const char *path, const uint8_t *before, size_t allowance, ui
         return 1;
     memcpy(cut, image, LENGTH);
     mount = recover(image, SIZE_MAX, &repairs);
-    printf("%3u  %4u  %5u  %5u  %-13s", (unsigned)steps, (unsigned)*put, (unsigned)mount, (unsigned)repairs, WORDS[table(image)]);
+    printf("%3u  %4u  %5u  %5u  %-13s", (unsigned)steps, (unsigned)*put, (unsigned)mount, (unsigned)repairs,
+           WORDS[table(image)]);
     if (save(path, image))
         return 1;
     if (*put != LILOTA_CUT)
