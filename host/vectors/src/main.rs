@@ -8,6 +8,7 @@ mod collect;
 mod computed;
 mod emit;
 mod faults;
+mod held;
 mod helper;
 mod histories;
 mod required;
