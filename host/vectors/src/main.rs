@@ -11,6 +11,7 @@ mod faults;
 mod held;
 mod helper;
 mod histories;
+mod inside_faults;
 mod required;
 
 use collect::Collection;
