@@ -48,7 +48,7 @@ impl Next {
     pub fn values(self, r: &mut Rng) -> Vec<u8> {
         let bits = self.bits();
         if bits.count_ones() > 4 {
-            return (0..3).filter_map(|_| self.value(r)).collect();
+            return (0..2).filter_map(|_| self.value(r)).collect();
         }
         (1..=bits).filter(|cleared| cleared & !bits == 0).map(|cleared| self.found & !cleared).collect()
     }

@@ -11,6 +11,7 @@ use testing::call::{Call, ANSWERS};
 use testing::images::{built, damage, of_history};
 use testing::maker::{Contents, Lengths, Maker};
 use testing::rng::Rng;
+use testing::tags::BYTE_TAGS;
 use testing::{tags, ALL};
 
 const SOURCES: [&str; 9] =
@@ -86,7 +87,7 @@ impl Collection {
     /// What has too few vectors.
     pub fn missing(&self) -> Vec<String> {
         let answers = ANSWERS.iter().flat_map(|(kind, all)| all.iter().map(move |a| format!("{kind} {a}")));
-        let tags = REQUIRED.iter().map(|t| format!("tag {t}"));
+        let tags = REQUIRED.iter().chain(&BYTE_TAGS).map(|t| format!("tag {t}"));
         let sources = SOURCES.iter().map(|s| format!("source {s}"));
         answers.chain(tags).chain(sources).filter(|w| self.count(w) < EACH).collect()
     }
