@@ -65,8 +65,8 @@ impl Seen {
 
 pub struct Tester<'s, S: Store> {
     pub store: &'s S,
-    /// percent of calls at which every cut is tried, between two steps and inside a
-    /// byte, each followed by cuts of the mount after it
+    /// of a thousand calls, those at which every cut is tried, between two steps and
+    /// inside a byte, each followed by cuts of the mount after it
     pub exhaust: u64,
     /// a history has 20 calls at least, and fewer than this
     pub longest: u64,
@@ -99,7 +99,7 @@ impl<S: Store> Tester<'_, S> {
         let mut w = World::new(n);
         let mut calls = Vec::new();
         for _ in 0..length {
-            if r.chance(self.exhaust) {
+            if r.below(1000) < self.exhaust {
                 let whole = maker.whole_call(r, &w.img);
                 self.every_cut(r, &w, &mut calls, &whole)?;
             }

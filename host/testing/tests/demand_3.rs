@@ -69,7 +69,7 @@ fn histories_for(fault: Fault) -> (fn(&mut Rng) -> Maker, u64) {
 /// with cuts; and that these histories come to the places that matter.
 #[test]
 fn histories_keep_demand_3() {
-    let (seen, violation) = histories(100_000, 1, LONGEST, mixed);
+    let (seen, violation) = histories(100_000, 5, LONGEST, mixed);
     assert_eq!(violation, None);
     assert_eq!(seen.facts.broken.len(), 0, "{:?}", seen.facts.broken);
     for answer in ["put 0", "put 4", "put 28", "put 22", "sweep 0", "sweep 4", "mount 0", "mount 4", "remove 0"] {

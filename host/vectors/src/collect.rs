@@ -20,7 +20,7 @@ const SOURCES: [&str; 9] =
 pub const EACH: u64 = 3;
 /// Below this many vectors a tag is rare.
 const RARE: u64 = 12;
-const HISTORIES: u64 = 120;
+const HISTORIES: u64 = 80;
 /// A program step costs antt as much as its address: no long step lists.
 const MOST_STEPS: u64 = 150;
 const MOST_TEXT: usize = 9_000;

@@ -1,8 +1,8 @@
 //! The power cut at every step and inside its byte, through the C interface: random
 //! histories of all calls against the ledger.
-//!   cuts [CALLS [SEED [PERCENT]]]
-//! PERCENT of the calls are tried at every allowance (long ones at both ends and a
-//! sample), and there at every subset of the bits that the next step would clear (of
+//!   cuts [CALLS [SEED [OF_1000]]]
+//! Of a thousand calls so many are tried at every allowance (long ones at both ends and
+//! a sample), and there at every subset of the bits that the next step would clear (of
 //! more than four bits a sample), each followed by cut mounts; after each of them a whole
 //! mount, list and get must give the ledger. The others are cut somewhere or not at
 //! all. A library can't be cut inside a byte: the test writes that byte, behind the
@@ -16,7 +16,7 @@ use testing::tags::BYTE_TAGS;
 
 const LENGTHS: [usize; 9] = [8192, 8192, 8192, 12288, 12288, 16384, 20480, 32768, 65536];
 /// Few, for long histories come to more kinds of image in the same time.
-const PERCENT: u64 = 1;
+const OF_1000: u64 = 3;
 /// The images that the histories have to come to.
 const AIMED: [&str; 11] = [
     "T = floor(h)",
@@ -36,11 +36,11 @@ const AIMED: [&str; 11] = [
 const INSIDE: [&str; 4] = ["put", "remove", "sweep", "mount"];
 
 fn maker(r: &mut Rng) -> Maker {
-    match r.below(7) {
+    match r.below(6) {
         0 | 1 => Maker::full_sectors(r),
         2 => Maker { cut: 30, ..Maker::full_sectors(r) },
         3 => Maker::long_records(r),
-        4 | 5 => Maker::with_markers(r),
+        4 => Maker::with_markers(r),
         _ => Maker::rich(r),
     }
 }
@@ -61,7 +61,7 @@ fn aimed(seen: &Seen) -> usize {
 }
 
 fn main() {
-    let (calls, seed, exhaust) = (argument(1, 60_000), argument(2, 1), argument(3, PERCENT));
+    let (calls, seed, exhaust) = (argument(1, 80_000), argument(2, 1), argument(3, OF_1000));
     let store = Library::new(library::functions());
     println!("library: {}", library::path().display());
     let mut tester = Tester { store: &store, exhaust, longest: LONGEST, seen: Seen::default() };

@@ -10,7 +10,7 @@ fn main() {
     let (seed, total, only) = (argument(1, 1), argument(2, 100_000), argument(3, 0) as usize);
     let exhaust = std::env::args().nth(4).is_some_and(|x| x == "exhaust");
     let mut r = Rng::new(seed);
-    let exhaust = if exhaust { 6 } else { 0 };
+    let exhaust = if exhaust { 60 } else { 0 };
     let mut tester = Tester { store: &Model, exhaust, longest: LONGEST, seen: Seen::default() };
     let lengths = if only > 0 { vec![only] } else { vec![8192, 12288, 16384, 20480] };
     if let Err(v) = tester.until(&mut r, total, &lengths, Maker::rich) {
