@@ -7,7 +7,6 @@ use mathlib.Core.List.{List, [], _∷_, _++_}
 use lib.ListN.{length, set, getD}
 use Rattle.spec.specs.Step.{Image, Step, program, erase}
 use Rattle.spec.specs.History.{between, partly}
-use Rattle.history.specs.Induction.{left}
 
 -- only the first of the steps that are left counts
 partly-first : (v : ℕ) (s : Step) (ss ts : List Step) (im : Image) → partly v ((s ∷ ss) ++ ts) im ≡ partly v (s ∷ ss) im
