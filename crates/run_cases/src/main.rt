@@ -1,5 +1,5 @@
 // The cases of document 01 that it does not mark with *, run on the proved library and printed as a table.
-// The stored output, which the run is held to, was worked out by hand from document 01.
+// The stored output, which the run is held to, was worked out by hand from document 01 and its changes in document 02.
 use lilota::format;
 use lilota::get::get;
 use lilota::get::get_place;
@@ -111,12 +111,12 @@ fn main() {
     text(
         b"case                      put steps mount steps  head  tail files   get bytes  the first\n",
     );
-    text(b"put, cut after 15      ");
-    first_put_row(&mut image, dose, old, 15);
-    text(b"put, with 16           ");
+    text(b"put, cut after 16      ");
     first_put_row(&mut image, dose, old, 16);
-    text(b"replacing, cut at 16   ");
-    second_put_row(&mut image, dose, old, new, 16);
+    text(b"put, with 17           ");
+    first_put_row(&mut image, dose, old, 17);
+    text(b"replacing, cut at 17   ");
+    second_put_row(&mut image, dose, old, new, 17);
     text(b"2,704 bytes            ");
     first_put_row(&mut image, dose, &large, ENOUGH);
     text(b"name of 63 bytes       ");

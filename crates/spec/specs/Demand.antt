@@ -60,7 +60,8 @@ pub record Mounted (image : Image) (k : ℕ) (l : Ledger) : Type 0 where
   pub answer : mount image k .numbers .answer ≡ 0
   pub shows : Shows (mount image k .image) (mount image k .numbers .third) l
 
--- all of it, for a history that begins at `start`, leaves `image` and has the ledger `l`; a mount with a smaller allowance does the first of the same steps
+-- all of it, for a history, cut inside bytes too (`held` in Call), that begins at `start`, leaves `image` and has the ledger `l`;
+-- a mount with a smaller allowance does the first of the same steps
 pub record Kept (start : Image) (calls : List Call) (image : Image) (l : Ledger) : Type 0 where
   pub sound : Calls-sound start calls
   pub sound-after : Steps-sound image (steps-of (mount-plan image))

@@ -1,5 +1,5 @@
 -- "What mount repairs, in this order".
-use Rattle.spec.specs.Prelude.{ℕ, _+_, Bool, true, false, not, List, [], _∷_, _++_, map, length, getD, eqb}
+use Rattle.spec.specs.Prelude.{ℕ, _+_, _-_, Bool, true, false, not, List, [], _∷_, _++_, map, length, getD, eqb}
 use Rattle.spec.specs.declared.Ending.{Ending}
 use Rattle.spec.specs.declared.Place.{Place}
 use Rattle.spec.specs.Step.{Image, Step, program, erase, moved}
@@ -10,10 +10,10 @@ use Rattle.spec.specs.Record.{Entry, name-of}
 use Rattle.spec.specs.Chain.{Reading}
 use Rattle.spec.specs.Files.{superseded}
 use Rattle.spec.specs.Reading.{blank-part, head-clean}
-use Rattle.spec.specs.Write.{status-step}
-use Rattle.spec.specs.Move.{Work, begin, after, close-steps}
+use Rattle.spec.specs.Write.{status-step, marker-steps, name-end-steps}
+use Rattle.spec.specs.Move.{Work, begin, after, start-steps, close-steps}
 
--- ---- 1. "Head CLEAN: erase each sector wholly in the free run that isn't all FF, ascending; then head's low byte to 00"
+-- ---- 1. "Head CLEAN: erase each sector wholly in the free run that isn't all FF, ascending; then head's low byte to 00", by way of 80
 
 unfoldable pub free-sectors : Place → List ℕ
 free-sectors p =
@@ -28,10 +28,15 @@ dirty image a = not (blank-part a (a + 4096) image)
 unfoldable pub erase-steps : Image → Place → List Step
 erase-steps image p = map erase (keep (dirty image) (free-sectors p))
 
+abbrev pub head-low : List Entry → ℕ
+head-low [] = 0
+head-low (x ∷ es) = x .it .low
+
 unfoldable pub repair-1 : Work → Work
 repair-1 w =
+    let h = w .reading .place .head in
     elim (head-clean (w .reading .entries)) [
-      | true ↦ after w (erase-steps (w .image) (w .reading .place) ++ (program (w .reading .place .head) 0x00 ∷ [])) (w .reading .place .head)
+      | true ↦ after w (erase-steps (w .image) (w .reading .place) ++ start-steps h (head-low (w .reading .entries))) h
       | false ↦ w
     ]
 
@@ -42,23 +47,31 @@ repair-2 w [] = w
 repair-2 w (x ∷ []) = w
 repair-2 w (x ∷ (y ∷ es)) =
     elim (is-clean (y .it .low)) [
-      | true ↦ after w (close-steps (w .reading .place .length) x y) (y .at)
+      | true ↦ after w (close-steps (w .reading .place .length) x y (y .it .low)) (y .at)
       | false ↦ elim (is-start (y .it .low)) [ true ↦ after w (program (x .at + 1) 0x00 ∷ []) (y .at) | false ↦ w ]
     ]
 
 -- ---- 3. The last thing.
 
--- "Torn: second byte 5A, four length bytes 00, byte 8 to 00, status 00 (7 steps, always all)", from its start
-abbrev pub torn-steps : List Step
-torn-steps = program 1 0x5A ∷ program 4 0x00 ∷ program 5 0x00 ∷ program 6 0x00 ∷ program 7 0x00 ∷ program 8 0x00 ∷ program 2 0x00 ∷ []
+-- "A reserve or torn record is voided by clearing the status's top bit alone first": 7F or 7E, which no rule takes for live, then 00.
+-- Of the status FF or FE that stands at address a.
+abbrev pub status-void-steps : ℕ → ℕ → List Step
+status-void-steps a status = program a (status - 0x80) ∷ program a 0x00 ∷ []
 
--- "the missing 00 if any": at the end a of the name, where the first FF counted as it
+-- "Torn: second byte 5A, four length bytes 00, byte 8 to 00, status 00", always all, from its start;
+-- "its repair programs that byte" (the first) "first, always": 9 steps
+abbrev pub torn-steps : List Step
+torn-steps =
+    program 0 0xA5 ∷ program 1 0x5A ∷ program 4 0x00 ∷ program 5 0x00 ∷ program 6 0x00 ∷ program 7 0x00 ∷ program 8 0x00
+    ∷ status-void-steps 2 0xFF
+
+-- "the missing 00 if any": at the end a of the name, where a byte of 80 or more counted as it
 abbrev pub missing-steps : Image → ℕ → List Step
-missing-steps image a = elim (eqb (getD image a 0) 0x00) [ true ↦ [] | false ↦ program a 0x00 ∷ [] ]
+missing-steps image a = elim (eqb (getD image a 0) 0x00) [ true ↦ [] | false ↦ name-end-steps a ]
 
 -- "Reserved: the missing 00 if any, status 00"
 abbrev pub reserved-steps : Image → Entry → List Step
-reserved-steps image e = missing-steps image (e .at + (8 + length (name-of e))) ++ (status-step e 0x00 ∷ [])
+reserved-steps image e = missing-steps image (e .at + (8 + length (name-of e))) ++ status-void-steps (e .at + 2) 0xFE
 
 -- of a record that is torn, reserved or finished
 unfoldable pub void-steps : Image → Entry → List Step
@@ -74,10 +87,10 @@ last-steps image [] = []
 last-steps image (e ∷ []) = void-steps image e
 last-steps image (e ∷ (f ∷ es)) = last-steps image (f ∷ es)
 
--- "Torn wrap: 5A, F0 (2)"
+-- "Torn wrap: 5A, F0", "its repair programs that byte" (the first) "first, always": the marker's own 3 steps
 abbrev pub torn-wrap-steps : Ending → List Step
 torn-wrap-steps Ending.Tail = []
-torn-wrap-steps (Ending.TornWrap a) = moved a (program 1 0x5A ∷ program 2 0xF0 ∷ [])
+torn-wrap-steps (Ending.TornWrap a) = moved a marker-steps
 torn-wrap-steps Ending.Broken = []
 
 unfoldable pub repair-3 : Work → Work

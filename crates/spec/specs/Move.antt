@@ -35,7 +35,11 @@ unfoldable pub copy-steps : Reading → List Entry → List Step
 copy-steps r [] = []
 copy-steps r (x ∷ es) = elim (live (x ∷ es) x) [ true ↦ put-steps (r .place) (some x) (name-of x) (content-of x) | false ↦ [] ]
 
--- "00 5A, A0 5A or A5 5A" at the front of s: a mark
+-- (b) "Y's low byte A0"
+abbrev pub to-clean-step : Entry → Step
+to-clean-step y = program (y .at) 0xA0
+
+-- "00 5A, A0 5A or A5 5A" at the front of s: a mark; 80, A4 and A1, "all three are cleaned from old data as those are"
 abbrev pub mark-here : List ℕ → Bool
 mark-here s = (is-start (low-of s) || is-clean (low-of s) || is-record (low-of s)) && is-high (high-of s)
 
@@ -56,24 +60,33 @@ vacated-end N y = elim (eqb (y .at) 0) [ true ↦ N | false ↦ floor (y .at) ]
 abbrev pub vacated : ℕ → Entry → Entry → List ℕ
 vacated N x y = sectors (floor (x .at)) (vacated-end N y)
 
+-- (d) "erase, ascending", these sectors
+abbrev pub vacated-steps : List ℕ → List Step
+vacated-steps starts = map erase starts
+
+-- (e) "Y's low byte 00": "a low magic byte of A0 goes to 80 and then to 00 (from 80 only the last), in a move and in every repair".
+-- Of a CLEAN at address a with this low byte; each step clears one bit, so that nothing else stands in between.
+abbrev pub start-steps : ℕ → ℕ → List Step
+start-steps a low = elim (eqb low 0xA0) [ true ↦ program a 0x80 ∷ program a 0x00 ∷ [] | false ↦ program a 0x00 ∷ [] ]
+
 -- (f) "X's second byte 00 if X wasn't erased", with the sectors erased
 abbrev pub forget-steps : Entry → List ℕ → List Step
 forget-steps x [] = program (x .at + 1) 0x00 ∷ []
 forget-steps x (a ∷ rest) = []
 
--- (d) to (f), with the sectors to erase; (e) "Y's low byte 00"
-abbrev pub vacate-steps : Entry → Entry → List ℕ → List Step
-vacate-steps x y starts = map erase starts ++ (program (y .at) 0x00 ∷ forget-steps x starts)
+-- (d) to (f), with the sectors to erase, of a Y with this low byte
+abbrev pub vacate-steps : Entry → Entry → ℕ → List ℕ → List Step
+vacate-steps x y low starts = vacated-steps starts ++ (start-steps (y .at) low ++ forget-steps x starts)
 
--- (c) to (f)
-unfoldable pub close-steps : ℕ → Entry → Entry → List Step
-close-steps N x y = clean-steps (length (content-of x)) (data-at x) (content-of x) ++ vacate-steps x y (vacated N x y)
+-- (c) to (f), of a Y with this low byte
+unfoldable pub close-steps : ℕ → Entry → Entry → ℕ → List Step
+close-steps N x y low = clean-steps (length (content-of x)) (data-at x) (content-of x) ++ vacate-steps x y low (vacated N x y)
 
--- (b) to (f), with (b) "Y's low byte A0"; the head is then Y
+-- (b) to (f); the head is then Y
 unfoldable pub hand-over : Work → List Entry → Work
 hand-over w [] = w
 hand-over w (x ∷ []) = w
-hand-over w (x ∷ (y ∷ es)) = after w (program (y .at) 0xA0 ∷ close-steps (w .reading .place .length) x y) (y .at)
+hand-over w (x ∷ (y ∷ es)) = after w (to-clean-step y ∷ close-steps (w .reading .place .length) x y 0xA0) (y .at)
 
 -- the whole move after its copy
 abbrev pub moved-on : Work → Work

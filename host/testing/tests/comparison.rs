@@ -4,6 +4,7 @@ use model::faults::Fault;
 use model::Reply;
 use testing::call::{Call, Model, Store, Wrong, ANSWERS};
 use testing::compare::{Comparison, Tally};
+use testing::tags::BYTE_TAGS;
 
 fn compared(store: &impl Store, images: u64) -> Tally {
     let mut comparison = Comparison::new(store);
@@ -46,7 +47,7 @@ fn the_model_equals_itself() {
             assert!(tally.answered(kind, answer) >= 20, "{kind} {answer}\n{}", tally.report());
         }
     }
-    for place in PLACES {
+    for place in PLACES.into_iter().chain(BYTE_TAGS) {
         assert!(tally.tagged(place) >= 10, "{place}\n{}", tally.report());
     }
 }

@@ -1,7 +1,7 @@
 //! What the vectors must cover (testing::tags).
 
-/// Tags that must have vectors.
-pub const REQUIRED: [&str; 44] = [
+/// Tags that must have vectors, besides those of testing::tags::BYTE_TAGS.
+pub const REQUIRED: [&str; 52] = [
     "N 8192",
     "N 12288",
     "bad length",
@@ -46,4 +46,12 @@ pub const REQUIRED: [&str; 44] = [
     "history: put cut before the commit",
     "place, T = N before the turn",
     "place, turned",
+    "cut inside a byte",
+    "cut before an erase",
+    "cut between bytes",
+    "history: cut inside a byte",
+    "history: mount cut inside",
+    "history: put done inside its commit",
+    "history: remove cut inside",
+    "history: remove inside at F8",
 ];
