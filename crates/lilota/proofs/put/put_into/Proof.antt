@@ -10,7 +10,9 @@ use Rattle.lilota.proofs.put.put_into.Statement.{statement}
 use Rattle.lilota.proofs.put.put_into.Tie as tie
 
 has-room-requires : tie.Need-has-room-requires
-has-room-requires c κs = search needs
+has-room-requires c κs =
+    let p = c .before .before .before .before .before .pre in
+    (record { surveyed = p .0 .surveyed; quiet = p .0 .quiet }, p .1)
 
 replace-requires : tie.Need-replace-requires
 replace-requires c κs =
