@@ -42,6 +42,15 @@ pub fn program(image: &mut [u8], at: usize, byte: u8, m: Meter) -> Meter
     m.counted()
 }
 
+// 00 at this address, by way of another byte: two steps, each of which a cut inside the byte must leave readable.
+pub fn clear_by(image: &mut [u8], at: usize, by: u8, m: Meter) -> Meter
+    requires { ⌜ (at < length (now image)) × (m .asked + 2 ≤ 2 ^ 32) ⌝ }
+    ensures { λ r. ⌜ Did (now (image .entry)) m (Step.program at by ∷ Step.program at 0 ∷ []) (now (image .exit)) r ⌝ }
+{
+    let a = program(image, at, by, m);
+    program(image, at, 0x00, a)
+}
+
 // Erases the sector at this address.
 pub fn erase(image: &mut [u8], at: usize, m: Meter) -> Meter
     requires { ⌜ (at + 4096 ≤ length (now image)) × (m .asked < 2 ^ 32) ⌝ }

@@ -4,7 +4,7 @@ use native.Mathlib.Omega.{arith}
 use native.Mathlib.Nat.{add-zero}
 use mathlib.Core.Path.{_≡_, refl, sym, ap, _∙_}
 use mathlib.Core.Bool.{Bool, true, false, _||_, and-eq-true-iff}
-use mathlib.Core.Logic.{inl, inr}
+use mathlib.Core.Logic.{_⊎_, inl, inr}
 use mathlib.Core.List.{List}
 use lib.ListN.{length, drop, getD}
 use lib.Seq.{getD-drop}
@@ -56,6 +56,14 @@ search-even (suc k) at s e = go (start-here s || clean-here s) (long 1 s) refl r
 
 -- ---- the byte
 
+-- CLEAN, with 80 as A0
+clean-two : (b : ℕ) → is-clean b ≡ true → (b ≡ 0xA0) ⊎ (b ≡ 0x80)
+unfolding is-clean
+clean-two b h = go _ refl where
+  go : (t : Bool) → eqb b 0xA0 ≡ t → (b ≡ 0xA0) ⊎ (b ≡ 0x80)
+  go true e = inl (eqb-true b 0xA0 e)
+  go false e = inr (eqb-true b 0x80 (sym (ap (λ (t : Bool). t || eqb b 0x80) e) ∙ h))
+
 module _ (image : Image) where
   low-start : (a : ℕ) → start-here (drop a image) ≡ true → Low (getD image a 0)
   unfolding is-start
@@ -65,11 +73,10 @@ module _ (image : Image) where
       inl (sym (getD-drop a image 0 0 ∙ ap (λ (i : ℕ). getD image i 0) (add-zero a)) ∙ q)
 
   low-clean : (a : ℕ) → clean-here (drop a image) ≡ true → Low (getD image a 0)
-  unfolding is-clean
   low-clean a e =
-      let q : getD (drop a image) 0 0 ≡ 0xA0 = eqb-true (low-of (drop a image)) 0xA0
-      (and-eq-true-iff (eqb (low-of (drop a image)) 0xA0) (is-high (high-of (drop a image))) .0 e .0) in
-      inr (sym (getD-drop a image 0 0 ∙ ap (λ (i : ℕ). getD image i 0) (add-zero a)) ∙ q)
+      let q : is-clean (getD (drop a image) 0 0) ≡ true =
+      and-eq-true-iff (is-clean (low-of (drop a image))) (is-high (high-of (drop a image))) .0 e .0 in
+      inr (clean-two (getD image a 0) (sym (ap is-clean (getD-drop a image 0 0 ∙ ap (λ (i : ℕ). getD image i 0) (add-zero a))) ∙ q))
 
   abbrev Begins : Answer ℕ → Type 0
   Begins (give h) = (h % 8 ≡ 0) × Low (getD image h 0)

@@ -15,7 +15,7 @@ use Rattle.spec.specs.Head.{head}
 use Rattle.spec.specs.Chain.{Reading, reading-from}
 use Rattle.spec.specs.Files.{live, superseded}
 use Rattle.spec.specs.Reading.{head-clean, free-ok, whole, marked, second-ok, marks-ok, names-ok, single, legal, judged, reading}
-use Rattle.spec.specs.Mount.{settled}
+use Rattle.spec.specs.Mount.{head-low, settled}
 use Rattle.spec.specs.Answers.{if-settled, settled-reading}
 use Rattle.reading.specs.declared.Cursor.{Cursor}
 use Rattle.reading.specs.declared.Spot.{Spot}
@@ -23,7 +23,7 @@ use Rattle.reading.specs.declared.Tally.{Tally}
 use Rattle.reading.specs.Rest.{rest, entry-of}
 use Rattle.reading.specs.Faithful.{Stands, faithful}
 use Rattle.reading.specs.Tally.{none-yet, tally}
-use Rattle.reading.specs.TallyLaws.{tally-records, tally-fine, second-is, clean-few, clean-is, marks-few, marks-are, held-is}
+use Rattle.reading.specs.TallyLaws.{tally-records, tally-fine, second-is, clean-few, low-is, clean-is, marks-few, marks-are, held-is}
 use Rattle.reading.specs.NamesLaw.{names-are}
 use Rattle.reading.specs.SettledLaws.{second-marked, last-open, wrap-torn, calm, settled-is}
 use Rattle.reading.specs.FreeLaws.{free-by}
@@ -64,8 +64,11 @@ module _ {image : List ℕ} {start : Cursor} {t : Tally} (w : Tallied image star
   pub head-none : t .records ≡ 0 → false ≡ head-clean (rest image start .entries)
   head-none h = clean-few (rest image start .entries) (sym count-is ∙ h)
 
-  pub head-low : (t .records ≡ 0 → ⊥) → is-clean (entry-of image (t .first) .it .low) ≡ head-clean (rest image start .entries)
-  head-low h = clean-is image (rest image start .entries) t (w .same) stands (λ q. h (count-is ∙ q))
+  pub first-low : (t .records ≡ 0 → ⊥) → entry-of image (t .first) .it .low ≡ head-low (rest image start .entries)
+  first-low h = low-is image (rest image start .entries) t (w .same) stands (λ q. h (count-is ∙ q))
+
+  pub first-clean : (t .records ≡ 0 → ⊥) → is-clean (entry-of image (t .first) .it .low) ≡ head-clean (rest image start .entries)
+  first-clean h = clean-is image (rest image start .entries) t (w .same) stands (λ q. h (count-is ∙ q))
 
   pub marks-none : t .records < 2 → true ≡ marks-ok (rest image start .entries)
   marks-none h = marks-few (rest image start .entries) (omega (arith, count-is))

@@ -11,6 +11,7 @@ use Rattle.spec.specs.Basics.{any, all, Each}
 use Rattle.spec.specs.Bytes.{is-unfinished, is-clean}
 use Rattle.spec.specs.Record.{Entry}
 use Rattle.spec.specs.Reading.{marked, second-ok, marks-ok, head-clean}
+use Rattle.spec.specs.Mount.{head-low}
 use Rattle.reading.specs.declared.Spot.{Spot}
 use Rattle.reading.specs.declared.Tally.{Tally}
 use Rattle.reading.specs.Rest.{entry-of}
@@ -100,13 +101,17 @@ pub clean-few : (es : List Entry) → length es ≡ 0 → false ≡ head-clean e
 clean-few [] h = refl
 clean-few (x ∷ es) h = absurd (omega arith)
 
+pub low-is : (image : List ℕ) (es : List Entry) (t : Tally) → t ≡ tally none-yet es → Each (Stands image) es → (length es ≡ 0 → ⊥)
+    → entry-of image (t .first) .it .low ≡ head-low es
+low-is image [] t q f h = absurd (h refl)
+low-is image (x ∷ es) t q f h =
+    ap (λ (u : Tally). entry-of image (u .first) .it .low) q ∙ ap (λ (s : Spot). entry-of image s .it .low) (first-is x es)
+    ∙ ap (λ (e : Entry). e .it .low) (f .0)
+
 pub clean-is : (image : List ℕ) (es : List Entry) (t : Tally) → t ≡ tally none-yet es → Each (Stands image) es → (length es ≡ 0 → ⊥)
     → is-clean (entry-of image (t .first) .it .low) ≡ head-clean es
 clean-is image [] t q f h = absurd (h refl)
-clean-is image (x ∷ es) t q f h =
-    ap (λ (u : Tally). is-clean (entry-of image (u .first) .it .low)) q
-    ∙ ap (λ (s : Spot). is-clean (entry-of image s .it .low)) (first-is x es)
-    ∙ ap (λ (e : Entry). is-clean (e .it .low)) (f .0)
+clean-is image (x ∷ es) t q f h = ap is-clean (low-is image (x ∷ es) t q f h)
 
 -- the marks
 pub marks-few : (es : List Entry) → length es < 2 → true ≡ marks-ok es

@@ -6,20 +6,20 @@ use mathlib.Core.Bool.{Bool, true, false}
 use mathlib.Core.List.{List, [], _∷_, _++_, map}
 use lib.ListN.{drop}
 use lib.Dec.{leb}
-use borrow.Author.Tests.{eq-eqb, ne-eqb}
 use Rattle.spec.specs.declared.Place.{Place}
-use Rattle.spec.specs.Step.{Image, Step, program, erase}
+use Rattle.spec.specs.Step.{Image, Step, erase}
 use Rattle.spec.specs.Basics.{keep}
 use Rattle.spec.specs.Bytes.{is-clean}
 use Rattle.spec.specs.Geometry.{floor, ceiling, sectors-by, sectors}
 use Rattle.spec.specs.Chain.{reading-from}
 use Rattle.spec.specs.Reading.{head-clean}
-use Rattle.spec.specs.Mount.{free-sectors, dirty, erase-steps}
+use Rattle.spec.specs.Move.{start-steps}
+use Rattle.spec.specs.Mount.{free-sectors, dirty, erase-steps, head-low}
 use Rattle.flash.specs.declared.Meter.{Meter}
 use Rattle.flash.specs.Did.{Did, did-both}
 use Rattle.reading.specs.declared.Survey.{Survey}
 use Rattle.reading.specs.Rest.{entry-of, rest}
-use Rattle.reading.specs.RuleLaws.{head-none, head-low}
+use Rattle.reading.specs.RuleLaws.{head-none, first-low, first-clean}
 use Rattle.reading.specs.Read.{first-cursor}
 use Rattle.reading.specs.Survey.{Seen}
 use Rattle.recovery.specs.Sectors.{dirty-same, later-on}
@@ -73,22 +73,24 @@ module _ (s : Image) (p : Place) where
 
 module _ {s : Image} {h : ℕ} {v : Survey} (w : Seen s h v) where
   steps-as : (t : Bool) → head-clean (rest s (first-cursor s (v .place .head)) .entries) ≡ t
-      → steps-1 s (reading-from s h) ≡ elim t [ true ↦ erase-steps s (v .place) ++ (program h 0x00 ∷ []) | false ↦ [] ]
+      → steps-1 s (reading-from s h) ≡ elim t [
+        | true ↦ erase-steps s (v .place) ++ start-steps h (head-low (rest s (first-cursor s (v .place .head)) .entries))
+        | false ↦ []
+      ]
   unfolding steps-1
-  steps-as true e = ap (steps-1 s) (sym (w .same)) ∙ rw (steps-1, e) (ap (λ (a : ℕ). erase-steps s (v .place) ++ (program a 0x00 ∷ [])) (w .head))
+  steps-as true e =
+      let low = head-low (rest s (first-cursor s (v .place .head)) .entries) in
+      ap (steps-1 s) (sym (w .same)) ∙ rw (steps-1, e) (ap (λ (a : ℕ). erase-steps s (v .place) ++ start-steps a low) (w .head))
   steps-as false e = ap (steps-1 s) (sym (w .same)) ∙ rw (steps-1, e)
 
   pub head-missing : v .tally .records ≡ 0 → steps-1 s (reading-from s h) ≡ []
   head-missing n = steps-as false (sym (head-none (w .surveyed .tallied) n))
 
   module _ (n : v .tally .records ≡ 0 → ⊥) where
-    pub head-other : (entry-of s (v .tally .first) .it .low ≡ 0xA0 → ⊥) → steps-1 s (reading-from s h) ≡ []
-    unfolding is-clean
-    head-other e = steps-as false (sym (head-low (w .surveyed .tallied) n) ∙ ne-eqb (entry-of s (v .tally .first) .it .low) 0xA0 e)
+    pub head-other : is-clean (entry-of s (v .tally .first) .it .low) ≡ false → steps-1 s (reading-from s h) ≡ []
+    head-other e = steps-as false (sym (first-clean (w .surveyed .tallied) n) ∙ e)
 
-    pub head-cleaned : {t u : Image} {m q r : Meter} → entry-of s (v .tally .first) .it .low ≡ 0xA0 → Did s m (erase-steps s (v .place)) t q
-        → Did t q (program h 0x00 ∷ []) u r
-        → Did s m (steps-1 s (reading-from s h)) u r
-    unfolding is-clean
+    pub head-cleaned : {t u : Image} {m q r : Meter} → is-clean (entry-of s (v .tally .first) .it .low) ≡ true → Did s m (erase-steps s (v .place)) t q
+        → Did t q (start-steps h (entry-of s (v .tally .first) .it .low)) u r → Did s m (steps-1 s (reading-from s h)) u r
     head-cleaned e f g =
-        rw (steps-as true (sym (head-low (w .surveyed .tallied) n) ∙ eq-eqb (entry-of s (v .tally .first) .it .low) 0xA0 e)) (did-both f g)
+        rw (steps-as true (sym (first-clean (w .surveyed .tallied) n) ∙ e), ← first-low (w .surveyed .tallied) n) (did-both f g)

@@ -12,9 +12,9 @@ use borrow.Author.Tests.{lt-ltb, ltb-true}
 use Rattle.spec.specs.declared.Next.{Next}
 use Rattle.spec.specs.declared.Kind.{Kind}
 use Rattle.spec.specs.Basics.{long, blank}
-use Rattle.spec.specs.Bytes.{is-name-begun, ends-name, is-erased, is-reserved, is-committed, is-migrating, is-wrapped, is-dead}
+use Rattle.spec.specs.Bytes.{clears, on-way, is-high-begun, is-wrap-begun, is-erased, is-reserved, is-wrapped, is-wrap-open, is-spare, ends-name}
 use Rattle.spec.specs.Record.{size-of, name-length, data-len-of, low-of, high-of, status-of, spare-of}
-use Rattle.spec.specs.Next.{next, next-at, kind, sized, torn-at, torn-wrap-at, clear-at}
+use Rattle.spec.specs.Next.{is-torn-marker, next, next-at, kind, sized, torn-at, torn-wrap-at, clear-at}
 use Rattle.record.specs.Suffix.{long-le, long-true}
 
 never : {A : Type 0} {n d : ℕ} {x : Next} → x ≡ Next.Bad → x ≡ Next.Record n d → A
@@ -42,6 +42,9 @@ name-kept (suc k) held (b ∷ s) (c ∷ t) n e h l f = go (ends-name held b) ref
 
 -- ---- what is read off the front
 
+abbrev pub kind-of : List ℕ → Kind
+kind-of x = kind (low-of x) (high-of x) (status-of x) (spare-of x)
+
 -- a record of n name bytes and d data bytes, sized
 pub record Sized (s : List ℕ) (n' d' n d : ℕ) : Type 0 where
   pub name : n' ≡ n
@@ -64,6 +67,13 @@ sized-as : (s : List ℕ) (n d : ℕ) → n < 64 → size-of n d ≤ length s �
 unfolding sized
 sized-as s n d h l = rw (sized, lt-ltb n 64 h, long-le (size-of n d) s l)
 
+-- a torn marker is no record
+wrap-other : (s : List ℕ) {n d : ℕ} (u : Bool) → blank (drop 3 s) ≡ u → torn-wrap-at s ≡ Next.Record n d → ⊥
+unfolding torn-wrap-at
+wrap-other s {n} {d} true e h =
+    let q : Next.TornWrap ≡ Next.Record n d = rw (torn-wrap-at, e) at h in let z : _≡_ {A = ℕ} 0 1 = cc in omega arith
+wrap-other s false e h = never (rw (torn-wrap-at, e)) h
+
 module _ (s t : List ℕ) (n d : ℕ) (len : length t ≡ length s) (same : (i : ℕ) → 4 ≤ i → i < size-of n d → getD t i 0 ≡ getD s i 0) where
   record-kept : (held : Bool) → sized s (name-length 64 held (drop 8 s)) (data-len-of s) ≡ Next.Record n d
       → sized t (name-length 64 held (drop 8 t)) (data-len-of t) ≡ Next.Record n d
@@ -84,18 +94,10 @@ module _ (s t : List ℕ) (n d : ℕ) (len : length t ≡ length s) (same : (i :
       ) in
       ap₂ (sized t) a b ∙ sized-as t n d (w .short) (omega (arith, w .fits))
 
-  torn-kept : (u v : Bool) → long 16 s ≡ u → is-name-begun (getD s 8 0) ≡ v → torn-at s ≡ Next.Record n d → torn-at t ≡ Next.Record n d
+  torn-kept : (u : Bool) → long 16 s ≡ u → torn-at s ≡ Next.Record n d → torn-at t ≡ Next.Record n d
   unfolding torn-at
-  torn-kept true true e f h =
-      rw (torn-at, long-le 16 t (omega (arith, long-true 16 s e)), ap is-name-begun (same 8 (omega arith) (omega arith)) ∙ f)
-      (rw (torn-at, e, f) at h)
-  torn-kept true false e f h = never (rw (torn-at, e, f)) h
-  torn-kept false v e f h = never (rw (torn-at, e)) h
-
-  wrap-other : (u : Bool) → blank (drop 3 s) ≡ u → torn-wrap-at s ≡ Next.Record n d → ⊥
-  unfolding torn-wrap-at
-  wrap-other true e h = let q : Next.TornWrap ≡ Next.Record n d = rw (torn-wrap-at, e) at h in let z : _≡_ {A = ℕ} 0 1 = cc in omega arith
-  wrap-other false e h = never (rw (torn-wrap-at, e)) h
+  torn-kept true e h = rw (torn-at, long-le 16 t (omega (arith, long-true 16 s e))) (rw (torn-at, e) at h)
+  torn-kept false e h = never (rw (torn-at, e)) h
 
   clear-other : (u : Bool) → blank (take 8 s) ≡ u → clear-at s ≡ Next.Record n d → ⊥
   unfolding clear-at
@@ -106,28 +108,38 @@ module _ (s t : List ℕ) (n d : ℕ) (len : length t ≡ length s) (same : (i :
   unfolding next-at
   at-kept Kind.Record h = record-kept false h
   at-kept Kind.Reserved h = record-kept true h
-  at-kept Kind.Torn h = torn-kept _ _ refl refl h
+  at-kept Kind.Torn h = torn-kept _ refl h
   at-kept Kind.Marker h = absurd (let z : _≡_ {A = ℕ} 0 1 = cc in omega arith)
-  at-kept Kind.TornMarker h = absurd (wrap-other _ refl h)
+  at-kept Kind.TornMarker h = absurd (wrap-other s _ refl h)
   at-kept Kind.Clear h = absurd (clear-other _ refl h)
   at-kept Kind.Bad h = never refl h
 
-  abbrev kind-of : List ℕ → Kind
-  kind-of x = kind (low-of x) (high-of x) (status-of x) (spare-of x)
-
-  next-by : (u v : Bool) → long 1 s ≡ u → long 8 s ≡ v → kind-of t ≡ kind-of s → next s ≡ Next.Record n d → next t ≡ Next.Record n d
+  next-by : (u v : Bool) → long 1 s ≡ u → long 8 s ≡ v → (next-at (kind-of s) s ≡ Next.Record n d → kind-of t ≡ kind-of s) → next s ≡ Next.Record n d → next t ≡ Next.Record n d
   unfolding next
   next-by false v e f k h = absurd (let q : Next.Over ≡ Next.Record n d = rw (next, e) at h in let z : _≡_ {A = ℕ} 0 1 = cc in omega arith)
   next-by true false e f k h = never (rw (next, e, f)) h
   next-by true true e f k h =
       let l : 8 ≤ length s = long-true 8 s f in
-      rw (next, long-le 1 t (omega arith), long-le 8 t (omega arith)) (ap (λ (x : Kind). next-at x t) k ∙ at-kept (kind-of s) (rw (next, e, f) at h))
+      let here : next-at (kind-of s) s ≡ Next.Record n d = rw (next, e, f) at h in
+      rw (next, long-le 1 t (omega arith), long-le 8 t (omega arith)) (ap (λ (x : Kind). next-at x t) (k here) ∙ at-kept (kind-of s) here)
 
-  pub next-kept : kind (low-of t) (high-of t) (status-of t) (spare-of t) ≡ kind (low-of s) (high-of s) (status-of s) (spare-of s)
-      → next s ≡ Next.Record n d → next t ≡ Next.Record n d
+  pub next-kept : (next-at (kind-of s) s ≡ Next.Record n d → kind-of t ≡ kind-of s) → next s ≡ Next.Record n d → next t ≡ Next.Record n d
   next-kept k h = next-by _ _ refl refl k h
 
+-- 00 is no status of an unfinished marker, F8 is one
+marker-closed : (b c : ℕ) (u v : Bool) → is-wrap-begun b ≡ u → is-high-begun c ≡ v → is-torn-marker b c 0x00 ≡ false
+unfolding is-torn-marker is-wrap-open is-wrapped on-way clears
+marker-closed b c false v e f = rw (is-torn-marker, e)
+marker-closed b c true false e f = rw (is-torn-marker, e, f)
+marker-closed b c true true e f = rw (is-torn-marker, e, f)
+
 -- F8 and 00 are both a finished record's
-pub kind-dropped : (b c spare : ℕ) → kind b c 0x00 spare ≡ kind b c 0xF8 spare
-unfolding kind is-erased is-reserved is-committed is-migrating is-wrapped is-dead
-kind-dropped b c spare = refl
+module _ (b c spare : ℕ) (s : List ℕ) {n d : ℕ} (here : next-at (kind b c 0xF8 spare) s ≡ Next.Record n d) where
+  dropped-by : (u v : Bool) → is-spare spare ≡ u → is-torn-marker b c 0xF8 ≡ v → kind b c 0x00 spare ≡ kind b c 0xF8 spare
+  unfolding kind is-erased is-reserved is-wrapped next-at
+  dropped-by false v e f = rw (kind, e)
+  dropped-by true true e f = absurd (wrap-other s _ refl (rw (kind, e, f) at here))
+  dropped-by true false e f = rw (kind, e, f, marker-closed b c _ _ refl refl)
+
+  pub kind-dropped : kind b c 0x00 spare ≡ kind b c 0xF8 spare
+  kind-dropped = dropped-by _ _ refl refl

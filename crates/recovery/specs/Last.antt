@@ -12,7 +12,8 @@ use Rattle.spec.specs.Basics.{Each}
 use Rattle.spec.specs.Bytes.{is-erased, is-reserved}
 use Rattle.spec.specs.Record.{Entry}
 use Rattle.spec.specs.Chain.{reading-from}
-use Rattle.spec.specs.Mount.{torn-steps, missing-steps, reserved-steps, void-steps, last-steps, torn-wrap-steps}
+use Rattle.spec.specs.Write.{name-end-steps}
+use Rattle.spec.specs.Mount.{status-void-steps, torn-steps, missing-steps, reserved-steps, void-steps, last-steps, torn-wrap-steps}
 use Rattle.flash.specs.declared.Meter.{Meter}
 use Rattle.flash.specs.Did.{Did, did-both}
 use Rattle.reading.specs.declared.Cursor.{Cursor}
@@ -35,10 +36,10 @@ zero-steps = program 4 0x00 ∷ program 5 0x00 ∷ program 6 0x00 ∷ program 7 
 -- ---- the name's end
 
 pub name-ended : (s : Image) (a : ℕ) → getD s a 0 ≡ 0 → missing-steps s a ≡ []
-name-ended s a e = ap (λ (t : Bool). elim t [ true ↦ [] | false ↦ program a 0x00 ∷ [] ]) (eq-eqb (getD s a 0) 0 e)
+name-ended s a e = ap (λ (t : Bool). elim t [ true ↦ [] | false ↦ name-end-steps a ]) (eq-eqb (getD s a 0) 0 e)
 
-pub name-open : (s : Image) (a : ℕ) → (getD s a 0 ≡ 0 → ⊥) → missing-steps s a ≡ program a 0x00 ∷ []
-name-open s a e = ap (λ (t : Bool). elim t [ true ↦ [] | false ↦ program a 0x00 ∷ [] ]) (ne-eqb (getD s a 0) 0 e)
+pub name-open : (s : Image) (a : ℕ) → (getD s a 0 ≡ 0 → ⊥) → missing-steps s a ≡ name-end-steps a
+name-open s a e = ap (λ (t : Bool). elim t [ true ↦ [] | false ↦ name-end-steps a ]) (ne-eqb (getD s a 0) 0 e)
 
 -- ---- by its status
 
@@ -50,8 +51,8 @@ void-by s e false true p q = rw (void-steps, p, q)
 void-by s e false false p q = rw (void-steps, p, q)
 
 module _ (s : Image) (e : Spot) where
-  pub reserved-is : Whole s e → reserved-steps s (entry-of s e) ≡ missing-steps s (e .at + (8 + e .n)) ++ (program (e .at + 2) 0x00 ∷ [])
-  reserved-is w = ap (λ (n : ℕ). missing-steps s (e .at + (8 + n)) ++ (program (e .at + 2) 0x00 ∷ [])) (name-length-is s e w)
+  pub reserved-is : Whole s e → reserved-steps s (entry-of s e) ≡ missing-steps s (e .at + (8 + e .n)) ++ status-void-steps (e .at + 2) 0xFE
+  reserved-is w = ap (λ (n : ℕ). missing-steps s (e .at + (8 + n)) ++ status-void-steps (e .at + 2) 0xFE) (name-length-is s e w)
 
   status-is : entry-of s e .it .status ≡ getD s (e .at + 2) 0
   status-is = getD-drop (e .at) s 2 0

@@ -54,7 +54,7 @@ module _ (image : Image) (h : ℕ) where
 pair-moves : (N h : ℕ) (x y : Entry) (t u : Bool) → is-clean (y .it .low) ≡ t → is-start (y .it .low) ≡ u
     → (empty (pair-steps N x y) ≡ false) ⊎ (pair-head h y ≡ h)
 unfolding pair-steps pair-head
-pair-moves N h x y true u e f = inl (rw (pair-steps, e) (close-filled N x y))
+pair-moves N h x y true u e f = inl (rw (pair-steps, e) (close-filled N x y (y .it .low)))
 pair-moves N h x y false true e f = inl (rw (pair-steps, e, f))
 pair-moves N h x y false false e f = inr (rw (pair-head, e, f))
 

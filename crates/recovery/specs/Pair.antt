@@ -34,7 +34,7 @@ pub record Handed (s : Image) (h : ℕ) (m : Meter) (t : Image) (head : ℕ) (r 
 
 module _ (N h : ℕ) (x y : Entry) where
   pair-by : (t u : Bool) → is-clean (y .it .low) ≡ t → is-start (y .it .low) ≡ u
-      → (pair-steps N x y ≡ elim t [ true ↦ close-steps N x y | false ↦ elim u [ true ↦ program (x .at + 1) 0x00 ∷ [] | false ↦ [] ] ])
+      → (pair-steps N x y ≡ elim t [ true ↦ close-steps N x y (y .it .low) | false ↦ elim u [ true ↦ program (x .at + 1) 0x00 ∷ [] | false ↦ [] ] ])
       × (pair-head h y ≡ elim t [ true ↦ y .at | false ↦ elim u [ true ↦ y .at | false ↦ h ] ])
   unfolding pair-steps pair-head
   pair-by true u e f = (rw (pair-steps, e), rw (pair-head, e))
@@ -93,20 +93,18 @@ module _ {s : Image} {h : ℕ} {v : Survey} (w : Seen s h v) where
         → Handed s h m t head r
     handed-pair ss head d e = handed-by ss head d (both .0 ∙ e .0, both .1 ∙ e .1)
 
-    pub handed-clean : {m r : Meter} {t : Image} → entry-of s (v .tally .second) .it .low ≡ 0xA0
-        → Did s m (close-steps (length s) (entry-of s (v .tally .first)) (entry-of s (v .tally .second))) t r
+    pub handed-clean : {m r : Meter} {t : Image} → is-clean (entry-of s (v .tally .second) .it .low) ≡ true
+        → Did s m (close-steps (length s) (entry-of s (v .tally .first)) (entry-of s (v .tally .second)) (entry-of s (v .tally .second) .it .low)) t r
         → Handed s h m t (v .tally .second .at) r
-    unfolding x y is-clean
-    handed-clean e d = handed-pair _ _ d (pair-by (length s) h x y true _ (eq-eqb (y .it .low) 0xA0 e) refl)
+    unfolding x y
+    handed-clean e d = handed-pair _ _ d (pair-by (length s) h x y true _ e refl)
 
-    pub handed-start : {m r : Meter} {t : Image} → entry-of s (v .tally .second) .it .low ≡ 0x00
-        → Did s m (program (v .tally .first .at + 1) 0x00 ∷ []) t r → Handed s h m t (v .tally .second .at) r
-    unfolding x y is-clean is-start
-    handed-start e d =
-        handed-pair _ _ d (pair-by (length s) h x y false true (ne-eqb (y .it .low) 0xA0 (λ q. omega arith)) (eq-eqb (y .it .low) 0x00 e))
+    pub handed-start : {m r : Meter} {t : Image} → is-clean (entry-of s (v .tally .second) .it .low) ≡ false
+        → entry-of s (v .tally .second) .it .low ≡ 0x00 → Did s m (program (v .tally .first .at + 1) 0x00 ∷ []) t r → Handed s h m t (v .tally .second .at) r
+    unfolding x y is-start
+    handed-start c e d = handed-pair _ _ d (pair-by (length s) h x y false true c (eq-eqb (y .it .low) 0x00 e))
 
-    pub handed-plain : {m : Meter} → (entry-of s (v .tally .second) .it .low ≡ 0xA0 → ⊥) → (entry-of s (v .tally .second) .it .low ≡ 0x00 → ⊥)
+    pub handed-plain : {m : Meter} → is-clean (entry-of s (v .tally .second) .it .low) ≡ false → (entry-of s (v .tally .second) .it .low ≡ 0x00 → ⊥)
         → Handed s h m s h m
-    unfolding x y is-clean is-start
-    handed-plain {m} e f =
-        handed-pair [] h (did-none s m) (pair-by (length s) h x y false false (ne-eqb (y .it .low) 0xA0 e) (ne-eqb (y .it .low) 0x00 f))
+    unfolding x y is-start
+    handed-plain {m} c f = handed-pair [] h (did-none s m) (pair-by (length s) h x y false false c (ne-eqb (y .it .low) 0x00 f))

@@ -1,6 +1,6 @@
 -- The four repairs, each as its steps and the head it leaves, of the image and the reading that it meets.
 use Prim.Native.Nat.{ℕ, _+_}
-use mathlib.Core.Path.{_≡_, refl}
+use mathlib.Core.Path.{_≡_, refl, sym, ap, _∙_}
 use mathlib.Core.Bool.{Bool, true, false}
 use mathlib.Core.List.{List, [], _∷_, _++_}
 use Rattle.spec.specs.Step.{Image, Step, program}
@@ -8,17 +8,25 @@ use Rattle.spec.specs.Bytes.{is-start, is-clean}
 use Rattle.spec.specs.Record.{Entry}
 use Rattle.spec.specs.Chain.{Reading}
 use Rattle.spec.specs.Reading.{head-clean}
-use Rattle.spec.specs.Move.{Work, after, close-steps}
-use Rattle.spec.specs.Mount.{erase-steps, repair-1, repair-2, last-steps, torn-wrap-steps, repair-3, drop-steps, repair-4}
+use Rattle.spec.specs.Move.{Work, after, start-steps, close-steps}
+use Rattle.spec.specs.Mount.{erase-steps, head-low, repair-1, repair-2, last-steps, torn-wrap-steps, repair-3, drop-steps, repair-4}
+
+-- what the code asks of a low byte that it read, and what its test says
+pub clean-told : {low own : ℕ} {r t : Bool} → low ≡ own → r ≡ is-clean low → r ≡ t → is-clean own ≡ t
+clean-told e f g = ap is-clean (sym e) ∙ sym f ∙ g
 
 unfoldable pub steps-1 : Image → Reading → List Step
-steps-1 image r = elim (head-clean (r .entries)) [ true ↦ erase-steps image (r .place) ++ (program (r .place .head) 0x00 ∷ []) | false ↦ [] ]
+steps-1 image r =
+    elim (head-clean (r .entries)) [
+      | true ↦ erase-steps image (r .place) ++ start-steps (r .place .head) (head-low (r .entries))
+      | false ↦ []
+    ]
 
 -- of the first record x and the second y
 unfoldable pub pair-steps : ℕ → Entry → Entry → List Step
 pair-steps N x y =
     elim (is-clean (y .it .low)) [
-      | true ↦ close-steps N x y
+      | true ↦ close-steps N x y (y .it .low)
       | false ↦ elim (is-start (y .it .low)) [ true ↦ program (x .at + 1) 0x00 ∷ [] | false ↦ [] ]
     ]
 

@@ -168,7 +168,7 @@ module _ (s : Image) (c : Cursor) (n d : ℕ) (h : look s c ≡ Next.Record n d)
       → getD (window (set s a b) c) i 0 ≡ getD (window s c) i 0 = λ i l. byte-kept s a b c i (omega (arith, fits)) (off i l) in
       p .1 (next (window (set s a b) c))
       (next-kept (window s c) (window (set s a b) c) n d (window-long s a b c) (λ i g l. same i l)
-      (rw (same 0 (omega arith), same 1 (omega arith), same 2 (omega arith), same 3 (omega arith))) (p .0))
+      (λ here. rw (same 0 (omega arith), same 1 (omega arith), same 2 (omega arith), same 3 (omega arith))) (p .0))
 
   -- and if its status goes from F8 to 00
   pub look-dropped : c .at + 2 < length s → getD s (c .at + 2) 0 ≡ 0xF8 → look (set s (c .at + 2) 0) c ≡ Next.Record n d
@@ -184,8 +184,8 @@ module _ (s : Image) (c : Cursor) (n d : ℕ) (h : look s c ≡ Next.Record n d)
       let was : status-of (window s c) ≡ 0xF8 = getD-drop (c .at) (take (c .end) s) 2 0 ∙ getD-take (c .end) s a 0 (omega (arith, fits)) ∙ f in
       p .1 (next (window t c))
       (next-kept (window s c) (window t c) n d (window-long s a 0 c) (λ i g m. same i m (λ q. omega arith))
-      (rw (same 0 (omega arith) (λ q. omega arith), same 1 (omega arith) (λ q. omega arith), same 3 (omega arith) (λ q. omega arith), now, was)
-      (kind-dropped (low-of (window s c)) (high-of (window s c)) (spare-of (window s c)))) (p .0))
+      (λ here. rw (same 0 (omega arith) (λ q. omega arith), same 1 (omega arith) (λ q. omega arith), same 3 (omega arith) (λ q. omega arith), now, was)
+      (kind-dropped (low-of (window s c)) (high-of (window s c)) (spare-of (window s c)) (window s c) (rw was at here))) (p .0))
 
 -- ---- the step is the same
 

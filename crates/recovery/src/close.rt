@@ -1,12 +1,13 @@
 // Steps (c) to (f) of a move: X's data cleaned of false heads, its sectors erased, the head handed over to Y.
+use crate::start::to_start;
 use flash::Meter;
 use flash::erase_sectors;
 use flash::program;
 use reading::Spot;
+use record::bytes::is_clean;
+use record::bytes::is_record;
 use record::up_8;
-use spec::CLEAN;
 use spec::HIGH;
-use spec::RECORD;
 use spec::SECTOR;
 use spec::START;
 use spec::floor;
@@ -28,10 +29,10 @@ fn is_mark(b: u8, c: u8) -> bool
     if b == START {
         return c == HIGH;
     }
-    if b == CLEAN {
+    if is_clean(b) {
         return c == HIGH;
     }
-    if b == RECORD {
+    if is_record(b) {
         return c == HIGH;
     }
     false
@@ -73,26 +74,27 @@ fn vacated_end(length: usize, y: usize) -> usize
     floor(y)
 }
 
-// Steps (d) to (f): Y becomes START only after the erases, and X's second byte goes only where X's sector was not erased.
-fn vacate(image: &mut [u8], x: usize, y: usize, m: Meter) -> Meter
-    requires { ⌜ (x + 1 < length (now image)) × (y < length (now image)) × (length (now image) ≤ 2 ^ 24) × (m .asked + length (now image) + 2 ≤ 2 ^ 32) ⌝ }
-    ensures { λ r. ⌜ Did (now (image .entry)) m (leave-steps x y (sectors (floor x) (end-before (length (now (image .entry))) y))) (now (image .exit)) r × (r .asked ≤ m .asked + length (now (image .entry)) + 2) ⌝ }
+// Steps (d) to (f), of a Y with this low byte: Y becomes START only after the erases, and X's second byte goes only where
+// X's sector was not erased.
+fn vacate(image: &mut [u8], x: usize, y: usize, low: u8, m: Meter) -> Meter
+    requires { ⌜ (x + 1 < length (now image)) × (y < length (now image)) × (length (now image) ≤ 2 ^ 24) × (m .asked + length (now image) + 3 ≤ 2 ^ 32) ⌝ }
+    ensures { λ r. ⌜ Did (now (image .entry)) m (leave-steps x y low (sectors (floor x) (end-before (length (now (image .entry))) y))) (now (image .exit)) r × (r .asked ≤ m .asked + length (now (image .entry)) + 3) ⌝ }
 {
     let from = floor(x);
     let to = vacated_end(image.len(), y);
     let a = erase_sectors(image, from, to, m);
-    let b = program(image, y, START, a);
+    let b = to_start(image, y, low, a);
     if from + SECTOR <= to {
         return b;
     }
     program(image, x + 1, 0x00, b)
 }
 
-// Steps (c) to (f), of the records that stand at x and y.
-pub fn close(image: &mut [u8], x: Spot, y: Spot, m: Meter) -> Meter
-    requires { ⌜ Whole (now image) x × Whole (now image) y × (length (now image) ≤ 2 ^ 24) × (m .asked + 2 * length (now image) + 2 ≤ 2 ^ 32) ⌝ }
-    ensures { λ r. ⌜ Did (now (image .entry)) m (close-steps (length (now (image .entry))) (entry-of (now (image .entry)) x) (entry-of (now (image .entry)) y)) (now (image .exit)) r × (r .asked ≤ m .asked + 2 * length (now (image .entry)) + 2) ⌝ }
+// Steps (c) to (f), of the records that stand at x and y, with Y's low byte.
+pub fn close(image: &mut [u8], x: Spot, y: Spot, low: u8, m: Meter) -> Meter
+    requires { ⌜ Whole (now image) x × Whole (now image) y × (length (now image) ≤ 2 ^ 24) × (m .asked + 2 * length (now image) + 3 ≤ 2 ^ 32) ⌝ }
+    ensures { λ r. ⌜ Did (now (image .entry)) m (close-steps (length (now (image .entry))) (entry-of (now (image .entry)) x) (entry-of (now (image .entry)) y) low) (now (image .exit)) r × (r .asked ≤ m .asked + 2 * length (now (image .entry)) + 3) ⌝ }
 {
     let a = clean_data(image, x.at + 8 + up_8(x.n + 1), x.d, m);
-    vacate(image, x.at, y.at, a)
+    vacate(image, x.at, y.at, low, a)
 }

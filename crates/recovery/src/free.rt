@@ -1,13 +1,12 @@
 // Repair 1: behind a CLEAN head the free run is erased where it isn't FF, and the head becomes START.
 use crate::sectors::erase_dirty;
+use crate::start::to_start;
 use flash::Meter;
-use flash::program;
 use reading::image::survey;
 use reading::scan::low_of;
-use spec::CLEAN;
+use record::bytes::is_clean;
 use spec::Place;
 use spec::SECTOR;
-use spec::START;
 use spec::floor;
 ghost use mathlib.Core.Path.{_≡_};
 ghost use mathlib.Core.Bool.{false};
@@ -44,8 +43,8 @@ fn erase_run(image: &mut [u8], p: Place, m: Meter) -> Meter
 
 // The repair, on what is read from the head h on.
 pub fn erase_free(image: &mut [u8], h: usize, m: Meter) -> Meter
-    requires { ⌜ (h < length (now image)) × (16 ≤ length (now image)) × (length (now image) ≤ 2 ^ 24) × (m .asked + 2 * length (now image) + 1 ≤ 2 ^ 32) ⌝ }
-    ensures { λ r. ⌜ Did (now (image .entry)) m (steps-1 (now (image .entry)) (reading-from (now (image .entry)) h)) (now (image .exit)) r × (r .asked ≤ m .asked + 2 * length (now (image .entry)) + 1) ⌝ }
+    requires { ⌜ (h < length (now image)) × (16 ≤ length (now image)) × (length (now image) ≤ 2 ^ 24) × (m .asked + 2 * length (now image) + 2 ≤ 2 ^ 32) ⌝ }
+    ensures { λ r. ⌜ Did (now (image .entry)) m (steps-1 (now (image .entry)) (reading-from (now (image .entry)) h)) (now (image .exit)) r × (r .asked ≤ m .asked + 2 * length (now (image .entry)) + 2) ⌝ }
 {
     let s = survey(image, h);
     let t = s.tally;
@@ -54,9 +53,10 @@ pub fn erase_free(image: &mut [u8], h: usize, m: Meter) -> Meter
         return m;
     }
     let first = t.first;
-    if low_of(image, first) == CLEAN {
+    let low = low_of(image, first);
+    if is_clean(low) {
         let a = erase_run(image, p, m);
-        return program(image, h, START, a);
+        return to_start(image, h, low, a);
     }
     m
 }

@@ -5,7 +5,7 @@ use flash::Meter;
 use flash::program;
 use reading::image::survey;
 use reading::scan::low_of;
-use spec::CLEAN;
+use record::bytes::is_clean;
 use spec::START;
 ghost use mathlib.Core.Path.{_≡_};
 ghost use Prim.Native.Nat.{_+_, _*_, _≤_, _<_, _^_};
@@ -23,8 +23,8 @@ fn at_head(head: usize, m: Meter) -> Progress
 
 // The repair, on what is read from the head h on: a second record CLEAN, START, or neither.
 pub fn hand_over(image: &mut [u8], h: usize, m: Meter) -> Progress
-    requires { ⌜ (h < length (now image)) × (16 ≤ length (now image)) × (length (now image) ≤ 2 ^ 24) × (m .asked + 2 * length (now image) + 2 ≤ 2 ^ 32) ⌝ }
-    ensures { λ r. ⌜ Handed (now (image .entry)) h m (now (image .exit)) (r .head) (r .meter) × (r .meter .asked ≤ m .asked + 2 * length (now (image .entry)) + 2) × (r .head < length (now (image .entry))) ⌝ }
+    requires { ⌜ (h < length (now image)) × (16 ≤ length (now image)) × (length (now image) ≤ 2 ^ 24) × (m .asked + 2 * length (now image) + 3 ≤ 2 ^ 32) ⌝ }
+    ensures { λ r. ⌜ Handed (now (image .entry)) h m (now (image .exit)) (r .head) (r .meter) × (r .meter .asked ≤ m .asked + 2 * length (now (image .entry)) + 3) × (r .head < length (now (image .entry))) ⌝ }
 {
     let s = survey(image, h);
     let t = s.tally;
@@ -34,8 +34,8 @@ pub fn hand_over(image: &mut [u8], h: usize, m: Meter) -> Progress
     let x = t.first;
     let y = t.second;
     let low = low_of(image, y);
-    if low == CLEAN {
-        return at_head(y.at, close(image, x, y, m));
+    if is_clean(low) {
+        return at_head(y.at, close(image, x, y, low, m));
     }
     if low == START {
         return at_head(y.at, program(image, x.at + 1, 0x00, m));

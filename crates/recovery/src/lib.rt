@@ -5,6 +5,7 @@ mod free;
 mod hand;
 mod last;
 pub mod sectors;
+mod start;
 mod superseded;
 
 use flash::Meter;

@@ -15,7 +15,7 @@ use Rattle.spec.specs.Step.{Image, Step, program, bytes-at, moved}
 use Rattle.spec.specs.Bytes.{is-committed}
 use Rattle.spec.specs.Record.{four, size-of, size, Entry, name-of, content-of}
 use Rattle.spec.specs.Place.{fits, address, with-marker}
-use Rattle.spec.specs.Write.{marker-steps, header-steps, name-steps, data-steps, commit-steps, record-steps, migrate-steps, delete-steps, turn-steps, put-steps}
+use Rattle.spec.specs.Write.{name-end-steps, marker-steps, header-steps, name-steps, data-steps, commit-steps, record-steps, migrate-steps, delete-steps, turn-steps, put-steps}
 use Rattle.flash.specs.declared.Meter.{Meter}
 use Rattle.flash.specs.Did.{Did}
 use Rattle.writing.specs.Steps.{record-count}
@@ -37,7 +37,7 @@ turn-few p z = go (with-marker p z) where
   go true = omega arith
   go false = omega arith
 
-pub copy-few : (p : Place) (x : Entry) → length (copy-of p x) ≤ length (name-of x) + length (content-of x) + 14
+pub copy-few : (p : Place) (x : Entry) → length (copy-of p x) ≤ length (name-of x) + length (content-of x) + 15
 unfolding put-steps
 copy-few p x =
     let z : ℕ = size x in
@@ -81,8 +81,8 @@ inside-record name content z e =
       ),
     )
     (inside-append 0 z (name-steps name) (d ++ commit-steps)
-    (inside-append 0 z (bytes-at 8 name) (program (8 + length name) 0x00 ∷ []) (inside-bytes 0 z 8 name (omega arith) (omega arith))
-    (omega arith, omega arith, tt))
+    (inside-append 0 z (bytes-at 8 name) (name-end-steps (8 + length name)) (inside-bytes 0 z 8 name (omega arith) (omega arith))
+    (omega arith, omega arith, (omega arith, omega arith, tt)))
     (inside-append 0 z d commit-steps (inside-bytes 0 z (8 + up8 (length name + 1)) content (omega arith) (omega arith))
     (omega arith, omega arith, tt)))
 

@@ -3,7 +3,7 @@ use Prim.Native.Nat.{ℕ, _+_, _-_, _%_, _≤_, _<_}
 use native.Mathlib.Omega.{arith}
 use native.Mathlib.Nat.{add-zero, not-suc-le-zero}
 use mathlib.Core.Path.{_≡_, refl, sym, ap, _∙_}
-use mathlib.Core.Bool.{Bool, true, false, _&&_, _||_, cond}
+use mathlib.Core.Bool.{Bool, true, false, _||_, cond}
 use mathlib.Core.Logic.{_⊎_, inl, inr}
 use mathlib.Core.List.{List, [], _∷_}
 use lib.ListN.{length, drop, getD, length-drop}
@@ -13,18 +13,18 @@ use Rattle.spec.specs.declared.Kind.{Kind}
 use Rattle.spec.specs.Step.{Image}
 use Rattle.spec.specs.Basics.{long}
 use Rattle.spec.specs.Geometry.{floor}
-use Rattle.spec.specs.Bytes.{is-record, is-wrap, is-start, is-clean, is-high, is-high-begun, is-erased, is-reserved, is-committed, is-migrating, is-dead, is-spare}
+use Rattle.spec.specs.Bytes.{clears, on-way, under-way, is-record, is-wrap, is-start, is-clean, is-record-begun, is-wrap-begun, is-high, is-erased, is-reserved, is-spare}
 use Rattle.spec.specs.Record.{low-of, high-of, status-of, spare-of, data-len-of, size-of, name-length}
-use Rattle.spec.specs.Next.{kind, sized, next-at, next}
+use Rattle.spec.specs.Next.{is-torn-marker, kind, sized, next-at, next}
 use Rattle.reading.specs.declared.Cursor.{Cursor}
 use Rattle.reading.specs.declared.Spot.{Spot}
 use Rattle.reading.specs.Cursor.{look, goes-on, unfinished-at, past}
 use Rattle.reading.specs.Read.{first-cursor}
 use Rattle.sweeping.specs.Way.{From, here, turned, Reached, On, never, room-left, from-on}
 
--- the first byte of a head: START or CLEAN
+-- the first byte of a head: START or CLEAN, with 80 as A0
 abbrev pub Low : ℕ → Type 0
-Low b = (b ≡ 0x00) ⊎ (b ≡ 0xA0)
+Low b = (b ≡ 0x00) ⊎ ((b ≡ 0xA0) ⊎ (b ≡ 0x80))
 
 -- ---- what stands there is a record or breaks a rule
 
@@ -41,31 +41,22 @@ either : (t : Bool) (a b : Kind) → Plain a → Plain b → Plain (cond t a b)
 either true a b p q = p
 either false a b p q = q
 
-unclear : (t : Bool) → Plain (cond (t && false) Kind.Clear Kind.Bad)
-unclear true = tt
-unclear false = tt
+-- the first byte is on no way to a record's or a marker's, is not FF and not a marker's
+module _ (b c st spare : ℕ) (r : is-record-begun b ≡ false) (w : is-wrap-begun b ≡ false) (f : eqb b 0xFF ≡ false) (m : is-wrap b ≡ false) where
+  kind-plain : Plain (kind b c st spare)
+  unfolding kind is-torn-marker
+  kind-plain =
+      rw (kind, is-torn-marker, r, w, f, m)
+      (either (is-spare spare) _ Kind.Bad
+      (either (is-erased st) Kind.Bad _ tt
+      (either (is-high c) _ Kind.Bad
+      (either (is-record b || is-start b || is-clean b) _ Kind.Bad (either (is-reserved st) Kind.Reserved Kind.Record tt tt) tt) tt)) tt)
 
-module _ (c st spare : ℕ) where
-  written-plain : Plain (cond (is-reserved st) Kind.Reserved (cond (is-committed st || is-migrating st || is-dead st) Kind.Record Kind.Bad))
-  written-plain = either (is-reserved st) Kind.Reserved _ tt (either (is-committed st || is-migrating st || is-dead st) Kind.Record Kind.Bad tt tt)
-
-  kind-start : Plain (kind 0x00 c st spare)
-  unfolding kind is-record is-wrap is-start is-clean
-  kind-start =
-      either (is-spare spare) _ Kind.Bad
-      (either (is-erased st) _ _ (either (is-high-begun c) _ Kind.Bad (unclear (eqb c 0xFF)) tt) (either (is-high c) _ Kind.Bad written-plain tt))
-      tt
-
-  kind-clean : Plain (kind 0xA0 c st spare)
-  unfolding kind is-record is-wrap is-start is-clean
-  kind-clean =
-      either (is-spare spare) _ Kind.Bad
-      (either (is-erased st) _ _ (either (is-high-begun c) _ Kind.Bad (unclear (eqb c 0xFF)) tt) (either (is-high c) _ Kind.Bad written-plain tt))
-      tt
-
-  low-plain : (b : ℕ) → Low b → Plain (kind b c st spare)
-  low-plain b (inl e) = rw e kind-start
-  low-plain b (inr e) = rw e kind-clean
+low-plain : (b c st spare : ℕ) → Low b → Plain (kind b c st spare)
+unfolding is-record-begun is-wrap-begun under-way on-way clears is-wrap
+low-plain b c st spare (inl e) = rw e (kind-plain 0x00 c st spare refl refl refl refl)
+low-plain b c st spare (inr (inl e)) = rw e (kind-plain 0xA0 c st spare refl refl refl refl)
+low-plain b c st spare (inr (inr e)) = rw e (kind-plain 0x80 c st spare refl refl refl refl)
 
 module _ (room : ℕ) (s : List ℕ) where
   sized-plain : (n d : ℕ) (t u : Bool) → ltb n 64 ≡ t → long (size-of n d) s ≡ u → goes-on room (sized s n d) ≡ false
@@ -104,7 +95,7 @@ module _ (image : Image) (h : ℕ) (l : h < length image) (b : Low (getD image h
       let s : List ℕ = drop h image in
       let e : low-of s ≡ getD image h 0 = getD-drop h image 0 0 ∙ ap (λ (i : ℕ). getD image i 0) (add-zero h) in
       ap (λ (t : List ℕ). goes-on (floor h) (next (drop h t))) (take-length image)
-      ∙ next-plain (floor h) s _ (low-plain (high-of s) (status-of s) (spare-of s) (low-of s) (rw e b)) (one-long s (rw length-drop (omega arith)))
+      ∙ next-plain (floor h) s _ (low-plain (low-of s) (high-of s) (status-of s) (spare-of s) (rw e b)) (one-long s (rw length-drop (omega arith)))
       refl
 
   from-here : (d : Cursor) → From image (first-cursor image h) d → d ≡ first-cursor image h

@@ -35,7 +35,7 @@ pub record Handed (s : Image) (h : ℕ) (m : Meter) (t : Image) (r : Moved) : Ty
   pub did : Did s m (handing s h) t (r .meter)
   pub head : r .head ≡ heading s h
   pub led : r .meter .asked ≤ r .meter .allowance → Led t (r .head)
-  pub few : r .meter .asked ≤ m .asked + 2 * length s + 3
+  pub few : r .meter .asked ≤ m .asked + 2 * length s + 4
 
 -- ---- the head's first byte is START then
 
@@ -50,22 +50,26 @@ zeroed s y i h = go (eqb y i) refl where
   go true e = let q : y ≡ i = eqb-true y i e in rw (← q) (getD-set-same (set s y 0) y 0 0 (rw length-set h))
   go false e = getD-set-other (set s y 0) i y 0 0 (eqb-false y i e) ∙ getD-set-same s y 0 0 h
 
-last-low : (s : Image) (x : Entry) (y : ℕ) (starts : List ℕ) → y < length s → getD (run s (program y 0x00 ∷ forget-steps x starts)) y 0 ≡ 0
+-- START, and what (f) does then
+abbrev started : Entry → ℕ → List ℕ → List Step
+started x y starts = program y 0x00 ∷ forget-steps x starts
+
+last-low : (s : Image) (x : Entry) (y : ℕ) (starts : List ℕ) → y < length s → getD (run s (started x y starts)) y 0 ≡ 0
 last-low s x y [] h = zeroed s y (x .at + 1) h
 last-low s x y (a ∷ rest) h = getD-set-same s y 0 0 h
 
-last-length : (s : Image) (x : Entry) (y : ℕ) (starts : List ℕ) → length (run s (program y 0x00 ∷ forget-steps x starts)) ≡ length s
+last-length : (s : Image) (x : Entry) (y : ℕ) (starts : List ℕ) → length (run s (started x y starts)) ≡ length s
 last-length s x y [] = length-set (set s y 0) (x .at + 1) 0 ∙ length-set s y 0
 last-length s x y (a ∷ rest) = length-set s y 0
 
-close-low : (s : Image) (N : ℕ) (x y : Entry) → y .at < length (run s (close-steps N x y)) → getD (run s (close-steps N x y)) (y .at) 0 ≡ 0
+close-low : (s : Image) (N : ℕ) (x y : Entry) → y .at < length (run s (close-steps N x y 0xA0)) → getD (run s (close-steps N x y 0xA0)) (y .at) 0 ≡ 0
 unfolding close-steps
 close-low s N x y h =
     let starts : List ℕ = vacated N x y in
     let clean : List Step = clean-steps (length (content-of x)) (data-at x) (content-of x) in
-    let u : Image = run (run s clean) (map erase starts) in
-    let e : run s (clean ++ vacate-steps x y starts) ≡ run u (program (y .at) 0x00 ∷ forget-steps x starts) =
-    run-append s clean (vacate-steps x y starts) ∙ run-append (run s clean) (map erase starts) (program (y .at) 0x00 ∷ forget-steps x starts) in
+    let u : Image = set (run (run s clean) (map erase starts)) (y .at) 0x80 in
+    let e : run s (clean ++ vacate-steps x y 0xA0 starts) ≡ run u (started x (y .at) starts) =
+    run-append s clean (vacate-steps x y 0xA0 starts) ∙ run-append (run s clean) (map erase starts) (program (y .at) 0x80 ∷ started x (y .at) starts) in
     ap (λ (i : Image). getD i (y .at) 0) e ∙ last-low u x (y .at) starts (omega (arith, ap length e, last-length u x (y .at) starts))
 
 -- ---- how the code comes to it
@@ -109,15 +113,15 @@ module _ {s : Image} {h : ℕ} (w : Led s h) (m : Meter) where
           kept (x .at + 8 + up8 (x .n + 1)) (x .d) g (off, tt)
 
       same-close : {v : Image} {a : Meter} → length v ≡ length s → Did s m (program (y .at) 0xA0 ∷ []) v a
-          → close-steps (length v) (entry-of v x) (entry-of v y) ≡ close-steps (length s) (entry-of s x) (entry-of s y)
+          → close-steps (length v) (entry-of v x) (entry-of v y) 0xA0 ≡ close-steps (length s) (entry-of s x) (entry-of s y) 0xA0
       same-close {v} l g =
           let a : ℕ = x .at + 8 + up8 (x .n + 1) in
-          close-is v x y (record { fits = omega (arith, t .turned .whole .fits) })
-          ∙ ap₂ (λ (own : List ℕ) (N : ℕ). clean-steps (x .d) a own ++ leave-steps (x .at) (y .at) (sectors (floor (x .at)) (end-before N (y .at))))
+          close-is v x y 0xA0 (record { fits = omega (arith, t .turned .whole .fits) })
+          ∙ ap₂ (λ (own : List ℕ) (N : ℕ). clean-steps (x .d) a own ++ leave-steps (x .at) (y .at) 0xA0 (sectors (floor (x .at)) (end-before N (y .at))))
           (same-data g) l
-          ∙ sym (close-is s x y (t .turned .whole))
+          ∙ sym (close-is s x y 0xA0 (t .turned .whole))
 
-      handing-is : handing s h ≡ program (y .at) 0xA0 ∷ close-steps (length s) (entry-of s x) (entry-of s y)
+      handing-is : handing s h ≡ program (y .at) 0xA0 ∷ close-steps (length s) (entry-of s x) (entry-of s y) 0xA0
       unfolding handing
       handing-is = ap₂ hand-steps (stands s h w .whole) two
 
@@ -126,12 +130,12 @@ module _ {s : Image} {h : ℕ} (w : Led s h) (m : Meter) where
       heading-is = ap (hand-head h) two
 
       pub hand-two : {v z : Image} {a q : Meter} → length v ≡ length s → length z ≡ length s → Did s m (program (y .at) 0xA0 ∷ []) v a
-          → Did v a (close-steps (length v) (entry-of v x) (entry-of v y)) z q → q .asked ≤ a .asked + 2 * length v + 2
+          → Did v a (close-steps (length v) (entry-of v x) (entry-of v y) 0xA0) z q → q .asked ≤ a .asked + 2 * length v + 3
           → Handed s h m z (record { head = y .at; meter = q })
       hand-two {v} {z} {a} {q} l k g i b =
           let did : Did s m (handing s h) z q = rw handing-is (did-both g (rw (same-close l g) at i)) in
           let low : q .asked ≤ q .allowance → getD z (y .at) 0 ≡ 0 = λ n.
-          let j : z ≡ run (run s (program (y .at) 0xA0 ∷ [])) (close-steps (length s) (entry-of s x) (entry-of s y)) = did-all did n
+          let j : z ≡ run (run s (program (y .at) 0xA0 ∷ [])) (close-steps (length s) (entry-of s x) (entry-of s y) 0xA0) = did-all did n
           ∙ ap (run s) handing-is in
           ap (λ (i : Image). getD i (y .at) 0) j
           ∙ close-low (run s (program (y .at) 0xA0 ∷ [])) (length s) (entry-of s x) (entry-of s y)

@@ -42,7 +42,7 @@ led-still w l e =
       small = omega (arith, w .small);
     }
 
-module _ {s t : Image} {h : ℕ} {m a : Meter} (w : Led s h) (d : Did s m (copying s h) t a) (few : a .asked ≤ m .asked + length s + 14) where
+module _ {s t : Image} {h : ℕ} {m a : Meter} (w : Led s h) (d : Did s m (copying s h) t a) (few : a .asked ≤ m .asked + length s + 15) where
   steps-are : moving s h .steps ≡ copying s h ++ handing (run s (copying s h)) h
   steps-are = ap (λ (v : Work). v .steps) (move-is s h (stands s h w .head))
 

@@ -181,7 +181,7 @@ module _ {s : Image} {p : Place} (w : Headed s p) where
 
   module _ {t : Image} {m r : Meter} where
     pub copied : {n d : ℕ} → Copies s p n d → Did s m (copy-of p (entry-at s (p .head) n d)) t r
-        → Did s m (copying s (p .head)) t r × (r .asked ≤ m .asked + length s + 14) × (getD t (p .head) 0 ≡ getD s (p .head) 0)
+        → Did s m (copying s (p .head)) t r × (r .asked ≤ m .asked + length s + 15) × (getD t (p .head) 0 ≡ getD s (p .head) 0)
     copied {n} {d} c f =
         let x : Spot = record { at = p .head; n = n; d = d } in
         let long : p .length ≡ length s = subst (Standing (length s) (p .head) (p .head)) (sym (w .same)) (stands s (p .head) (w .led)) .whole in
@@ -194,6 +194,6 @@ module _ {s : Image} {p : Place} (w : Headed s p) where
           copy-keeps-low p (entry-of s x) refl (rw z (c .ends)) (rw z (c .taken)) f,
         )
 
-  pub not-copied : {m : Meter} → copying s (p .head) ≡ [] → Did s m (copying s (p .head)) s m × (m .asked ≤ m .asked + length s + 14)
+  pub not-copied : {m : Meter} → copying s (p .head) ≡ [] → Did s m (copying s (p .head)) s m × (m .asked ≤ m .asked + length s + 15)
       × (getD s (p .head) 0 ≡ getD s (p .head) 0)
   not-copied {m} e = (rw e (did-none s m), omega arith, refl)

@@ -6,14 +6,14 @@ use mathlib.Core.List.{List, [], _∷_, _++_, append-nil}
 use Rattle.spec.specs.Step.{Image, Step, program, run}
 use Rattle.spec.specs.Record.{Entry}
 use Rattle.spec.specs.Chain.{Reading, reading-from}
-use Rattle.spec.specs.Move.{Work, begin, reread, after, copy-steps, close-steps, hand-over, moved-on, move}
+use Rattle.spec.specs.Move.{Work, begin, reread, after, copy-steps, to-clean-step, close-steps, hand-over, moved-on, move}
 use Rattle.spec.specs.Sweep.{stuck, moves}
 
 -- (b) to (f), of the records of a chain; with no second record there is nothing to do
 abbrev pub hand-steps : ℕ → List Entry → List Step
 hand-steps N [] = []
 hand-steps N (x ∷ []) = []
-hand-steps N (x ∷ (y ∷ es)) = program (y .at) 0xA0 ∷ close-steps N x y
+hand-steps N (x ∷ (y ∷ es)) = to-clean-step y ∷ close-steps N x y 0xA0
 
 -- the head then, where it was h
 abbrev pub hand-head : ℕ → List Entry → ℕ

@@ -62,7 +62,7 @@ pub fn no_room(image: &[u8], place: Place) -> bool
 // Step (a).
 fn copy(image: &mut [u8], place: Place, plan: Plan, m: Meter) -> Meter
     requires { ⌜ Headed (now image) place × Going (now image) place plan × (m .asked ≤ 2 ^ 31) ⌝ }
-    ensures { λ r. ⌜ Did (now (image .entry)) m (copying (now (image .entry)) (place .head)) (now (image .exit)) r × (r .asked ≤ m .asked + length (now (image .entry)) + 14) × (getD (now (image .exit)) (place .head) 0 ≡ getD (now (image .entry)) (place .head) 0) ⌝ }
+    ensures { λ r. ⌜ Did (now (image .entry)) m (copying (now (image .entry)) (place .head)) (now (image .exit)) r × (r .asked ≤ m .asked + length (now (image .entry)) + 15) × (getD (now (image .exit)) (place .head) 0 ≡ getD (now (image .entry)) (place .head) 0) ⌝ }
 {
     match plan {
         Plan::Stop(_) => m,
@@ -73,7 +73,7 @@ fn copy(image: &mut [u8], place: Place, plan: Plan, m: Meter) -> Meter
 
 // Steps (b) to (f), of the first two records from the head on; with fewer there is nothing to do.
 fn hand_over(image: &mut [u8], head: usize, m: Meter) -> Moved
-    requires { ⌜ Led (now image) head × (m .asked + 2 * length (now image) + 3 ≤ 2 ^ 32) ⌝ }
+    requires { ⌜ Led (now image) head × (m .asked + 2 * length (now image) + 4 ≤ 2 ^ 32) ⌝ }
     ensures { λ r. ⌜ Handed (now (image .entry)) head m (now (image .exit)) r ⌝ }
 {
     let Step::Record(x, past) = advance(image, first_cursor(image, head)) else {
@@ -89,7 +89,7 @@ fn hand_over(image: &mut [u8], head: usize, m: Meter) -> Moved
         };
     };
     let a = program(image, y.at, CLEAN, m);
-    let b = close(image, x, y, a);
+    let b = close(image, x, y, CLEAN, a);
     Moved {
         head: y.at,
         meter: b,

@@ -30,7 +30,7 @@ returns : tie.Need-returns
 returns c =
     let c6 = c .before .before .before .before .before .before in let c7 = c6 .before in let c12 = c7 .before .before .before .before .before in
     let a = c12 .args in (
-      closed (a .image .now) (a .x) (a .y) (c12 .pre .0) (c7 .up-8 .result) (c7 .up-8 .ensures) (omega arith) (c6 .clean-data .ensures .0)
+      closed (a .image .now) (a .x) (a .y) (a .low) (c12 .pre .0) (c7 .up-8 .result) (c7 .up-8 .ensures) (omega arith) (c6 .clean-data .ensures .0)
           (c .before .before .vacate .ensures .0),
       omega arith,
     )

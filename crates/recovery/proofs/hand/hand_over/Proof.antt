@@ -2,6 +2,7 @@
 use mathlib.Core.Path.{sym, _∙_}
 use native.Mathlib.Omega.{arith}
 use Rattle.recovery.specs.Pair.{handed-few, handed-clean, handed-start, handed-plain}
+use Rattle.recovery.specs.Repairs.{clean-told}
 use borrow.Author.Needs.{needs}
 use Rattle.recovery.proofs.hand.hand_over.Statement.{statement}
 use Rattle.recovery.proofs.hand.hand_over.Tie as tie
@@ -22,6 +23,9 @@ returns c =
 low-of-requires : tie.Need-low-of-requires
 low-of-requires c κs = search needs
 
+is-clean-requires : tie.Need-is-clean-requires
+is-clean-requires c κs = search needs
+
 close-requires : tie.Need-close-requires
 close-requires c κs = search needs
 
@@ -33,10 +37,12 @@ same-length-2 c = search needs
 
 returns-2 : tie.Need-returns-2
 returns-2 c =
-    let c5 = c .before .before .before .before .before in let c6 = c5 .before in let c10 = c6 .before .before .before .before in
-    let w = c10 .before .before .before .survey .ensures in
+    let c5 = c .before .before .before .before .before in let c6 = c5 .before in let c7 = c6 .before in
+    let c11 = c7 .before .before .before .before in
+    let w = c11 .before .before .before .survey .ensures in
     rw (c .at-head2 .ensures) (
-      handed-clean w (c10 .if1 .left) (sym (c6 .low-of .ensures) ∙ c5 .if2 .taken) (c .before .before .before .close .ensures .0),
+      handed-clean w (c11 .if1 .left) (clean-told (c7 .low-of .ensures) (c6 .is-clean .ensures) (c5 .if2 .taken))
+          (rw (c7 .low-of .ensures) at (c .before .before .before .close .ensures .0)),
       omega arith,
       omega (arith, w .surveyed .tallied .spots .second .fits),
     )
@@ -55,10 +61,12 @@ same-length-3 c = search needs
 
 returns-3 : tie.Need-returns-3
 returns-3 c =
-    let c6 = c .before .before .before .before .before .before in let c8 = c6 .before .before in let c12 = c8 .before .before .before .before in
-    let w = c12 .before .before .before .survey .ensures in
+    let c6 = c .before .before .before .before .before .before in let c7 = c6 .before in let c8 = c7 .before in let c9 = c8 .before in
+    let c13 = c9 .before .before .before .before in
+    let w = c13 .before .before .before .survey .ensures in
     rw (c .at-head3 .ensures) (
-      handed-start w (c12 .if1 .left) (sym (c8 .low-of .ensures) ∙ c6 .if3 .taken) (c .before .before .before .program .ensures),
+      handed-start w (c13 .if1 .left) (clean-told (c9 .low-of .ensures) (c8 .is-clean .ensures) (c7 .if2 .left))
+          (sym (c9 .low-of .ensures) ∙ c6 .if3 .taken) (c .before .before .before .program .ensures),
       omega arith,
       omega (arith, w .surveyed .tallied .spots .second .fits),
     )
@@ -71,13 +79,13 @@ same-length-4 c = search needs
 
 returns-4 : tie.Need-returns-4
 returns-4 c =
-    let c3 = c .before .before .before in let c7 = c3 .before .before .before .before in
-    let w = c7 .before .before .before .survey .ensures in
+    let c2 = c .before .before in let c3 = c2 .before in let c4 = c3 .before in let c8 = c4 .before .before .before .before in
+    let w = c8 .before .before .before .survey .ensures in
     rw (c .at-head4 .ensures) (
-      handed-plain w (c7 .if1 .left) (λ q. c .before .before .if2 .left (c3 .low-of .ensures ∙ q))
-          (λ q. c .before .if3 .left (c3 .low-of .ensures ∙ q)),
+      handed-plain w (c8 .if1 .left) (clean-told (c4 .low-of .ensures) (c3 .is-clean .ensures) (c2 .if2 .left))
+          (λ q. c .before .if3 .left (c4 .low-of .ensures ∙ q)),
       omega arith,
-      omega arith,
+      omega (arith, c8 .before .before .before .before .before .before .pre .0),
     )
 
 pub hand-over-spec : {M : Type 1} → statement M
@@ -89,6 +97,7 @@ hand-over-spec =
     same-length
     returns
     low-of-requires
+    is-clean-requires
     close-requires
     at-head-requires-2
     same-length-2

@@ -14,8 +14,8 @@ returns c =
     let a = c .before .before .before .args in
     (rw (name-ended (a .image .now) (a .at) (c .if1 .taken)) (did-none (a .image .now) (a .m)), omega arith)
 
-program-requires : tie.Need-program-requires
-program-requires c κs = search needs
+write-end-requires : tie.Need-write-end-requires
+write-end-requires c κs = search needs
 
 same-length : tie.Need-same-length
 same-length c = search needs
@@ -23,7 +23,7 @@ same-length c = search needs
 returns-2 : tie.Need-returns-2
 returns-2 c =
     let a = c .before .before .before .before .before .before .before .args in
-    (rw (name-open (a .image .now) (a .at) (c .before .before .before .before .if1 .left)) (c .before .before .program .ensures), omega arith)
+    (rw (name-open (a .image .now) (a .at) (c .before .before .before .before .if1 .left)) (c .before .before .write-end .ensures), omega arith)
 
 pub end-name-spec : {M : Type 1} → statement M
-end-name-spec = tie.close (tie.spec slice-read-if1 returns program-requires same-length returns-2)
+end-name-spec = tie.close (tie.spec slice-read-if1 returns write-end-requires same-length returns-2)

@@ -11,8 +11,8 @@ enum-told c = search needs
 enum-known-ending : tie.Need-enum-known-ending
 enum-known-ending c = search needs
 
-finish-marker-requires : tie.Need-finish-marker-requires
-finish-marker-requires c κs =
+write-marker-requires : tie.Need-write-marker-requires
+write-marker-requires c κs =
     let p = rw (c .before .before .ending .given .1) at (c .before .before .before .before .before .pre .0) in (omega arith, omega arith)
 
 enum-told-2 : tie.Need-enum-told-2
@@ -25,7 +25,7 @@ same-length : tie.Need-same-length
 same-length c = search needs
 
 returns-2 : tie.Need-returns-2
-returns-2 c = (rw (c .before .before .before .before .before .ending .given .1) (c .before .before .finish-marker .ensures), omega arith)
+returns-2 c = (rw (c .before .before .before .before .before .ending .given .1) (c .before .before .write-marker .ensures), omega arith)
 
 returns-3 : tie.Need-returns-3
 returns-3 c = let a = c .before .before .before .args in (rw (c .enum-told2 .given .1) (did-none (a .image .now) (a .m)), omega arith)
@@ -36,7 +36,7 @@ finish-wrap-spec =
     (tie.spec
     enum-told
     enum-known-ending
-    finish-marker-requires
+    write-marker-requires
     enum-told-2
     returns
     same-length

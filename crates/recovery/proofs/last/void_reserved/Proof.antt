@@ -15,11 +15,11 @@ add-end-name-2 c = search needs
 end-name-requires : tie.Need-end-name-requires
 end-name-requires c κs = search needs
 
-add-program : tie.Need-add-program
-add-program c = search needs
+add-clear-by : tie.Need-add-clear-by
+add-clear-by c = search needs
 
-program-requires : tie.Need-program-requires
-program-requires c κs = search needs
+clear-by-requires : tie.Need-clear-by-requires
+clear-by-requires c κs = search needs
 
 same-length : tie.Need-same-length
 same-length c = search needs
@@ -28,7 +28,7 @@ returns : tie.Need-returns
 returns c =
     let c7 = c .before .before .before .before .before .before .before in let c12 = c7 .before .before .before .before .before in
     let a = c12 .args in
-    (rw (reserved-is (a .image .now) (a .e) (c12 .pre .0)) (did-both (c7 .end-name .ensures .0) (c .before .before .program .ensures)), omega arith)
+    (rw (reserved-is (a .image .now) (a .e) (c12 .pre .0)) (did-both (c7 .end-name .ensures .0) (c .before .before .clear-by .ensures)), omega arith)
 
 pub void-reserved-spec : {M : Type 1} → statement M
 void-reserved-spec =
@@ -37,7 +37,7 @@ void-reserved-spec =
     add-end-name
     add-end-name-2
     end-name-requires
-    add-program
-    program-requires
+    add-clear-by
+    clear-by-requires
     same-length
     returns)

@@ -4,26 +4,14 @@ use borrow.Author.Needs.{needs}
 use Rattle.recovery.proofs.last.zero_lengths.Statement.{statement}
 use Rattle.recovery.proofs.last.zero_lengths.Tie as tie
 
-add-program : tie.Need-add-program
-add-program c = search needs
-
 program-requires : tie.Need-program-requires
 program-requires c κs = search needs
-
-add-program-2 : tie.Need-add-program-2
-add-program-2 c = search needs
 
 program-requires-2 : tie.Need-program-requires-2
 program-requires-2 c κs = search needs
 
-add-program-3 : tie.Need-add-program-3
-add-program-3 c = search needs
-
 program-requires-3 : tie.Need-program-requires-3
 program-requires-3 c κs = search needs
-
-add-program-4 : tie.Need-add-program-4
-add-program-4 c = search needs
 
 program-requires-4 : tie.Need-program-requires-4
 program-requires-4 c κs = search needs
@@ -40,14 +28,4 @@ returns c =
 pub zero-lengths-spec : {M : Type 1} → statement M
 zero-lengths-spec =
     tie.close
-    (tie.spec
-    add-program
-    program-requires
-    add-program-2
-    program-requires-2
-    add-program-3
-    program-requires-3
-    add-program-4
-    program-requires-4
-    same-length
-    returns)
+    (tie.spec program-requires program-requires-2 program-requires-3 program-requires-4 same-length returns)
