@@ -76,9 +76,11 @@ module _ {l : Ledger} (w : Work) (q : Rested l (w .image) (w .reading)) (x y : E
       ap (λ (v : Work). v .reading) (two-on w x y (front ++ rest) (ap (λ (r : Reading). r .entries) (q .is) ∙ i))
       ∙ ap (λ (N : ℕ). reading-from (run (w .image) (hs N)) (y .at)) (ap (λ (r : Reading). r .place .length) (q .is))
       ∙ handed-reads q x y (front ++ rest) i dead (there .0)
-      ∙ ap (λ (N : ℕ). read N (y .at) (q .S) (q .t) (relowed 0 y ∷ (front ++ rest)) Ending.Tail) (handed-length q x y (front ++ rest) i dead (there .0))
+      ∙ ap (λ (N : ℕ). read N (y .at) (q .S) (q .t) (relowed 0 y ∷ (front ++ rest)) Ending.Tail)
+      (handed-length q x y (front ++ rest) i dead (there .0))
 
-  hand-ahead : all-fit (floor (q .h)) (length (w .image)) (q .S) (q .t) (live-sizes (y ∷ front)) ≡ true → Ahead (suc (length front)) (moved-on w .reading)
+  hand-ahead : all-fit (floor (q .h)) (length (w .image)) (q .S) (q .t) (live-sizes (y ∷ front)) ≡ true
+      → Ahead (suc (length front)) (moved-on w .reading)
   hand-ahead f =
       subst (Ahead (suc (length front))) (sym handed-is)
       (record {
@@ -104,8 +106,8 @@ unfolding place-after
 after-all p s ss = fits-all-is (place-after p s) ss
 
 -- what fits behind a size that was placed fits where the image is then read to end
-pub led-room : {J : Image} {h s : ℕ} {p : Place} {fs : List Entry} (led : Led J h p s fs) → p .head ≡ h → p .length ≡ length J → (es : List Entry)
-    → fits-all (place-after p s) (live-sizes es) ≡ true → all-fit (floor h) (length J) (led .T) (led .u) (live-sizes es) ≡ true
+pub led-room : {J : Image} {h s : ℕ} {p : Place} {fs : List Entry} (led : Led J h p s fs) → p .head ≡ h → p .length ≡ length J
+    → (es : List Entry) → fits-all (place-after p s) (live-sizes es) ≡ true → all-fit (floor h) (length J) (led .T) (led .u) (live-sizes es) ≡ true
 led-room {J} {h} {s} {p} led hd len es f =
     let ss : List ℕ = live-sizes es in
     sym (lands-fit (floor h) ss (led .lands) (sizes-some (keep alive es)))
@@ -129,16 +131,20 @@ module _ {l : Ledger} {im : Image} {r : Reading} (q : Rested l im r) (x y : Entr
   length-is = ap (λ (y : Reading). y .place .length) (q .is)
 
   -- a dead head
-  pub dead-ahead : alive x ≡ false → fits-all (r .place) (live-sizes (y ∷ front)) ≡ true → Ahead (suc (length front)) (move (begin im r) .reading)
+  pub dead-ahead : alive x ≡ false → fits-all (r .place) (live-sizes (y ∷ front)) ≡ true
+      → Ahead (suc (length front)) (move (begin im r) .reading)
   dead-ahead a f =
       subst (λ (w : Work). Ahead (suc (length front)) (w .reading))
-      (sym (move-by im r (x ∷ es) [] (begin im r) entries-is (copy-dead r x es (rest-ok x es ok ∙ a)) (after-none (begin im r) (r .place .head))))
+      (sym (move-by im r (x ∷ es) [] (begin im r) entries-is (copy-dead r x es (rest-ok x es ok ∙ a))
+      (after-none (begin im r) (r .place .head))))
       (hand-ahead (begin im r) q x y front rest i a there
-      (sym (ap (λ (p : Place). all-fit (floor (p .head)) (p .length) (p .tail) (p .turned) (live-sizes (y ∷ front))) (ap (λ (y : Reading). y .place) (q .is)))
+      (sym (ap (λ (p : Place). all-fit (floor (p .head)) (p .length) (p .tail) (p .turned) (live-sizes (y ∷ front)))
+      (ap (λ (y : Reading). y .place) (q .is)))
       ∙ sym (fits-all-is (r .place) (live-sizes (y ∷ front))) ∙ f))
 
   -- a live one
-  pub live-ahead : alive x ≡ true → fits-all (r .place) (size x ∷ live-sizes (y ∷ front)) ≡ true → Ahead (suc (length front)) (move (begin im r) .reading)
+  pub live-ahead : alive x ≡ true → fits-all (r .place) (size x ∷ live-sizes (y ∷ front)) ≡ true
+      → Ahead (suc (length front)) (move (begin im r) .reading)
   live-ahead a f =
       let n : List ℕ = name-of x in
       let c : List ℕ = content-of x in
@@ -150,7 +156,8 @@ module _ {l : Ledger} {im : Image} {r : Reading} (q : Rested l im r) (x y : Entr
       let new : Entry = record { at = address (r .place) (size x); it = file n c } in
       let led : Led J (q .h) (r .place) (size x) (gone x ∷ (es ++ (new ∷ []))) =
       replaced-led q n c (ok .well-named .0 a) (ok .bytes .0 a) room [] es x i a refl in
-      let R : read (length J) (p .h) (p .S) (p .t) (p .es) Ending.Tail ≡ read (length J) (q .h) (led .T) (led .u) (gone x ∷ (es ++ (new ∷ []))) Ending.Tail =
+      let R : read (length J) (p .h) (p .S) (p .t) (p .es) Ending.Tail
+      ≡ read (length J) (q .h) (led .T) (led .u) (gone x ∷ (es ++ (new ∷ []))) Ending.Tail =
       sym (p .is) ∙ ap (reading-from J) head-is ∙ led .reads in
       let k : p .h ≡ q .h = ap (λ (y : Reading). y .place .head) R in
       let j : p .es ≡ gone x ∷ y ∷ (front ++ (rest ++ (new ∷ []))) =

@@ -40,7 +40,10 @@ past-none (r ∷ rs) at h e = (ne-eqb (floor at) (floor h) (λ z. omega arith), 
 
 low-none : (rs : List Rec) (at h : ℕ) → at + sizes rs ≤ floor h → Each (λ e. near h e ≡ false) (entries-of at rs)
 low-none [] at h e = tt
-low-none (r ∷ rs) at h e = (ne-eqb (floor at) (floor h) (λ z. low-not at (rsize r) (sizes rs) (floor h) e (omega arith) z), low-none rs (at + rsize r) h (omega arith))
+low-none (r ∷ rs) at h e = (
+  ne-eqb (floor at) (floor h) (λ z. low-not at (rsize r) (sizes rs) (floor h) e (omega arith) z),
+  low-none rs (at + rsize r) h (omega arith),
+)
   where
     low-not : (at s ss F : ℕ) → at + (s + ss) ≤ F → 1 ≤ s → floor at ≡ F → ⊥
     low-not at s ss F e o z = omega arith

@@ -55,8 +55,8 @@ module _ {l : Ledger} {f : File} {im : Image} {r : Reading} (q : Rested (f ∷ l
   read-is = ap (λ (y : Reading). y .entries) (q .is)
 
   -- what the first record needs: the live ones that follow fit after it
-  on-first : (x : Entry) (es : List Entry) → q .es ≡ x ∷ es → (alive x ≡ true → fits (r .place) (size x) ≡ true) → (at-end (r .entries) ≡ false)
-      × (no-room r (r .entries) ≡ false)
+  on-first : (x : Entry) (es : List Entry) → q .es ≡ x ∷ es → (alive x ≡ true → fits (r .place) (size x) ≡ true)
+      → (at-end (r .entries) ≡ false) × (no-room r (r .entries) ≡ false)
   on-first x es i g = subst (λ (fs : List Entry). (at-end fs ≡ false) × (no-room r fs ≡ false)) (sym (read-is ∙ i)) (go es i (alive x) refl)
     where
       go : (es : List Entry) → q .es ≡ x ∷ es → (b : Bool) → alive x ≡ b → (at-end (x ∷ es) ≡ false) × (no-room r (x ∷ es) ≡ false)
@@ -66,9 +66,11 @@ module _ {l : Ledger} {f : File} {im : Image} {r : Reading} (q : Rested (f ∷ l
       go (y ∷ es) i false a =
           (two-not-end x y es, room-dead r x (y ∷ es) (rest-ok x (y ∷ es) (subst (λ (fs : List Entry). Ok fs (f ∷ l)) i (q .ok)) ∙ a))
 
-  first-room : (x : Entry) (es : List Entry) → fits-all (r .place) (live-sizes (x ∷ es)) ≡ true → alive x ≡ true → fits (r .place) (size x) ≡ true
+  first-room : (x : Entry) (es : List Entry) → fits-all (r .place) (live-sizes (x ∷ es)) ≡ true
+      → alive x ≡ true → fits (r .place) (size x) ≡ true
   first-room x es g a =
-      fit-first (r .place) (size x) (live-sizes es) (sym (ap (λ (fs : List Entry). fits-all (r .place) (map size fs)) (keep-yes alive x es a)) ∙ g)
+      fit-first (r .place) (size x) (live-sizes es)
+      (sym (ap (λ (fs : List Entry). fits-all (r .place) (map size fs)) (keep-yes alive x es a)) ∙ g)
 
   -- with a record ahead, the sweep has a move to make
   pub goes-on : {j : ℕ} → Ahead (suc j) r → (at-end (r .entries) ≡ false) × (no-room r (r .entries) ≡ false)
@@ -86,20 +88,26 @@ module _ {l : Ledger} {f : File} {im : Image} {r : Reading} (q : Rested (f ∷ l
   move-ahead j h = go (h .front) (h .is) (h .count) (h .there) (h .room)
     where
       by : (x y : Entry) (front : List Entry) → q .es ≡ x ∷ y ∷ (front ++ h .rest) → Each (There (q .h)) (y ∷ front)
-          → fits-all (r .place) (live-sizes (x ∷ y ∷ front)) ≡ true → (b : Bool) → alive x ≡ b → Ahead (suc (length front)) (move (begin im r) .reading)
+          → fits-all (r .place) (live-sizes (x ∷ y ∷ front)) ≡ true → (b : Bool) → alive x ≡ b
+          → Ahead (suc (length front)) (move (begin im r) .reading)
       by x y front i t g true a =
-          live-ahead q x y front (h .rest) i t a (sym (ap (λ (fs : List Entry). fits-all (r .place) (map size fs)) (keep-yes alive x (y ∷ front) a)) ∙ g)
+          live-ahead q x y front (h .rest) i t a
+          (sym (ap (λ (fs : List Entry). fits-all (r .place) (map size fs)) (keep-yes alive x (y ∷ front) a)) ∙ g)
       by x y front i t g false a =
-          dead-ahead q x y front (h .rest) i t a (sym (ap (λ (fs : List Entry). fits-all (r .place) (map size fs)) (keep-no alive x (y ∷ front) a)) ∙ g)
+          dead-ahead q x y front (h .rest) i t a
+          (sym (ap (λ (fs : List Entry). fits-all (r .place) (map size fs)) (keep-no alive x (y ∷ front) a)) ∙ g)
 
       go : (front : List Entry) → r .entries ≡ front ++ h .rest → length front ≡ suc j → Each (There (r .place .head)) front
           → fits-all (r .place) (live-sizes front) ≡ true → Ahead j (move (begin im r) .reading)
       go [] e c t g = absurd (omega arith)
-      go (x ∷ []) e c t g = let z : 0 ≡ j = omega arith in subst (λ (n : ℕ). Ahead n (move (begin im r) .reading)) z (none-ahead (move (begin im r) .reading))
+      go (x ∷ []) e c t g =
+          let z : 0 ≡ j = omega arith in
+          subst (λ (n : ℕ). Ahead n (move (begin im r) .reading)) z (none-ahead (move (begin im r) .reading))
       go (x ∷ y ∷ front) e c t g =
           let z : suc (length front) ≡ j = omega arith in
           subst (λ (n : ℕ). Ahead n (move (begin im r) .reading)) z
-          (by x y front (sym read-is ∙ e) (subst (λ (k : ℕ). Each (There k) (y ∷ front)) (ap (λ (y : Reading). y .place .head) (q .is)) (t .1)) g (alive x) refl)
+          (by x y front (sym read-is ∙ e)
+          (subst (λ (k : ℕ). Each (There k) (y ∷ front)) (ap (λ (y : Reading). y .place .head) (q .is)) (t .1)) g (alive x) refl)
 
 -- ---- the moves of a sweep
 
@@ -119,7 +127,8 @@ passes (suc k) j {l} {f} {im} {r} q h = go j h (stuck r) refl (λ i d. passes k 
     w : Work
     w = move (begin im r)
 
-    more : (j i : ℕ) → i ≡ pred j → stuck r ≡ false → Done (f ∷ l) im w → Passed (f ∷ l) k i (w .image) (w .reading) → Passed (f ∷ l) (suc k) j im r
+    more : (j i : ℕ) → i ≡ pred j → stuck r ≡ false → Done (f ∷ l) im w → Passed (f ∷ l) k i (w .image) (w .reading)
+        → Passed (f ∷ l) (suc k) j im r
     more j i m s d p =
         record {
           left = p .left;

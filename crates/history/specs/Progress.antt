@@ -55,7 +55,8 @@ sweep-on : {l : Ledger} {f : File} {im : Image} {r : Reading} (j k : ℕ) → Re
 sweep-on {l} {f} {im} {r} j k q h need =
     let m : ℕ = min 5 (length (r .entries)) in
     let ms : List (List Step) = moves m im r in
-    let plan : sweep-plan im ≡ give (sweeping ms) = sweep-is im (give r) (q .good) (rested-settled q) ∙ sweep-by im r false (goes-on q h .1) in
+    let plan : sweep-plan im ≡ give (sweeping ms) =
+    sweep-is im (give r) (q .good) (rested-settled q) ∙ sweep-by im r false (goes-on q h .1) in
     let enough : length (concat ms) ≤ k = subst (λ (p : Answer Plan). length (steps-of p) ≤ k) plan need in
     let e : sweep im k ≡ record { numbers = success (length ms) 0 0 (concat ms); image = run im (concat ms) } =
     ap (carry-out im k) plan ∙ carried-done im k (sweeping ms) enough in
@@ -89,7 +90,9 @@ done-image im m ss e = go (leb (length ss) m) refl
     go : (b : Bool) → leb (length ss) m ≡ b → carry-out im m (give (doing ss 0 0 0)) .image ≡ run im ss
     go true k = ap (λ (o : Outcome). o .image) (carried-done im m (doing ss 0 0 0) (leb-true (length ss) m k))
     go false k =
-        absurd (let z : 4 ≡ 0 = sym (ap (λ (o : Outcome). o .numbers .answer) (carried-cut im m (doing ss 0 0 0) (leb-false (length ss) m k))) ∙ e in omega arith)
+        let o : carry-out im m (give (doing ss 0 0 0)) .numbers .answer ≡ 4 =
+        ap (λ (o : Outcome). o .numbers .answer) (carried-cut im m (doing ss 0 0 0) (leb-false (length ss) m k)) in
+        absurd (let z : 4 ≡ 0 = sym o ∙ e in omega arith)
 
 refused-answer : (im : Image) (m k : ℕ) → carry-out im m (refuse k) .numbers .answer ≡ k
 unfolding carry-out
@@ -122,8 +125,8 @@ module _ {l : Ledger} {im : Image} {r : Reading} (q : Rested l im r) (n c : List
   left-passes {R = R} p h = record { read = R; settled = rested-settled p; passes = λ ks e u. sweeps ks (to-pass R) p h e u }
 
   -- fs are the records that put leaves
-  led-passes : (old : Option Entry) (fs : List Entry) → Old n (r .entries) old → Led (run im (put-steps (r .place) old n c)) (q .h) (r .place) z fs
-      → keep alive fs ≡ keep (other-name n) (files (r .entries)) ++ (new ∷ []) → Passes (run im (put-steps (r .place) old n c))
+  led-passes : (old : Option Entry) (fs : List Entry) → Old n (r .entries) old
+      → Led (run im (put-steps (r .place) old n c)) (q .h) (r .place) z fs → keep alive fs ≡ keep (other-name n) (files (r .entries)) ++ (new ∷ []) → Passes (run im (put-steps (r .place) old n c))
   led-passes old fs o led k =
       let J : Image = run im (put-steps (r .place) old n c) in
       let m : Commits l (with-file n c l) im (put-steps (r .place) old n c)
@@ -152,16 +155,18 @@ module _ {l : Ledger} {im : Image} {r : Reading} (q : Rested l im r) (n c : List
           ∙ ap (λ (fs : List Entry). keep (other-name n) (files fs) ++ (new ∷ [])) (sym i))
 
 -- a put with answer 0 on an image of the invariant
-pub put-gets-on : (im : Image) (l : Ledger) (n c : List ℕ) (m : ℕ) → Inv l im → Bytes c → put im n c m .numbers .answer ≡ 0 → Passes (put im n c m .image)
+pub put-gets-on : (im : Image) (l : Ledger) (n c : List ℕ) (m : ℕ) → Inv l im → Bytes c → put im n c m .numbers .answer ≡ 0
+    → Passes (put im n c m .image)
 put-gets-on im l n c m i b e = go (puts-of l im n c i)
   where
     go : Puts l im n c → Passes (put im n c m .image)
     go (put-no r) =
-        absurd (let z : r .number ≡ 0 = sym (refused-answer im m (r .number)) ∙ sym (ap (λ (p : Answer Plan). carry-out im m p .numbers .answer) (r .is)) ∙ e in
-        not-both (eqb (r .number) 0) (r .not-done) (eq-eqb (r .number) 0 z))
+        let z : r .number ≡ 0 = sym (refused-answer im m (r .number)) ∙ sym (ap (λ (p : Answer Plan). carry-out im m p .numbers .answer) (r .is)) ∙ e in
+        absurd (not-both (eqb (r .number) 0) (r .not-done) (eq-eqb (r .number) 0 z))
     go (put-yes r q nice rule k) =
         let ss : List Step = put-steps (r .place) (file-named n (r .entries)) n c in
-        let e₁ : carry-out im m (give (doing ss 0 0 0)) .numbers .answer ≡ 0 = sym (ap (λ (p : Answer Plan). carry-out im m p .numbers .answer) k) ∙ e in
+        let e₁ : carry-out im m (give (doing ss 0 0 0)) .numbers .answer ≡ 0 =
+        sym (ap (λ (p : Answer Plan). carry-out im m p .numbers .answer) k) ∙ e in
         subst Passes (sym (ap (λ (p : Answer Plan). carry-out im m p .image) k ∙ done-image im m ss e₁))
         (put-passes q n c nice b rule (file-named n (r .entries))
         (subst (λ (x : Reading). Old n (x .entries) (file-named n (x .entries))) (sym (q .is)) (old-file n (q .es) l (q .ok))))

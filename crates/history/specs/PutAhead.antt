@@ -13,7 +13,8 @@ use Rattle.spec.specs.Geometry.{floor}
 use Rattle.spec.specs.Record.{Entry, name-of, size}
 use Rattle.spec.specs.Chain.{Reading, read, reading-from}
 use Rattle.spec.specs.Files.{files}
-use Rattle.spec.specs.Place.{fits-all, place-after, address, in-head-sector, begins-there, other-name, standing, joining, largest-with, room}
+use Rattle.spec.specs.Place.{fits-all, place-after, address, other-name, largest-with}
+use Rattle.spec.specs.Place.{in-head-sector, begins-there, standing, joining, room}
 use Rattle.spec.specs.Answers.{put}
 use Rattle.spec.specs.History.{Ledger}
 use Rattle.spec.specs.Progress.{to-pass}
@@ -50,14 +51,16 @@ keep-swap {A} p q (x ∷ xs) = go (p x) (q x) refl refl (keep-swap p q xs)
 
 others : (n : List ℕ) (es : List Entry) → Absent n es → keep (other-name n) (keep alive es) ≡ keep alive es
 others n es a =
-    keep-all (other-name n) (keep alive es) (each-keep (λ (e : Entry). other-name n e ≡ true) alive es (each-map es (λ e h k. ap not (h k)) a))
+    keep-all (other-name n) (keep alive es)
+    (each-keep (λ (e : Entry). other-name n e ≡ true) alive es (each-map es (λ e h k. ap not (h k)) a))
 
 module _ (n : List ℕ) (new : Entry) (fresh : alive new ≡ true) where
   -- a new name
   pub live-new : (es : List Entry) → Unique es → Absent n es → keep alive (es ++ (new ∷ [])) ≡ keep (other-name n) (files es) ++ (new ∷ [])
   live-new es u a =
       keep-append alive es (new ∷ [])
-      ∙ ap₂ (λ (x y : List Entry). x ++ y) (sym (others n es a) ∙ ap (keep (other-name n)) (sym (files-alive es u))) (keep-yes alive new [] fresh)
+      ∙ ap₂ (λ (x y : List Entry). x ++ y) (sym (others n es a) ∙ ap (keep (other-name n)) (sym (files-alive es u)))
+      (keep-yes alive new [] fresh)
 
   -- a file replaced
   pub live-over : (xs ys : List Entry) (e : Entry) → Unique (xs ++ (e ∷ ys)) → alive e ≡ true → name-of e ≡ n →
@@ -86,12 +89,14 @@ module _ (n : List ℕ) (new : Entry) (fresh : alive new ≡ true) where
           (ap (keep (other-name n)) (keep-yes alive e ys a)
           ∙ keep-no (other-name n) e (keep alive ys) (ap not (ap (λ (z : List ℕ). same z n) m ∙ same-refl n)) ∙ others n ys behind)
 
-joined-size : (p : Place) (s : ℕ) (new : Entry) → size new ≡ s → new .at ≡ address p s → map size (keep (begins-there p) (new ∷ [])) ≡ joining p s
+joined-size : (p : Place) (s : ℕ) (new : Entry) → size new ≡ s → new .at ≡ address p s
+    → map size (keep (begins-there p) (new ∷ [])) ≡ joining p s
 unfolding joining
 joined-size p s new e a = go (in-head-sector p (address p s)) refl
   where
     go : (b : Bool) → in-head-sector p (address p s) ≡ b
-        → map size (keep (begins-there p) (new ∷ [])) ≡ elim (in-head-sector p (address p s)) as (λ x. List ℕ) [ true ↦ s ∷ [] | false ↦ [] ]
+        → map size (keep (begins-there p) (new ∷ []))
+        ≡ elim (in-head-sector p (address p s)) as (λ x. List ℕ) [ true ↦ s ∷ [] | false ↦ [] ]
     go true k =
         ap (map size) (keep-yes (begins-there p) new [] (ap (in-head-sector p) a ∙ k)) ∙ ap (λ (z : ℕ). z ∷ []) e
         ∙ sym (ap (λ (b : Bool). elim b as (λ x. List ℕ) [ true ↦ s ∷ [] | false ↦ [] ]) k)
@@ -136,7 +141,8 @@ module _ {l : Ledger} {J : Image} {r : Reading} (p : Rested l J r) (P : Place) (
   parted : Split h fs
   parted =
       subst (Split h) (sym (ap (λ (y : Reading). y .entries) (p .is)) ∙ ap (λ (y : Reading). y .entries) R)
-      (subst (λ (i : ℕ). Split i (p .es)) (sym (ap (λ (y : Reading). y .place .head) (p .is)) ∙ ap (λ (y : Reading). y .place .head) R) (split (p .laid)))
+      (subst (λ (i : ℕ). Split i (p .es)) (sym (ap (λ (y : Reading). y .place .head) (p .is)) ∙ ap (λ (y : Reading). y .place .head) R)
+      (split (p .laid)))
 
   front-sizes : live-sizes (parted .front) ≡ standing P n es ++ joining P s
   front-sizes =

@@ -87,7 +87,8 @@ module _ (p : Place) (name : List ℕ) (x : Entry) (m : Stowed) where
   stow-other h g = rw (h, keep, g)
 
   -- the rest goes on from there
-  stow-first : (xs : List Entry) → stow-files p m (others name (x ∷ xs)) ≡ stow-files p (stow-files p m (others name (x ∷ []))) (others name xs)
+  stow-first : (xs : List Entry)
+      → stow-files p m (others name (x ∷ xs)) ≡ stow-files p (stow-files p m (others name (x ∷ []))) (others name xs)
   stow-first xs = go (is-file x) (has-name name x) refl refl where
     go : (t u : Bool) → is-file x ≡ t → has-name name x ≡ u
         → stow-files p m (others name (x ∷ xs)) ≡ stow-files p (stow-files p m (others name (x ∷ []))) (others name xs)
@@ -100,7 +101,8 @@ pub stow-by : (p : Place) (name image : List ℕ) (e : Spot) (m : Stowed) (s : �
     → is-file (entry-of image e) ≡ true → has-name name (entry-of image e) ≡ false
     → with-size (in-head-sector p (e .at)) s m ≡ stow-files p m (others name (entry-of image e ∷ []))
 stow-by p name image e m s w q h g =
-    ap (λ (k : ℕ). with-size (in-head-sector p (e .at)) k m) (q ∙ sym (ap₂ size-of (name-length-is image e w) (content-length-is image e w)))
+    ap (λ (k : ℕ). with-size (in-head-sector p (e .at)) k m)
+    (q ∙ sym (ap₂ size-of (name-length-is image e w) (content-length-is image e w)))
     ∙ stow-other p name (entry-of image e) m h g
 
 -- ---- the loop
@@ -108,7 +110,8 @@ stow-by p name image e m s w q h g =
 abbrev pub stow-of : Place → List ℕ → Stowed → Run → Stowed
 stow-of p name m r = stow-files p m (others name (r .entries))
 
-module _ (p : Place) (name : List ℕ) {image : List ℕ} {start c : Cursor} {m₀ m : Stowed} (w : Folded (stow-of p name) image start m₀ c m) where
+module _ (p : Place) (name : List ℕ) {image : List ℕ} {start c : Cursor} {m₀ m : Stowed}
+    (w : Folded (stow-of p name) image start m₀ c m) where
   pub stow-over : (r : Step) → r ≡ advance image c → Not-record r → m ≡ stow-files p m₀ (others name (rest image start .entries))
   stow-over r e z = fold-end (stow-of p name) image start m₀ c m w r e z
 
@@ -121,6 +124,7 @@ module _ (p : Place) (name : List ℕ) {image : List ℕ} {start c : Cursor} {m�
 
 -- ---- the rule
 
+-- what the fold places and keeps, in the definitions' words
 stowed-places : (p : Place) (x : Stowed) (es : List Entry)
     → stow-files p x es .placed ≡ stow-all (x .placed) (map size (keep (begins-there p) es))
 unfolding stow-all
@@ -147,10 +151,11 @@ module _ (p : Place) (name : List ℕ) (s : ℕ) (es : List Entry) where
   unfolding room
   room-full e = sym (none-fit p s _ e)
 
-  -- the new record first
+  -- the new record, and no file yet
   abbrev new : Stowed
   new = record { placed = placed p s; largest = s }
 
+  -- behind the last file the rule's end decides
   room-by : any (superseded es) es ≡ false → last-fit p s (stow-files p new (others name es)) ≡ room p name s es
   unfolding room standing largest-with stow-all
   room-by q =
@@ -158,7 +163,8 @@ module _ (p : Place) (name : List ℕ) (s : ℕ) (es : List Entry) where
       let l : ℕ = largest-with name s es in
       let places : x .placed ≡ stow-all (placed p s) (standing p name es) =
       stowed-places p new (others name es)
-      ∙ ap (λ (fs : List Entry). stow-all (placed p s) (map size (keep (begins-there p) (keep (other-name name) fs)))) (sym (files-are es q)) in
+      ∙ ap (λ (fs : List Entry). stow-all (placed p s) (map size (keep (begins-there p) (keep (other-name name) fs))))
+      (sym (files-are es q)) in
       let most : x .largest ≡ l =
       stowed-largest p new (others name es) ∙ ap (λ (fs : List Entry). largest s (keep (other-name name) fs)) (sym (files-are es q)) in
       ap₂ (λ (y : Placed) (k : ℕ). has-place (stow (stow (stow-all y (joining p s)) k) k)) places most

@@ -94,7 +94,8 @@ none-fit p s ss e = fits-stowed p s ss ∙ ap (λ (x : Placed). has-place (stow-
 pub too-long : (image : Image) (p : Place) (s : ℕ) (ss : List ℕ) → In-image image p → p .length < s → fits-all p (s ∷ ss) ≡ false
 unfolding fits-all fits fits-at-tail
 too-long image p s ss i l =
-    let at-tail : leb (p .tail + s) (limit p) ≡ false = lt-leb (p .tail + s) (limit p) (omega (arith, limit-inside image p _ i refl, i .whole)) in
+    let at-tail : leb (p .tail + s) (limit p) ≡ false =
+    lt-leb (p .tail + s) (limit p) (omega (arith, limit-inside image p _ i refl, i .whole)) in
     let at-zero : leb s (floor (p .head)) ≡ false = lt-leb s (floor (p .head)) (omega (arith, i .head, i .whole)) in
     let no : fits p s ≡ false = rw (at-tail, at-zero, fits, fits-at-tail) (and-false (not (p .turned))) in
     rw (no, fits-all)

@@ -34,16 +34,21 @@ returns-2 c =
     let c9 = c .before .before .before .before .before .before .before .before .before in
     let a = c9 .args in
     room-full (a .s .place) _ _ _
-    (sym (c .before .before .after .ensures ∙ ap (placed (a .s .place)) (c .before .before .before .size .ensures)) ∙ c .enum-told .given .1)
+    (sym (c .before .before .after .ensures ∙ ap (placed (a .s .place)) (c .before .before .before .size .ensures))
+    ∙ c .enum-told .given .1)
 
 first-cursor-requires : tie.Need-first-cursor-requires
 first-cursor-requires c κs = search needs
 
 stow-chain-requires : tie.Need-stow-chain-requires
-stow-chain-requires c κs = rw (c .first-cursor .ensures) (c .before .before .before .before .before .before .before .before .before .before .before .pre .0 .surveyed .tallied .sound)
+stow-chain-requires c κs =
+    let c11 = c .before .before .before .before .before .before .before .before .before .before .before in
+    rw (c .first-cursor .ensures) (c11 .pre .0 .surveyed .tallied .sound)
 
 has-last-requires : tie.Need-has-last-requires
-has-last-requires c κs = placed-address _ _ _ _ _ (sym (c .before .before .before .before .before .after .ensures) ∙ c .before .before .before .first .given .1)
+has-last-requires c κs =
+    let c3 = c .before .before .before in
+    placed-address _ _ _ _ _ (sym (c3 .before .before .after .ensures) ∙ c3 .first .given .1)
 
 returns-3 : tie.Need-returns-3
 returns-3 c =

@@ -1,4 +1,4 @@
--- stow_chain: what all files make of the first state is what the rest makes of the state so far.
+-- What all files make of the first state is what the rest makes of the state so far.
 use Rattle.reading.specs.Fold.{turned, Folded, fold-start}
 use Rattle.reading.specs.Room.{stow-of, stow-over, stow-onward}
 use Rattle.reading.proofs.Others.{other-step}

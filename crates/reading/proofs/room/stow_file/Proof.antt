@@ -15,7 +15,9 @@ stow-requires : tie.Need-stow-requires
 stow-requires c κs = search needs
 
 returns : tie.Need-returns
-returns c = size-placed _ _ _ _ (c .before .before .before .max-of .ensures) _ (c .stow .ensures) (flag (c .before .before .in-head-sector .ensures) (c .before .if1 .taken))
+returns c =
+    size-placed _ _ _ _ (c .before .before .before .max-of .ensures) _ (c .stow .ensures)
+    (flag (c .before .before .in-head-sector .ensures) (c .before .if1 .taken))
 
 returns-2 : tie.Need-returns-2
 returns-2 c = size-compared _ _ _ _ (c .before .before .max-of .ensures) (flag (c .before .in-head-sector .ensures) (c .if1 .left))

@@ -16,12 +16,14 @@ returns : tie.Need-returns
 returns c =
     let a = c .before .before .before .args in
     c .stow .ensures
-    ∙ new-placed (a .place) (a .at) (a .size) (a .placed) (c .before .before .before .pre) (flag (c .before .before .in-head-sector .ensures) (c .before .if1 .taken))
+    ∙ new-placed (a .place) (a .at) (a .size) (a .placed) (c .before .before .before .pre)
+    (flag (c .before .before .in-head-sector .ensures) (c .before .if1 .taken))
 
 returns-2 : tie.Need-returns-2
 returns-2 c =
     let a = c .before .before .args in
-    new-elsewhere (a .place) (a .at) (a .size) (a .placed) (c .before .before .pre) (flag (c .before .in-head-sector .ensures) (c .if1 .left))
+    new-elsewhere (a .place) (a .at) (a .size) (a .placed) (c .before .before .pre)
+    (flag (c .before .in-head-sector .ensures) (c .if1 .left))
 
 pub stow-new-spec : {M : Type 1} → statement M
 stow-new-spec = tie.close (tie.spec in-head-sector-requires stow-requires returns returns-2)

@@ -1,4 +1,4 @@
--- stow_record: a record that is no file, or is replaced, changes nothing; another counts by its size.
+-- A record that is no file, or is replaced, changes nothing; another counts by its size.
 use Rattle.reading.specs.Room.{stow-no-file, stow-replaced, stow-by}
 use Rattle.record.specs.Suffix.{flag}
 use mathlib.Core.Path.{_∙_}
@@ -15,7 +15,8 @@ has-name-requires c κs = search needs
 returns : tie.Need-returns
 returns c =
     let c3 = c .before .before .before in
-    stow-replaced _ _ _ _ (flag (c3 .is-file .ensures) (c .before .before .if1 .taken)) (flag (c .before .has-name .ensures) (c .if2 .taken))
+    stow-replaced _ _ _ _ (flag (c3 .is-file .ensures) (c .before .before .if1 .taken))
+    (flag (c .before .has-name .ensures) (c .if2 .taken))
 
 size-requires : tie.Need-size-requires
 size-requires c κs = search needs
