@@ -12,8 +12,16 @@
  *
  * Flash steps. To program one byte or to erase one sector of 4,096 bytes is a
  * step. A writing call takes an allowance, the most steps that it may do, and
- * gives back the steps that it did. A power cut after k steps leaves what the
- * same call with allowance k leaves. SIZE_MAX allows all that a call needs.
+ * gives back the steps that it did. SIZE_MAX allows all that a call needs.
+ *
+ * Power cuts. A cut after k steps leaves what the same call with allowance k
+ * leaves. If the next step programs a byte, the cut may also fall inside it:
+ * then any of the bits that this step would clear may be clear already, and the
+ * others not yet; all other bytes are as after k steps. An erase is done whole
+ * or not at all. Where a whole format came first and only these calls wrote
+ * since, a mount that runs to its end answers 0 after any number of such cuts;
+ * all files are then whole, and each put or remove that was cut has been done
+ * or has changed no file. A format that was cut has to be done again.
  *
  * Answers. Each call answers with one of the numbers below, checked in their
  * order. Unless the answer is LILOTA_DONE or LILOTA_CUT, every number given
@@ -54,10 +62,11 @@ uint32_t lilota_format(uint8_t *image, size_t length, size_t allowance,
                        size_t *steps);
 
 /*
- * Repairs what a power cut left, so that the other calls take the image. Done,
- * it gives back the head's and the tail's address, the number of files and the
- * steps done; cut, the steps alone. An image with nothing to repair is done in
- * 0 steps. Answers: 22, 5, 6, 4, 0.
+ * Repairs what a power cut left, between two steps or inside one, so that the
+ * other calls take the image. Done, it gives back the head's and the tail's
+ * address, the number of files and the steps done; cut, the steps alone: then
+ * mount again. An image with nothing to repair is done in 0 steps.
+ * Answers: 22, 5, 6, 4, 0.
  */
 uint32_t lilota_mount(uint8_t *image, size_t length, size_t allowance,
                       size_t *head, size_t *tail, size_t *files,
@@ -65,8 +74,9 @@ uint32_t lilota_mount(uint8_t *image, size_t length, size_t allowance,
 
 /*
  * Writes a whole file, in place of an older one of its name. One step is the
- * commit: cut before it the old file stands, after it the new one does. Gives
- * back the steps done. Answers: 22, 5, 6, 16, 28, 4, 0.
+ * commit, and clears a single bit: cut before it the old file stands, after it
+ * the new one does, inside it one of the two. Gives back the steps done.
+ * Answers: 22, 5, 6, 16, 28, 4, 0.
  */
 uint32_t lilota_put(uint8_t *image, size_t length,
                     const uint8_t *name, size_t name_length,
@@ -90,8 +100,8 @@ uint32_t lilota_list(const uint8_t *image, size_t length, size_t index,
                      size_t *name_offset, size_t *name_length, size_t *size);
 
 /*
- * Removes a file, in one step. Gives back the steps done.
- * Answers: 22, 5, 6, 16, 2, 4, 0.
+ * Removes a file, in one step: cut inside it, the file is whole or gone. Gives
+ * back the steps done. Answers: 22, 5, 6, 16, 2, 4, 0.
  */
 uint32_t lilota_remove(uint8_t *image, size_t length,
                        const uint8_t *name, size_t name_length,

@@ -73,12 +73,16 @@ int main(void)
     boot("The power failed in the first put, before the commit");
     put_until(7, SIZE_MAX);
     boot("Put to the end");
-    put_until(9, 16);
+    put_until(9, 17);
     load();
     boot("The power failed just before the commit of a new table");
     /* the old table is marked as being replaced already, which saves a step */
-    put_until(9, 16);
+    put_until(9, 17);
     boot("The power failed just after the commit of a new table");
+    /* one step done, which marks the old table; inside the next one, two of the four bits to clear are clear */
+    put_until(4, 1);
+    image[112] = 0xE7;
+    boot("The power failed inside a byte: E7 stands where FF was to become A5");
     image[19] = 0;
     boot("A reserved byte was damaged");
     return 0;

@@ -1,6 +1,7 @@
 /*
- * Document 01 as plain C, to measure the library against: what a C programmer
- * would write, with no heap. The calls have the signatures of include/lilota.h.
+ * Document 01, with K14 of document 02, as plain C, to measure the library
+ * against: what a C programmer would write, with no heap. The calls have the
+ * signatures of include/lilota.h.
  */
 #ifndef BASELINE_H
 #define BASELINE_H
@@ -35,24 +36,48 @@ static inline size_t size_of(size_t name_length, size_t data_length)
     return 8 + up8(name_length + 1) + up8(data_length);
 }
 
-static inline unsigned magic_at(const uint8_t *m, size_t a) { return m[a] | (unsigned)m[a + 1] << 8; }
+/* A cut inside a step leaves A4 or A1 between A5 and A0, and 80 stands between A0 and 00: they count as A5 and as A0. */
+static inline unsigned magic_at(const uint8_t *m, size_t a)
+{
+    unsigned magic = m[a] | (unsigned)m[a + 1] << 8;
+    switch (magic) {
+    case 0x5AA4:
+    case 0x5AA1:
+        return RECORD;
+    case 0x5A80:
+        return CLEAN;
+    default:
+        return magic;
+    }
+}
 
 static inline size_t data_length_at(const uint8_t *m, size_t a)
 {
     return m[a + 4] | (size_t)m[a + 5] << 8 | (size_t)m[a + 6] << 16 | (size_t)m[a + 7] << 24;
 }
 
-/* Status FF, this first byte, and FF or 5A as the second: begun and cut. */
+/* On the way from FF to this byte: it has all the bits that are to stay. FF is on the way, and so is the byte itself. */
+static inline bool on_way(uint8_t byte, uint8_t to) { return (byte & to) == to; }
+
+/* A magic begun with this first byte, and perhaps not finished. */
 static inline bool begun(const uint8_t *m, size_t a, uint8_t low)
 {
-    return m[a] == low && m[a + 2] == ERASED && (m[a + 1] == 0xFF || m[a + 1] == 0x5A);
+    return m[a] != 0xFF && on_way(m[a], low) && on_way(m[a + 1], 0x5A);
+}
+
+/* The two unfinished headers, each byte judged by itself. */
+static inline bool torn(const uint8_t *m, size_t a) { return m[a + 2] == ERASED && begun(m, a, 0xA5); }
+
+static inline bool torn_wrap(const uint8_t *m, size_t a)
+{
+    return begun(m, a, 0xFA) && on_way(m[a + 2], WRAP_STATUS) && m[a + 2] != WRAP_STATUS;
 }
 
 /* record.c: geometry, names, and the record at an address */
 
 typedef struct {
     size_t at, size, name_length, data_at, data_length;
-    size_t missing; /* the FF that counts as the name's 00, or NONE */
+    size_t missing; /* the byte of 80 or more that counts as the name's 00, or NONE */
     unsigned magic;
     uint8_t status;
     bool turned; /* stands after the turn */
@@ -112,6 +137,8 @@ typedef struct {
 
 void bl_program(Flash *f, size_t at, uint8_t byte);
 void bl_erase(Flash *f, size_t at);
+void bl_to_start(Flash *f, size_t at);
+void bl_end_name(Flash *f, size_t at);
 bool bl_cut(const Flash *f);
 uint32_t bl_answer(const Flash *f, size_t *steps);
 bool bl_fit(Place *p, size_t size, size_t *at, size_t *marker);

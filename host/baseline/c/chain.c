@@ -26,7 +26,7 @@ Step bl_next(const uint8_t *m, size_t n, Cursor *c, Record *r)
             return THE_TAIL;
         if (c->held)
             return A_BREACH;
-        if (begun(m, c->at, 0xFA))
+        if (torn_wrap(m, c->at))
             return may_turn && bl_blank(m, c->at + 3, n) ? A_TORN_WRAP : A_BREACH;
         if (m[c->at + 3] != 0xFF)
             return A_BREACH;

@@ -17,6 +17,21 @@ void bl_erase(Flash *f, size_t at)
     f->asked++;
 }
 
+/* CLEAN to START, by one bit at a time: no other magic stands between. */
+void bl_to_start(Flash *f, size_t at)
+{
+    if (f->m[at] == 0xA0)
+        bl_program(f, at, 0x80);
+    bl_program(f, at, 0x00);
+}
+
+/* A name's 00, after its top bit alone: cut inside either step, the byte ends the name. */
+void bl_end_name(Flash *f, size_t at)
+{
+    bl_program(f, at, 0x80);
+    bl_program(f, at, 0x00);
+}
+
 /* A step was asked for that the allowance didn't cover: nothing more is done. */
 bool bl_cut(const Flash *f)
 {

@@ -19,7 +19,7 @@ static size_t walk(const uint8_t *m, size_t n)
 {
     size_t p = 0, next;
     while (p < n) {
-        if (begun(m, p, 0xA5))
+        if (torn(m, p))
             return p + 8;
         next = walk_over(m, n, p);
         if (next == p)
@@ -39,11 +39,11 @@ uint32_t bl_head(const uint8_t *m, size_t n, size_t *head)
     if (first == WRAP)
         return BROKEN;
     for (a = walk(m, n); a < n; a += 8)
-        if (m[a + 1] == 0x5A && (m[a] == 0x00 || m[a] == 0xA0))
+        if (m[a + 1] == 0x5A && (m[a] == 0x00 || m[a] == 0xA0 || m[a] == 0x80))
             break;
     if (a < n) {
         *head = a;
-        return m[a] == 0xA0 && first == CLEAN ? BROKEN : DONE;
+        return m[a] != 0x00 && first == CLEAN ? BROKEN : DONE;
     }
     return first == CLEAN ? DONE : NO_HEAD;
 }

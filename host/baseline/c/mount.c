@@ -16,12 +16,13 @@ static void repair_clean(Flash *f, const Survey *s)
     if (!s->turned)
         erase_dirty(f, 0, low);
     erase_dirty(f, s->tail, s->turned ? low : s->n);
-    bl_program(f, s->head, 0x00);
+    bl_to_start(f, s->head);
 }
 
 static bool false_mark(const uint8_t *m, size_t a)
 {
-    return m[a + 1] == 0x5A && (m[a] == 0x00 || m[a] == 0xA0 || m[a] == 0xA5);
+    unsigned magic = magic_at(m, a);
+    return magic == START || magic == CLEAN || magic == RECORD;
 }
 
 /* (c) cleans X's data, (d) erases, (e) makes Y START, (f) voids X's magic. */
@@ -33,7 +34,7 @@ void bl_close(Flash *f, size_t n, const Record *x, const Record *y)
             bl_program(f, a + 1, 0x00);
     for (a = floor_of(x->at); a < to; a += SECTOR)
         bl_erase(f, a);
-    bl_program(f, y->at, 0x00);
+    bl_to_start(f, y->at);
     if (floor_of(x->at) >= to)
         bl_program(f, x->at + 1, 0x00);
 }
@@ -50,24 +51,27 @@ static size_t repair_move(Flash *f, const Survey *s)
     return s->second.at;
 }
 
-/* 3: the last thing. */
+/* 3: the last thing. The status's top bit goes alone first: cut on the way to 00, it might otherwise be FC or F8. */
 static void repair_last(Flash *f, const Survey *s)
 {
     const Record *r = &s->last;
     size_t i;
     if (s->torn_wrap != NONE) {
+        bl_program(f, s->torn_wrap, 0xFA);
         bl_program(f, s->torn_wrap + 1, 0x5A);
         bl_program(f, s->torn_wrap + 2, WRAP_STATUS);
     }
     if (!bl_unfinished(r))
         return;
     if (r->status == ERASED) {
+        bl_program(f, r->at, 0xA5);
         bl_program(f, r->at + 1, 0x5A);
         for (i = 4; i <= 8; i++)
             bl_program(f, r->at + i, 0x00);
     } else if (r->missing != NONE) {
-        bl_program(f, r->missing, 0x00);
+        bl_end_name(f, r->missing);
     }
+    bl_program(f, r->at + 2, r->status & 0x7F);
     bl_program(f, r->at + 2, DELETED);
 }
 

@@ -28,24 +28,24 @@ bool bl_blank(const uint8_t *m, size_t from, size_t to)
     return true;
 }
 
-/* The first 00 in the 64 bytes from byte 8; in a reserved record an FF counts too. */
+/* The first 00 in the 64 bytes from byte 8; in a reserved record a byte of 80 or more counts too. */
 bool bl_name_end(const uint8_t *m, size_t n, size_t at, size_t *length, size_t *missing)
 {
     size_t from = at + 8, to = from + 64 < n ? from + 64 : n, a = from;
-    uint8_t other = m[at + 2] == RESERVED ? 0xFF : 0x00;
-    while (a < to && m[a] != 0x00 && m[a] != other)
+    unsigned limit = m[at + 2] == RESERVED ? 0x80 : 0x100;
+    while (a < to && m[a] != 0x00 && m[a] < limit)
         a++;
     if (a == to)
         return false;
     *length = a - from;
-    *missing = m[a] == 0xFF ? a : NONE;
+    *missing = m[a] != 0x00 ? a : NONE;
     return true;
 }
 
-/* A torn record counts 16 bytes, and byte 8 of it is FF or 00. */
-static bool torn_record(const uint8_t *m, size_t at, size_t end, Record *r)
+/* A torn record counts 16 bytes. */
+static bool torn_record(size_t at, size_t end, Record *r)
 {
-    if (at + 16 > end || (m[at + 8] != 0xFF && m[at + 8] != 0x00))
+    if (at + 16 > end)
         return false;
     r->size = 16;
     r->name_length = r->data_length = 0;
@@ -54,19 +54,10 @@ static bool torn_record(const uint8_t *m, size_t at, size_t end, Record *r)
     return true;
 }
 
+/* Any status but FF: one that isn't FE, FC or F8 is dead. */
 static bool known(const Record *r)
 {
-    bool magic = r->magic == RECORD || r->magic == START || r->magic == CLEAN;
-    switch (r->status) {
-    case RESERVED:
-    case COMMITTED:
-    case MIGRATING:
-    case WEAR:
-    case DELETED:
-        return magic;
-    default:
-        return false;
-    }
+    return r->status != ERASED && (r->magic == RECORD || r->magic == START || r->magic == CLEAN);
 }
 
 /* The record at `at`, which ends at `end` at most. */
@@ -75,8 +66,8 @@ bool bl_record(const uint8_t *m, size_t n, size_t at, size_t end, Record *r)
     r->at = at;
     r->magic = magic_at(m, at);
     r->status = m[at + 2];
-    if (begun(m, at, 0xA5))
-        return torn_record(m, at, end, r);
+    if (torn(m, at))
+        return torn_record(at, end, r);
     if (!known(r) || !bl_name_end(m, n, at, &r->name_length, &r->missing))
         return false;
     r->data_length = data_length_at(m, at);

@@ -22,7 +22,7 @@ void bl_write(Flash *f, const Record *old, size_t at, size_t marker, const Conte
         bl_program(f, at + 4 + i, (uint8_t)(content->data_length >> 8 * i));
     bl_program(f, at + 2, RESERVED);
     program_all(f, name_at, content->name, content->name_length);
-    bl_program(f, name_at + content->name_length, 0x00);
+    bl_end_name(f, name_at + content->name_length);
     program_all(f, name_at + up8(content->name_length + 1), content->data, content->data_length);
     bl_program(f, at + 2, COMMITTED);
     if (old)

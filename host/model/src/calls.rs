@@ -1,12 +1,9 @@
 //! "Numbers given back": the seven calls, with the table's rows in its order.
 use crate::chain::{Chain, Record};
-use crate::flash::{carry_out, Step};
+use crate::flash::carry_out;
 use crate::geometry::*;
-use crate::place::put_room;
-use crate::repair::mount_steps;
+use crate::plan::{planned, Ask, Plan};
 use crate::rules::read_settled;
-use crate::sweep::sweep_steps;
-use crate::write::{format_steps, put_steps, Old};
 
 /// What a call answers. Mount: h, T, live files. Sweep: finished moves. Get: the
 /// file's offset and length. List: the name's offset and length, the file's
@@ -33,7 +30,7 @@ fn told(r: Result<Reply, u32>) -> Reply {
 }
 
 /// 22: "N bad, then name bad (put, get, remove)".
-fn accepted(img: &[u8], name: Option<&[u8]>) -> Result<(), u32> {
+pub(crate) fn accepted(img: &[u8], name: Option<&[u8]>) -> Result<(), u32> {
     if good_length(img.len() as u64) && name.is_none_or(good_name) {
         Ok(())
     } else {
@@ -42,52 +39,44 @@ fn accepted(img: &[u8], name: Option<&[u8]>) -> Result<(), u32> {
 }
 
 /// 22, 5, 6 and 16, for the calls that want a settled image.
-fn read(img: &[u8], name: Option<&[u8]>) -> Result<Chain, u32> {
+pub(crate) fn read(img: &[u8], name: Option<&[u8]>) -> Result<Chain, u32> {
     accepted(img, name)?;
     read_settled(img)
 }
 
 /// 2: "get, remove: no such file".
-fn read_file(img: &[u8], name: &[u8]) -> Result<Record, u32> {
+pub(crate) fn read_file(img: &[u8], name: &[u8]) -> Result<Record, u32> {
     read(img, Some(name))?.find_live(img, name).cloned().ok_or(2)
 }
 
-/// 4: "allowance used up before the last step: steps used", or 0: "An allowance
-/// equal to the need answers 0." (decision 19, 26)
-fn carried(img: &mut [u8], steps: &[Step], allowance: u64, done: Reply) -> Reply {
-    let used = carry_out(img, steps, allowance);
-    if used < steps.len() as u64 {
-        Reply { steps: used, ..Reply::refusal(4) }
+/// 4: "allowance used up before the last step: steps used, and for sweep the finished
+/// moves" (decision 23), or 0: "An allowance equal to the need answers 0." (decision
+/// 19, 26)
+fn carried(img: &mut [u8], plan: Plan, allowance: u64) -> Reply {
+    let steps = carry_out(img, &plan.steps, allowance);
+    let finished = plan.ends.iter().filter(|&&e| e <= steps).count() as u64;
+    if steps < plan.steps.len() as u64 {
+        Reply { first: finished, steps, ..Reply::refusal(4) }
     } else {
-        Reply { steps: used, ..done }
+        Reply { steps, ..plan.done }
     }
 }
 
+/// A writing call: a refusal, or its plan as far as the allowance goes.
+fn written(img: &mut [u8], ask: Ask, allowance: u64) -> Reply {
+    told(planned(img, ask).map(|plan| carried(img, plan, allowance)))
+}
+
 pub fn format(img: &mut [u8], allowance: u64) -> Reply {
-    told(accepted(img, None).map(|()| {
-        let steps = format_steps(img.len() as u64);
-        carried(img, &steps, allowance, Reply::default())
-    }))
+    written(img, Ask::Format, allowance)
 }
 
-/// "Mount's success gives h, T, the count of live files (of the image it
-/// leaves), steps."
 pub fn mount(img: &mut [u8], allowance: u64) -> Reply {
-    told(accepted(img, None).and_then(|()| {
-        let (steps, c) = mount_steps(img)?;
-        let done = Reply { first: c.head, second: c.tail, third: c.live_count(), ..Reply::default() };
-        Ok(carried(img, &steps, allowance, done))
-    }))
+    written(img, Ask::Mount, allowance)
 }
 
-/// 28: "put: no room".
 pub fn put(img: &mut [u8], name: &[u8], data: &[u8], allowance: u64) -> Reply {
-    told(read(img, Some(name)).and_then(|c| {
-        let placed = put_room(img, &c, name, data.len() as u64).ok_or(28u32)?;
-        let old = c.find_live(img, name).map(|r| Old { at: r.at, status: r.status });
-        let steps = put_steps(old, &placed, name, data);
-        Ok(carried(img, &steps, allowance, Reply::default()))
-    }))
+    written(img, Ask::Put(name, data), allowance)
 }
 
 /// "there get gives offset and length"
@@ -104,18 +93,10 @@ pub fn list(img: &[u8], index: u64) -> Reply {
     }))
 }
 
-/// "Remove: status 00, one step."
 pub fn remove(img: &mut [u8], name: &[u8], allowance: u64) -> Reply {
-    told(read_file(img, name).map(|r| carried(img, &[Step::Program(r.at + 2, DELETED)], allowance, Reply::default())))
+    written(img, Ask::Remove(name), allowance)
 }
 
-/// "Sweep's success gives finished moves and steps"; at 4 "steps used, and for
-/// sweep the finished moves" (decision 23). 28: "no move made, for want of room".
 pub fn sweep(img: &mut [u8], allowance: u64) -> Reply {
-    told(read(img, None).and_then(|c| {
-        let plan = sweep_steps(img, c).ok_or(28u32)?;
-        let reply = carried(img, &plan.steps, allowance, Reply::default());
-        let finished = plan.ends.iter().filter(|&&e| e <= reply.steps).count();
-        Ok(Reply { first: finished as u64, ..reply })
-    }))
+    written(img, Ask::Sweep, allowance)
 }

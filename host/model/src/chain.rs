@@ -1,7 +1,9 @@
 //! "Chain and tail T", with the "Last thing in the chain only".
+use crate::faults::{self, Fault};
 use crate::files;
 use crate::geometry::*;
 use crate::place::Place;
+use crate::torn::{torn_shape, torn_wrap_shape};
 
 #[derive(Clone, Debug)]
 pub struct Record {
@@ -11,7 +13,7 @@ pub struct Record {
     pub status: u8,
     pub torn: bool,
     pub name_len: u64,
-    /// the FF that counts as the 00, in a reserved record
+    /// the byte of 80 or more that counts as the 00, in a reserved record
     pub missing: Option<u64>,
     pub data_at: u64,
     pub data_len: u64,
@@ -30,7 +32,7 @@ impl Record {
         &img[self.data_at as usize..(self.data_at + self.data_len) as usize]
     }
 
-    /// a START or CLEAN; a torn record begins with A5 and is none
+    /// a START or CLEAN; a torn record's first byte is on the way to A5 and is none
     pub fn marked(&self) -> bool {
         matches!(self.magic, START | CLEAN)
     }
@@ -70,10 +72,11 @@ impl Chain {
     }
 }
 
-/// The torn record at `p`: "counts 16 bytes, byte 8 of it is FF or 00". Its
-/// length bytes and its bytes 9 to 15 have no rule (decision 8).
+/// The torn record at `p`: "counts 16 bytes". Its length bytes and its bytes 9 to 15
+/// have no rule (decision 8); K14: "a torn record's byte 8 may hold anything".
 fn torn_at(img: &[u8], p: u64, end: u64) -> Option<Record> {
-    if p + 16 > end || !matches!(byte(img, p + 8), 0xFF | 0x00) {
+    let odd = faults::seeded(Fault::TornByte8Judged) && !matches!(byte(img, p + 8), 0xFF | 0x00);
+    if p + 16 > end || odd {
         return None;
     }
     Some(Record {
@@ -91,13 +94,21 @@ fn torn_at(img: &[u8], p: u64, end: u64) -> Option<Record> {
     })
 }
 
-/// The record at `p`. None: "another magic or status (F0 on a record too)", "a
-/// name without 00 in 64 bytes" or, reserved, "neither FF nor 00", "a record
-/// past its end". FE may stand on a START or CLEAN record too (decision 9).
+/// K14: "any record status but FF, FE, FC, F8 is dead". A record of status FF that
+/// isn't torn, as A4 5A FF, is none.
+fn record_status(status: u8) -> bool {
+    if faults::seeded(Fault::OtherStatusRefused) {
+        return matches!(status, RESERVED | COMMITTED | MIGRATING | WEAR | DELETED);
+    }
+    status != ERASED
+}
+
+/// The record at `p`. None: "another magic or status", "a name without 00 in 64
+/// bytes", of a reserved one without a byte of 80 or more too, "a record past its
+/// end". FE may stand on a START or CLEAN record too (decision 9).
 fn record_at(img: &[u8], p: u64, end: u64) -> Option<Record> {
     let (magic, status) = (magic(img, p), status(img, p));
-    if !matches!(magic, RECORD | START | CLEAN) || !matches!(status, RESERVED | COMMITTED | MIGRATING | WEAR | DELETED)
-    {
+    if !matches!(magic, RECORD | START | CLEAN) || !record_status(status) {
         return None;
     }
     let name = name_end(img, p)?;

@@ -1,5 +1,6 @@
-//! Wrong models: the errors of document 01's "Errors that look right", one at a
-//! time, to show that the testers notice them. None is seeded by default.
+//! Wrong models, one error at a time, to show that the testers notice them: those of
+//! document 01's "Errors that look right", and K14's clauses, each left out or turned.
+//! None is seeded by default.
 use std::cell::Cell;
 
 #[derive(Clone, Copy, PartialEq, Eq, Debug)]
@@ -24,10 +25,46 @@ pub enum Fault {
     TornByLength,
     /// "Taking the first 00 5A anywhere as head".
     FirstStartIsHead,
+    /// K14: low byte 80 is no CLEAN.
+    Low80NotClean,
+    /// K14: low byte A4 is no record.
+    LowA4NotRecord,
+    /// K14: low byte A1 is no record.
+    LowA1NotRecord,
+    /// K14: 80 5A stays in old data.
+    Mark80Kept,
+    /// K14: A4 5A stays in old data.
+    MarkA4Kept,
+    /// K14: A1 5A stays in old data.
+    MarkA1Kept,
+    /// K14: A0 goes to 00 at once.
+    StartAtOnce,
+    /// K14: a name's 00 is programmed at once.
+    NameEndAtOnce,
+    /// K14: only FF and 00 end a reserved name.
+    NameEndsAtFfOnly,
+    /// K14: a status is voided at once.
+    VoidedAtOnce,
+    /// K14: the first byte of a torn thing is A5 or FA alone.
+    TornFirstWhole,
+    /// K14: the repair of a torn thing leaves its first byte.
+    TornFirstLeft,
+    /// K14: the second byte of a torn thing is FF or 5A alone.
+    TornSecondWhole,
+    /// K14: a torn record's byte 8 is FF or 00 alone.
+    TornByte8Judged,
+    /// K14: a marker is unfinished at status FF alone.
+    MarkerOpenAtFfOnly,
+    /// K14: dead statuses are 00 and E0 alone.
+    OtherStatusRefused,
+    /// K14: a cut reaches inside the program step behind an undone erase. No fault of a
+    /// library: the other reading of "its next program step".
+    CutPastErase,
 }
 
 impl Fault {
-    pub const ALL: [Fault; 10] = [
+    /// The faults that a library can have.
+    pub const ALL: [Fault; 26] = [
         Fault::NotCleaned,
         Fault::CleanedLate,
         Fault::StartBeforeErase,
@@ -38,6 +75,22 @@ impl Fault {
         Fault::CleanNotWalked,
         Fault::TornByLength,
         Fault::FirstStartIsHead,
+        Fault::Low80NotClean,
+        Fault::LowA4NotRecord,
+        Fault::LowA1NotRecord,
+        Fault::Mark80Kept,
+        Fault::MarkA4Kept,
+        Fault::MarkA1Kept,
+        Fault::StartAtOnce,
+        Fault::NameEndAtOnce,
+        Fault::NameEndsAtFfOnly,
+        Fault::VoidedAtOnce,
+        Fault::TornFirstWhole,
+        Fault::TornFirstLeft,
+        Fault::TornSecondWhole,
+        Fault::TornByte8Judged,
+        Fault::MarkerOpenAtFfOnly,
+        Fault::OtherStatusRefused,
     ];
 }
 

@@ -1,5 +1,6 @@
 //! Flash steps: "Every change to the image goes through two functions, one that
 //! programs one byte and one that erases one sector".
+use crate::faults::{self, Fault};
 use crate::geometry::SECTOR;
 use crate::log;
 
@@ -31,6 +32,24 @@ pub fn carry_out(img: &mut [u8], steps: &[Step], allowance: u64) -> u64 {
     done
 }
 
+/// K14, "a cut may fall inside a program step; erase stays atomic": "any subset of the
+/// bits that its next program step would clear may be clear". `left` are the steps
+/// that a cut call has left undone, `held` is what the byte of the first of them then
+/// holds: without effect if that step erases, or if `held` is no such byte.
+pub fn cut_inside(img: &mut [u8], left: &[Step], held: u8) {
+    let next = match left {
+        [Step::Erase(_), ..] if faults::seeded(Fault::CutPastErase) => {
+            left.iter().find(|s| matches!(s, Step::Program(..)))
+        }
+        _ => left.first(),
+    };
+    let Some(&Step::Program(a, listed)) = next else { return };
+    let found = img[a as usize];
+    if held & listed == listed && held & found == held {
+        apply(img, Step::Program(a, held));
+    }
+}
+
 /// A copy of the image on which a step list is worked out: later steps may
 /// depend on bytes that earlier ones wrote.
 pub struct Draft {
@@ -46,6 +65,10 @@ impl Draft {
     pub fn add(&mut self, step: Step) {
         apply(&mut self.img, step);
         self.steps.push(step);
+    }
+
+    pub fn extend(&mut self, steps: impl IntoIterator<Item = Step>) {
+        steps.into_iter().for_each(|step| self.add(step));
     }
 
     pub fn program(&mut self, a: u64, b: u8) {

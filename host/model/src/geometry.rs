@@ -54,9 +54,15 @@ pub fn byte(img: &[u8], a: u64) -> u8 {
 }
 
 /// "Header, 8 bytes: magic (2), status (1), reserved (1, always FF), data_len (4)."
-/// "Numbers are little endian."
+/// "Numbers are little endian." K14: "low magic byte 80 counts as CLEAN, A4 and A1
+/// count as A5": the bytes between A0 and 00, and between A5 and A0.
 pub fn magic(img: &[u8], a: u64) -> u16 {
-    u16::from_le_bytes([byte(img, a), byte(img, a + 1)])
+    match u16::from_le_bytes([byte(img, a), byte(img, a + 1)]) {
+        0x5A80 if !faults::seeded(Fault::Low80NotClean) => CLEAN,
+        0x5AA4 if !faults::seeded(Fault::LowA4NotRecord) => RECORD,
+        0x5AA1 if !faults::seeded(Fault::LowA1NotRecord) => RECORD,
+        other => other,
+    }
 }
 
 pub fn status(img: &[u8], a: u64) -> u8 {
@@ -79,40 +85,37 @@ pub fn blank(img: &[u8], from: u64, to: u64) -> bool {
     from >= to || all_ff(&img[from as usize..to as usize])
 }
 
-/// "00 5A, A0 5A or A5 5A": what step (c) of a move cleans away.
+/// "00 5A, A0 5A or A5 5A": what step (c) of a move cleans away. K14: 80, A4 and A1,
+/// "all three are cleaned from old data as those are".
 pub fn mark(img: &[u8], a: u64) -> bool {
-    let record = magic(img, a) == RECORD && !faults::seeded(Fault::RecordMarkKept);
-    record || matches!(magic(img, a), START | CLEAN)
-}
-
-/// *Torn*: "status FF, first byte A5, second FF or 5A".
-pub fn torn_shape(img: &[u8], a: u64) -> bool {
-    status(img, a) == ERASED && byte(img, a) == 0xA5 && matches!(byte(img, a + 1), 0xFF | 0x5A)
-}
-
-/// *Torn wrap*: "first byte FA, second FF or 5A, status FF".
-pub fn torn_wrap_shape(img: &[u8], a: u64) -> bool {
-    status(img, a) == ERASED && byte(img, a) == 0xFA && matches!(byte(img, a + 1), 0xFF | 0x5A)
+    let kept = match byte(img, a) {
+        0x80 => faults::seeded(Fault::Mark80Kept),
+        0xA4 => faults::seeded(Fault::MarkA4Kept),
+        0xA1 => faults::seeded(Fault::MarkA1Kept),
+        _ => magic(img, a) == RECORD && faults::seeded(Fault::RecordMarkKept),
+    };
+    !kept && matches!(magic(img, a), START | CLEAN | RECORD)
 }
 
 /// A name as it stands in a record.
 #[derive(Clone, Copy, Debug)]
 pub struct Name {
     pub len: u64,
-    /// the FF that counts as the 00, in a reserved record
+    /// the byte of 80 or more that counts as the 00, in a reserved record
     pub missing: Option<u64>,
 }
 
 /// The end of the name of the record at `at`: the first 00 "in the 64 bytes
-/// from its byte 8 (cut off at N)" (decision 12). In a reserved record, "if an FF
-/// comes before any 00, the first FF counts as the 00, whatever follows".
+/// from its byte 8 (cut off at N)" (decision 12). K14: "a reserved name with a byte
+/// of 80 or more (FF too) before any 00 takes the first such byte as its 00".
 pub fn name_end(img: &[u8], at: u64) -> Option<Name> {
     let from = at + 8;
     let to = (from + 64).min(img.len() as u64);
     let reserved = status(img, at) == RESERVED;
+    let high = if faults::seeded(Fault::NameEndsAtFfOnly) { 0xFF } else { 0x80 };
     (from..to).find_map(|a| match byte(img, a) {
         0x00 => Some(Name { len: a - from, missing: None }),
-        0xFF if reserved => Some(Name { len: a - from, missing: Some(a) }),
+        b if reserved && b >= high => Some(Name { len: a - from, missing: Some(a) }),
         _ => None,
     })
 }

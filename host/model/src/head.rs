@@ -1,6 +1,7 @@
 //! "Reading an image": the head h.
 use crate::faults::{self, Fault};
 use crate::geometry::*;
+use crate::torn::torn_shape;
 
 /// The next place of the walk, if something at `p` is stepped over: "A reserved
 /// record is stepped over by its finished size; a record of status FF, or with

@@ -1,6 +1,8 @@
-//! Document 01 read literally, as a program: what each call answers and leaves.
+//! Document 01 with request K14 of document 02, read literally, as a program: what
+//! each call answers and leaves.
 //!
-//! One module for each of its sections; quoted text is the document's own.
+//! One module for each section of 01; quoted text is the documents' own, K14's where
+//! it is named.
 //! Where the document leaves a choice, the number of the entry in docs/DECISIONS.md
 //! stands in brackets, as in (decision 6).
 //!
@@ -17,14 +19,18 @@ pub mod geometry;
 pub mod head;
 pub mod log;
 pub mod place;
+pub mod plan;
 pub mod repair;
 pub mod rules;
 pub mod sweep;
+pub mod torn;
 pub mod write;
 
 pub use calls::{format, get, list, mount, put, remove, sweep, Reply};
 pub use chain::{read_chain, Chain, Record};
+pub use flash::{carry_out, cut_inside, Step};
 pub use geometry::*;
 pub use head::{find_head, walk};
 pub use place::{put_room, Place, Placed};
+pub use plan::{planned, Ask, Plan};
 pub use rules::{read_image, settled};

@@ -1,12 +1,14 @@
 //! "What mount repairs, in this order".
 use crate::chain::{read_chain, Chain, Record};
+use crate::faults::{self, Fault};
 use crate::flash::{Draft, Step};
 use crate::geometry::*;
 use crate::rules::{read_image, settled};
-use crate::sweep::close;
+use crate::sweep::{close, to_start};
+use crate::write::{marker_steps, name_end_steps};
 
 /// Repair 1, "Head CLEAN: erase each sector wholly in the free run that isn't all FF,
-/// ascending; then head's low byte to 00." By address (decision 16).
+/// ascending; then head's low byte to 00", by way of 80. By address (decision 16).
 fn repair_1(d: &mut Draft, c: &Chain) {
     if magic(&d.img, c.head) != CLEAN {
         return;
@@ -20,7 +22,7 @@ fn repair_1(d: &mut Draft, c: &Chain) {
             a += SECTOR;
         }
     }
-    d.program(c.head, 0x00);
+    to_start(d, c.head);
 }
 
 /// Repair 2, "Head START, next record CLEAN: steps (c) to (f) of a move. Next START:
@@ -36,25 +38,39 @@ fn repair_2(d: &mut Draft, c: &Chain) -> u64 {
     y.at
 }
 
-/// "Torn: second byte 5A, four length bytes 00, byte 8 to 00, status 00 (7 steps,
-/// always all)." (decision 17) "Reserved: the missing 00 if any, status 00."
+/// K14: "A reserve or torn record is voided by clearing the status's top bit alone
+/// first", at the status's place in the order: 7F or 7E, then 00.
+fn void(d: &mut Draft, r: &Record) {
+    if !faults::seeded(Fault::VoidedAtOnce) {
+        d.program(r.at + 2, r.status & 0x7F);
+    }
+    d.program(r.at + 2, DELETED);
+}
+
+/// "Torn: second byte 5A, four length bytes 00, byte 8 to 00, status 00 (.. always
+/// all)." (decision 17) K14, of a torn first byte: "its repair programs that byte
+/// first, always"; so 9 steps. "Reserved: the missing 00 if any, status 00."
 fn finish(d: &mut Draft, r: &Record) {
     if r.torn {
+        if !faults::seeded(Fault::TornFirstLeft) {
+            d.program(r.at, 0xA5);
+        }
         d.program(r.at + 1, 0x5A);
         for i in 4..=8 {
             d.program(r.at + i, 0x00);
         }
     } else if let Some(a) = r.missing {
-        d.program(a, 0x00);
+        d.extend(name_end_steps(a));
     }
-    d.program(r.at + 2, DELETED);
+    void(d, r);
 }
 
-/// Repair 3, the last thing in the chain. "Torn wrap: 5A, F0 (2)."
+/// Repair 3, the last thing in the chain. "Torn wrap: 5A, F0"; K14: the first byte
+/// before them, always. So a torn wrap gets all three steps of its marker.
 fn repair_3(d: &mut Draft, c: &Chain) {
     if let Some(w) = c.torn_wrap {
-        d.program(w + 1, 0x5A);
-        d.program(w + 2, WRAP_STATUS);
+        let left = faults::seeded(Fault::TornFirstLeft) as usize;
+        d.extend(marker_steps(w).skip(left));
     }
     if let Some(r) = c.records.last().filter(|r| r.unfinished()) {
         finish(d, r);

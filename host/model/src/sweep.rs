@@ -5,8 +5,8 @@ use crate::flash::{Draft, Step};
 use crate::geometry::*;
 use crate::write::{put_steps, Old};
 
-/// (c) "in X's data, at each 8-byte boundary with 00 5A, A0 5A or A5 5A, the
-/// second byte to 00, ascending": both bytes lie in the data (decision 21).
+/// (c) "in X's data, at each 8-byte boundary with" a mark, "the second byte to 00,
+/// ascending": both bytes lie in the data (decision 21).
 fn clean(d: &mut Draft, x: &Record) {
     let end = x.data_at + x.data_len;
     for a in (x.data_at..end).step_by(8) {
@@ -23,6 +23,15 @@ fn vacated(n: u64, x: &Record, y: &Record) -> Vec<u64> {
     (floor(x.at)..to).step_by(SECTOR as usize).collect()
 }
 
+/// (e) "Y's low byte 00"; K14: "a low magic byte of A0 goes to 80 and then to 00
+/// (from 80 only the last), in a move and in every repair".
+pub fn to_start(d: &mut Draft, at: u64) {
+    if byte(&d.img, at) == 0xA0 && !faults::seeded(Fault::StartAtOnce) {
+        d.program(at, 0x80);
+    }
+    d.program(at, 0x00);
+}
+
 /// Steps (c) to (f) of a move; also repair 2 of a mount.
 pub fn close(d: &mut Draft, x: &Record, y: &Record) {
     let late = faults::seeded(Fault::CleanedLate);
@@ -32,14 +41,13 @@ pub fn close(d: &mut Draft, x: &Record, y: &Record) {
     let sectors = vacated(d.img.len() as u64, x, y);
     let early = faults::seeded(Fault::StartBeforeErase);
     if early {
-        d.program(y.at, 0x00);
+        to_start(d, y.at);
     }
     for &a in &sectors {
         d.erase(a);
     }
-    // (e) "Y's low byte 00"
     if !early {
-        d.program(y.at, 0x00);
+        to_start(d, y.at);
     }
     if late && sectors.is_empty() {
         clean(d, x);
@@ -63,9 +71,8 @@ fn make_move(d: &mut Draft, mut c: Chain) -> Option<Chain> {
         // (a) "a live X is copied as in put, from F8 to its own status 00"
         let placed = c.place(d.img.len() as u64).fit(x.size)?;
         let old = Old { at: x.at, status: x.status };
-        for step in put_steps(Some(old), &placed, x.name(&d.img), x.data(&d.img)) {
-            d.add(step);
-        }
+        let copy = put_steps(Some(old), &placed, x.name(&d.img), x.data(&d.img));
+        d.extend(copy);
         c = read_chain(&d.img, c.head).expect("a copy leaves a legal chain");
     }
     // (b) "Y's low byte A0"

@@ -16,6 +16,18 @@ fn bytes_at(a: u64, bytes: &[u8]) -> impl Iterator<Item = Step> + '_ {
     (a..).zip(bytes).map(|(a, &b)| Step::Program(a, b))
 }
 
+/// "marker bytes FA, 5A, F0"
+pub fn marker_steps(at: u64) -> impl Iterator<Item = Step> {
+    bytes_at(at, &[0xFA, 0x5A, WRAP_STATUS])
+}
+
+/// K14: "a name's 00 is programmed as 80 and then 00, both steps always, in a put, a
+/// copy and the repair of a reserve".
+pub fn name_end_steps(at: u64) -> impl Iterator<Item = Step> {
+    let bytes: &[u8] = if faults::seeded(Fault::NameEndAtOnce) { &[0x00] } else { &[0x80, 0x00] };
+    bytes.iter().map(move |&b| Step::Program(at, b))
+}
+
 /// "Put, step by step".
 pub fn put_steps(old: Option<Old>, placed: &Placed, name: &[u8], data: &[u8]) -> Vec<Step> {
     let mut steps = Vec::new();
@@ -23,9 +35,9 @@ pub fn put_steps(old: Option<Old>, placed: &Placed, name: &[u8], data: &[u8]) ->
     if let Some(o) = old.filter(|o| o.status == COMMITTED) {
         steps.push(Step::Program(o.at + 2, MIGRATING));
     }
-    // "marker bytes FA, 5A, F0 if needed"
+    // "if needed"
     if let Some(m) = placed.marker {
-        steps.extend(bytes_at(m, &[0xFA, 0x5A, WRAP_STATUS]));
+        steps.extend(marker_steps(m));
     }
     let at = placed.at;
     let name_len = name.len() as u64;
@@ -34,7 +46,7 @@ pub fn put_steps(old: Option<Old>, placed: &Placed, name: &[u8], data: &[u8]) ->
     steps.extend(bytes_at(at + 4, &(data.len() as u32).to_le_bytes()));
     steps.push(Step::Program(at + 2, RESERVED));
     steps.extend(bytes_at(at + 8, name));
-    steps.push(Step::Program(at + 8 + name_len, 0x00));
+    steps.extend(name_end_steps(at + 8 + name_len));
     steps.extend(bytes_at(at + 8 + up8(name_len + 1), data));
     // "**FC, the commit**; old file's status 00"
     steps.push(Step::Program(at + 2, COMMITTED));

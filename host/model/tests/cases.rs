@@ -1,4 +1,4 @@
-//! Every line of "Cases, N = 8,192", with the bytes worked out by hand.
+//! Every line of "Cases, N = 8,192", with K14's counts and the bytes worked out by hand.
 use model::*;
 
 const N: usize = 8192;
@@ -40,7 +40,7 @@ fn put_dose(img: &mut [u8], data: &[u8; 3], allowance: u64, answer: u32, steps: 
 
 fn dose() -> Vec<u8> {
     let mut img = fresh();
-    put_dose(&mut img, &[1, 2, 3], ALL, 0, 16);
+    put_dose(&mut img, &[1, 2, 3], ALL, 0, 17);
     img
 }
 
@@ -101,14 +101,81 @@ fn first_put() {
 #[test]
 fn cuts_of_the_first_put() {
     let torn_done = [0xA5, 0x5A, 0x00, 0xFF, 0, 0, 0, 0, 0];
-    cut_and_mounted(1, 32, 7, &[0xA5], &torn_done);
+    cut_and_mounted(1, 32, 9, &[0xA5], &torn_done);
     let header = [0xA5, 0x5A, 0xFE, 0xFF, 3, 0, 0, 0];
     let voided = [0xA5, 0x5A, 0x00, 0xFF, 3, 0, 0, 0];
-    cut_and_mounted(7, 40, 2, &header, &[&voided[..], &[0]].concat());
-    cut_and_mounted(12, 40, 1, &[&header[..], b"dose\0"].concat(), &[&voided[..], b"dose\0"].concat());
-    cut_and_mounted(15, 40, 1, &edited(&DOSE, &[(2, 0xFE)]), &edited(&DOSE, &[(2, 0x00)]));
+    cut_and_mounted(7, 40, 4, &header, &[&voided[..], &[0]].concat());
+    // after the name's 80, and after its 00
+    cut_and_mounted(12, 40, 4, &[&header[..], b"dose\x80"].concat(), &[&voided[..], b"dose\0"].concat());
+    cut_and_mounted(13, 40, 2, &[&header[..], b"dose\0"].concat(), &[&voided[..], b"dose\0"].concat());
+    cut_and_mounted(16, 40, 2, &edited(&DOSE, &[(2, 0xFE)]), &edited(&DOSE, &[(2, 0x00)]));
     let mut img = fresh();
-    put_dose(&mut img, &[1, 2, 3], 16, 0, 16);
+    put_dose(&mut img, &[1, 2, 3], 17, 0, 17);
+}
+
+/// The first put cut inside the byte of its next step, which then holds `held`: what the
+/// mount after it takes, and its tail and files.
+fn cut_inside_a_byte(k: u64, held: u8, steps: u64, t: u64, files: u64) -> Vec<u8> {
+    let mut img = fresh();
+    let plan = planned(&img, Ask::Put(b"dose", &[1, 2, 3])).expect("it has room");
+    put_dose(&mut img, &[1, 2, 3], k, 4, k);
+    let before = img.clone();
+    cut_inside(&mut img, &plan.steps[k as usize..], held);
+    assert_ne!(img, before, "{held:02x} at {k}");
+    mounts(&mut img, 0, t, files, steps);
+    img
+}
+
+#[test]
+fn cuts_inside_bytes_of_the_first_put() {
+    let torn_done = [0xA5, 0x5A, 0x00, 0xFF, 0, 0, 0, 0, 0];
+    // on the way to A5, and to 5A
+    for (k, held) in [(0, 0xFD), (0, 0xA7), (1, 0xDB), (1, 0x5A)] {
+        assert_eq!(cut_inside_a_byte(k, held, 9, 32, 0), image(&[&FIRST, &torn_done]));
+    }
+    // a length byte: the torn record is voided all the same
+    cut_inside_a_byte(2, 0x7F, 9, 32, 0);
+    // FE: the record is reserved, its name has no byte
+    cut_inside_a_byte(6, 0xFE, 4, 40, 0);
+    // inside the name's first byte, 64: E4 counts as the 00, 7C is a byte of the name
+    let voided = [0xA5, 0x5A, 0x00, 0xFF, 3, 0, 0, 0];
+    assert_eq!(cut_inside_a_byte(7, 0xE4, 4, 40, 0), image(&[&FIRST, &voided, &[0]]));
+    assert_eq!(cut_inside_a_byte(7, 0x7C, 4, 40, 0), image(&[&FIRST, &voided, &[0x7C, 0]]));
+    // the commit: "a put .. is done at FC"
+    assert_eq!(cut_inside_a_byte(16, 0xFC, 0, 40, 1), image(&[&FIRST, &DOSE]));
+}
+
+/// "erase stays atomic", and a byte that is not between has no effect.
+#[test]
+fn no_effect() {
+    let img = dose();
+    for (left, held) in [
+        (vec![Step::Erase(0), Step::Program(16, 0x00)], 0x00),
+        (vec![Step::Program(16, 0x80)], 0x00),
+        (vec![Step::Program(16, 0x80)], 0xFF),
+        (vec![], 0x00),
+    ] {
+        let mut cut = img.clone();
+        cut_inside(&mut cut, &left, held);
+        assert_eq!(cut, img, "{left:?}");
+    }
+}
+
+/// "any record status but FF, FE, FC, F8 is dead"; A4 and A1 count as A5, 80 as CLEAN; A4
+/// with status FF is not torn.
+#[test]
+fn bytes_of_a_cut() {
+    for status in (0..=0xFD).filter(|s| !matches!(s, 0xFC | 0xF8)) {
+        mounts(&mut image(&[&FIRST, &edited(&DOSE, &[(2, status)])]), 0, 40, 0, 0);
+    }
+    for low in [0xA4, 0xA1] {
+        mounts(&mut image(&[&FIRST, &edited(&DOSE, &[(0, low)])]), 0, 40, 1, 0);
+        assert_eq!(mount(&mut image(&[&FIRST, &[low, 0x5A]]), ALL), Reply::refusal(5));
+    }
+    // from A0 two steps, from 80 "only the last"; the former head's second byte
+    for (low, steps) in [(0xA0, 3), (0x80, 2)] {
+        mounts(&mut image(&[&FIRST, &edited(&DOSE, &[(0, low)])]), 16, 40, 1, steps);
+    }
 }
 
 #[test]
@@ -116,18 +183,18 @@ fn replacing() {
     let second = edited(&DOSE, &[(16, 4), (17, 5), (18, 6)]);
     let old = |status| edited(&DOSE, &[(2, status)]);
     let mut img = dose();
-    put_dose(&mut img, &[4, 5, 6], ALL, 0, 18);
+    put_dose(&mut img, &[4, 5, 6], ALL, 0, 19);
     assert_eq!(img, image(&[&FIRST, &old(0x00), &second]));
-    // "Cut at 16: old"
-    let mut img = dose();
-    put_dose(&mut img, &[4, 5, 6], 16, 4, 16);
-    assert_eq!(img, image(&[&FIRST, &old(0xF8), &edited(&second, &[(2, 0xFE)])]));
-    mounts(&mut img, 0, 64, 1, 1);
-    assert_eq!(img, image(&[&FIRST, &old(0xF8), &edited(&second, &[(2, 0x00)])]));
-    assert_eq!(get(&img, b"dose"), Reply { first: 32, second: 3, ..Reply::default() });
-    // "at 17: new, mount takes 1"
+    // the last cut that leaves the old one
     let mut img = dose();
     put_dose(&mut img, &[4, 5, 6], 17, 4, 17);
+    assert_eq!(img, image(&[&FIRST, &old(0xF8), &edited(&second, &[(2, 0xFE)])]));
+    mounts(&mut img, 0, 64, 1, 2);
+    assert_eq!(img, image(&[&FIRST, &old(0xF8), &edited(&second, &[(2, 0x00)])]));
+    assert_eq!(get(&img, b"dose"), Reply { first: 32, second: 3, ..Reply::default() });
+    // the first with the new one: "mount takes 1"
+    let mut img = dose();
+    put_dose(&mut img, &[4, 5, 6], 18, 4, 18);
     assert_eq!(img, image(&[&FIRST, &old(0xF8), &second]));
     mounts(&mut img, 0, 64, 1, 1);
     assert_eq!(img, image(&[&FIRST, &old(0x00), &second]));
@@ -138,7 +205,7 @@ fn replacing() {
 fn room_of_the_first_put() {
     // 16 + 3 * (8 + 8 + 2704) = 8176; with 2705 bytes it would be 8200
     let mut img = fresh();
-    let steps = 4 + 2704 + 9;
+    let steps = 4 + 2704 + 10;
     assert_eq!(put(&mut img, b"dose", &[7; 2704], ALL), Reply { steps, ..Reply::default() });
     mounts(&mut img, 0, 2736, 1, 0);
     let mut img = fresh();
@@ -148,9 +215,9 @@ fn room_of_the_first_put() {
 
 #[test]
 fn sweep_after_the_first_put() {
-    for (data, cleaned, steps) in [([1, 2, 3], [1, 2, 3], 24), ([0x00, 0x5A, 3], [0x00, 0x00, 3], 25)] {
+    for (data, cleaned, steps) in [([1, 2, 3], [1, 2, 3], 27), ([0x00, 0x5A, 3], [0x00, 0x00, 3], 28)] {
         let mut img = fresh();
-        put_dose(&mut img, &data, ALL, 0, 16);
+        put_dose(&mut img, &data, ALL, 0, 17);
         assert_eq!(sweep(&mut img, ALL), Reply { first: 2, steps, ..Reply::default() });
         let first = edited(&FIRST, &[(1, 0x00)]);
         let old = edited(&DOSE, &[(0, 0x00), (1, 0x00), (2, 0x00), (16, cleaned[0]), (17, cleaned[1])]);
@@ -163,7 +230,7 @@ fn sweep_after_the_first_put() {
 #[test]
 fn names_and_empty_content() {
     let mut img = fresh();
-    assert_eq!(put(&mut img, &[b'x'; 63], b"1", ALL), Reply { steps: 63 + 1 + 9, ..Reply::default() });
+    assert_eq!(put(&mut img, &[b'x'; 63], b"1", ALL), Reply { steps: 63 + 1 + 10, ..Reply::default() });
     let before = img.clone();
     for bad in [&[b'x'; 64][..], b"a/", b"", b"a b", b"\x7F", b"\x20"] {
         assert_eq!(put(&mut img, bad, b"1", ALL), Reply::refusal(22));
@@ -171,7 +238,7 @@ fn names_and_empty_content() {
         assert_eq!(remove(&mut img, bad, ALL), Reply::refusal(22));
     }
     assert_eq!(img, before);
-    assert_eq!(put(&mut img, b"e", b"", ALL), Reply { steps: 1 + 9, ..Reply::default() });
+    assert_eq!(put(&mut img, b"e", b"", ALL), Reply { steps: 1 + 10, ..Reply::default() });
     // the first at 16, with 8 + 64 + 8 bytes; the second at 96
     assert_eq!(get(&img, &[b'x'; 63]), Reply { first: 88, second: 1, ..Reply::default() });
     assert_eq!(get(&img, b"e"), Reply { first: 112, second: 0, ..Reply::default() });

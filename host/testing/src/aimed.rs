@@ -1,4 +1,5 @@
 //! Images aimed at rules that random ones seldom come to.
+use crate::images::MARKS;
 use crate::rng::Rng;
 use model::*;
 
@@ -7,7 +8,7 @@ pub fn dirty_free_run(r: &mut Rng, img: &mut [u8]) {
     let Ok(c) = read_image(img) else { return };
     let n = img.len() as u64;
     if r.chance(75) {
-        img[c.head as usize] = 0xA0;
+        img[c.head as usize] = r.of(&[0xA0, 0x80]);
     }
     let (sector, f) = (floor(c.tail), floor(c.head));
     for _ in 0..1 + r.below(2) {
@@ -41,7 +42,7 @@ fn fill_up(r: &mut Rng, img: &mut [u8], at: u64, end: u64, name: &[u8]) -> u64 {
     let mut data = vec![r.of(&[0x11, 0x77, 0x00]); room as usize];
     for _ in 0..r.below(4) {
         let a = r.below(room / 8) as usize * 8;
-        data[a..a + 2].copy_from_slice(&[r.of(&[0x00, 0xA0, 0xA5]), 0x5A]);
+        data[a..a + 2].copy_from_slice(&[r.of(&MARKS), 0x5A]);
     }
     let status = if name.is_empty() { 0x00 } else { r.of(&[0x00, 0xFC, 0xF8]) };
     write_record(img, at, [0xA5, 0x5A, status], name, &data)
@@ -95,7 +96,7 @@ pub fn superseded_head(r: &mut Rng, n: usize) -> Vec<u8> {
     let mut img = vec![0xFF; n];
     let h = r.of(&[0, 16, SECTOR, SECTOR + 64]);
     let mut p = write_record(&mut img, h, [r.of(&[0x00, 0x00, 0xA0]), 0x5A, 0xF8], b"a", &[0xA5, 0x5A, 0x01]);
-    let second = [r.of(&[0xA0, 0x00, 0xA5]), 0x5A, r.of(&[0x00, 0xFC])];
+    let second = [r.of(&[0xA0, 0x80, 0x00, 0xA5]), 0x5A, r.of(&[0x00, 0xFC, 0x70])];
     p = write_record(&mut img, p, second, b"b", &[0x66; 4]);
     write_record(&mut img, p, [0xA5, 0x5A, 0xFC], b"a", &[0x55; 12]);
     img
@@ -134,11 +135,15 @@ pub fn unfinished_last(r: &mut Rng, img: &mut [u8]) {
     if p + 64 > img.len() {
         return;
     }
-    let high = r.of(&[0xFF, 0x5A]);
-    match r.below(4) {
-        0 => img[p] = 0xA5,
+    let high = r.of(&[0xFF, 0x5A, 0xDB, 0x7E]);
+    match r.below(5) {
+        0 => img[p] = r.of(&[0xA5, 0xBD, 0xE7]),
         1 => img[p..p + 6].copy_from_slice(&[0xA5, high, 0xFF, 0xFF, 3, 0]),
         2 => img[p..p + 11].copy_from_slice(b"\xA5\x5A\xFE\xFF\x03\0\0\0abc"),
+        3 => {
+            img[p..p + 11].copy_from_slice(b"\xA5\x5A\xFE\xFF\x03\0\0\0abc");
+            img[p + 8 + r.below(4) as usize] = r.of(&[0x80, 0xE1, 0xC0, 0x7F]);
+        }
         _ => img[p..p + 17].copy_from_slice(b"\xA5\x5A\xFE\xFF\x03\0\0\0abc\0\xFF\xFF\xFF\xFF\x07"),
     }
 }

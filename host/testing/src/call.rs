@@ -2,7 +2,7 @@
 use crate::rng::Rng;
 use crate::ALL;
 use model::faults::{self, Fault};
-use model::{log, Reply};
+use model::{log, planned, Ask, Plan, Reply};
 use std::panic::{catch_unwind, AssertUnwindSafe};
 
 #[derive(Clone, Debug, PartialEq)]
@@ -63,12 +63,22 @@ impl Call {
         }
     }
 
+    /// The model's plan of it; none if it is refused, or does no step.
+    pub fn plan(&self, img: &[u8]) -> Option<Plan> {
+        let ask = match self {
+            Call::Put(name, data, _) => Ask::Put(name, data),
+            Call::Remove(name, _) => Ask::Remove(name),
+            Call::Sweep(_) => Ask::Sweep,
+            Call::Mount(_) => Ask::Mount,
+            Call::Format(_) => Ask::Format,
+            Call::Get(_) | Call::List(_) => return None,
+        };
+        planned(img, ask).ok()
+    }
+
     /// The steps that this call does with every allowance it could want.
     pub fn need(&self, img: &[u8]) -> u64 {
-        match self {
-            Call::Get(_) | Call::List(_) => 0,
-            _ => self.with_allowance(ALL).run(&mut img.to_vec()).steps,
-        }
+        self.plan(img).map_or(0, |plan| plan.steps.len() as u64)
     }
 }
 

@@ -60,14 +60,16 @@ fn record(img: &[u8], r: &Record, found: &mut Vec<Broken>) {
         found.push(("a torn record's bytes 9 to 15 are FF", !blank(img, r.at + 9, end)));
         return;
     }
-    let named = r.at + 8 + r.name_len + r.missing.is_none() as u64;
+    let named = r.at + 8 + r.name_len + 1;
     let empty = r.name_len == 0;
     let cut = r.missing.is_some() || empty;
     found.extend([
         ("name padding is FF", !blank(img, named, r.data_at)),
         ("data padding is FF", !blank(img, r.data_at + r.data_len, end)),
-        ("names are bytes 21 to 7E", !r.name(img).iter().all(|b| (0x21..=0x7E).contains(b))),
-        ("status is 00, FC, F8 or FE", !matches!(r.status, DELETED | COMMITTED | MIGRATING | RESERVED)),
+        // 7F, where a dead record's name was cut inside a byte
+        ("names are bytes 21 to 7F", !r.name(img).iter().all(|b| (0x21..=0x7F).contains(b))),
+        ("files' names are bytes 21 to 7E", r.live && !r.name(img).iter().all(|b| (0x21..=0x7E).contains(b))),
+        ("a dead status is part of FC or 7F", r.status & 0x80 != 0 && r.status & 0x03 != 0 && r.status != RESERVED),
         ("a file has a name", empty && matches!(r.status, COMMITTED | MIGRATING)),
         ("FF after a cut name", cut && !blank(img, r.data_at, end)),
     ]);
@@ -101,16 +103,16 @@ fn moving(img: &[u8], c: &Chain, found: &mut Vec<Broken>) {
     }
     if let Some(y) = second {
         let x = &c.records[0];
-        found.push(("second mark: the head is 00", x.status != DELETED));
+        found.push(("second mark: the head is dead", matches!(x.status, RESERVED | COMMITTED | MIGRATING)));
         let kept = (x.data_at..x.data_at + x.data_len).step_by(8).any(|a| marks_in(img, a, a + 1));
         found.push(("second START: the head's data is clean", y.magic == START && kept));
     }
 }
 
-/// What a move's step (c) leaves of a mark.
+/// What a move's steps (c) and (f) leave of a mark; cut inside, any part of 5A.
 fn cleaned_mark(img: &[u8], at: u64) -> bool {
-    let at = at as usize;
-    matches!(img[at], 0x00 | 0xA0 | 0xA5) && img[at + 1] == 0x00
+    let [low, high] = [img[at as usize], img[at as usize + 1]];
+    matches!(low, 0x00 | 0xA0 | 0xA5 | 0x80 | 0xA4 | 0xA1) && high & !0x5A == 0 && high != 0x5A
 }
 
 /// A name for the kind of image, for the table of kinds seen.

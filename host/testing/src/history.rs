@@ -1,16 +1,18 @@
 //! Random histories, checked after every call.
 use crate::call::{allowances, few_allowances, Call, Store};
+use crate::cut::{self, Made};
 use crate::facts::Facts;
 use crate::ledger::{replay, shrink, World};
 use crate::maker::Maker;
 use crate::rng::Rng;
-use model::{blank, floor, SECTOR};
+use crate::tags;
+use model::{blank, floor, read_image, SECTOR};
 use std::collections::BTreeMap;
 
 /// A history with its first violation.
 pub struct Violation {
     pub n: usize,
-    pub calls: Vec<Call>,
+    pub calls: Vec<Made>,
     pub what: String,
 }
 
@@ -43,13 +45,28 @@ pub struct Seen {
     /// calls checked, with those of cuts tried
     pub checked: u64,
     pub answers: BTreeMap<String, u64>,
+    /// calls cut inside a byte, by kind
+    pub inside: BTreeMap<&'static str, u64>,
+    /// images by the bytes that such a cut leaves (testing::tags)
+    pub bytes: BTreeMap<&'static str, u64>,
     pub facts: Facts,
+}
+
+impl Seen {
+    fn look(&mut self, img: &[u8]) {
+        self.checked += 1;
+        self.facts.look(img);
+        let Ok(c) = read_image(img) else { return };
+        for (tag, _) in tags::of_bytes(img, &c).into_iter().filter(|t| t.1) {
+            *self.bytes.entry(tag).or_default() += 1;
+        }
+    }
 }
 
 pub struct Tester<'s, S: Store> {
     pub store: &'s S,
-    /// percent of calls at which every cut is tried, each followed by cuts of the
-    /// mount after it
+    /// percent of calls at which every cut is tried, between two steps and inside a
+    /// byte, each followed by cuts of the mount after it
     pub exhaust: u64,
     pub seen: Seen,
 }
@@ -66,7 +83,8 @@ impl<S: Store> Tester<'_, S> {
     ) -> Result<(), Violation> {
         while self.seen.checked < calls {
             let (n, maker) = (r.of(lengths), maker(r));
-            let length = 20 + r.below(200);
+            let most = r.of(&[40, 40, 40, 200]);
+            let length = 20 + r.below(most);
             self.run(r, n, &maker, length)?;
         }
         Ok(())
@@ -79,23 +97,25 @@ impl<S: Store> Tester<'_, S> {
         for _ in 0..length {
             if r.chance(self.exhaust) {
                 let whole = maker.whole_call(r, &w.img);
-                self.every_cut(r, &w, &calls, &whole)?;
+                self.every_cut(r, &w, &mut calls, &whole)?;
             }
             let call = maker.call(r, &w.img);
-            self.step(&mut w, &mut calls, &call)?;
+            let made = cut::sometimes(r, &w.img, call);
+            self.step(&mut w, &mut calls, made)?;
         }
         Ok(())
     }
 
     /// One call and the check after it.
-    fn step(&mut self, w: &mut World, calls: &mut Vec<Call>, call: &Call) -> Result<(), Violation> {
-        calls.push(call.clone());
-        let checked = w.step(self.store, call).and_then(|reply| {
-            *self.seen.answers.entry(format!("{} {}", call.kind(), reply.answer)).or_default() += 1;
+    fn step(&mut self, w: &mut World, calls: &mut Vec<Made>, made: Made) -> Result<(), Violation> {
+        let kind = made.call.kind();
+        let checked = w.step(self.store, &made).and_then(|(reply, inside)| {
+            *self.seen.answers.entry(format!("{kind} {}", reply.answer)).or_default() += 1;
+            *self.seen.inside.entry(kind).or_default() += inside as u64;
             w.check(self.store)
         });
-        self.seen.facts.look(&w.img);
-        self.seen.checked += 1;
+        calls.push(made);
+        self.seen.look(&w.img);
         match checked {
             Ok(_) => Ok(()),
             Err(what) => Err(Violation { n: w.img.len(), calls: calls.clone(), what }),
@@ -104,20 +124,48 @@ impl<S: Store> Tester<'_, S> {
 
     /// Every cut of a call (of a long one many), and many cuts of the mount after it.
     /// From one cut to the next is one step.
-    fn every_cut(&mut self, r: &mut Rng, w: &World, calls: &[Call], call: &Call) -> Result<(), Violation> {
+    fn every_cut(&mut self, r: &mut Rng, w: &World, calls: &mut Vec<Made>, call: &Call) -> Result<(), Violation> {
+        let before = calls.len();
         let mut last: Option<(u64, Vec<u8>)> = None;
         for k in allowances(r, call.need(&w.img)) {
-            let (mut cut, mut before) = (w.clone(), calls.to_vec());
-            self.step(&mut cut, &mut before, &call.with_allowance(k))?;
+            let mut cut = w.clone();
+            let call = call.with_allowance(k);
+            self.step(&mut cut, calls, Made::between(call.clone()))?;
             if last.is_some_and(|(j, img)| j + 1 == k && !one_step(&img, &cut.img)) {
                 let what = format!("from allowance {} to {k} is more than a step", k - 1);
-                return Err(Violation { n: cut.img.len(), calls: before, what });
+                return Err(Violation { n: cut.img.len(), calls: calls.clone(), what });
             }
-            last = Some((k, cut.img.clone()));
             for j in few_allowances(r, Call::Mount(0).need(&cut.img)) {
-                self.step(&mut cut.clone(), &mut before.clone(), &Call::Mount(j))?;
+                self.mount(r, &cut, calls, j)?;
             }
+            last = Some((k, cut.img));
+            calls.truncate(before);
+            self.inside(r, w, calls, call)?;
         }
+        Ok(())
+    }
+
+    /// This cut inside the next byte, at every value or a sample, and a cut of the mount
+    /// after each.
+    fn inside(&mut self, r: &mut Rng, w: &World, calls: &mut Vec<Made>, call: Call) -> Result<(), Violation> {
+        for held in cut::next(&w.img, &call).map_or(vec![], |next| next.values(r)) {
+            let mut cut = w.clone();
+            self.step(&mut cut, calls, Made { call: call.clone(), held: Some(held) })?;
+            let need = Call::Mount(0).need(&cut.img);
+            if need > 0 {
+                let j = r.below(need);
+                self.mount(r, &cut, calls, j)?;
+            }
+            calls.pop();
+        }
+        Ok(())
+    }
+
+    /// A mount cut at this allowance, now and then inside a byte.
+    fn mount(&mut self, r: &mut Rng, w: &World, calls: &mut Vec<Made>, allowance: u64) -> Result<(), Violation> {
+        let made = cut::sometimes(r, &w.img, Call::Mount(allowance));
+        self.step(&mut w.clone(), calls, made)?;
+        calls.pop();
         Ok(())
     }
 }

@@ -1,5 +1,6 @@
 //! Images that no history need make: damaged ones, and ones built thing by thing.
 use crate::call::formatted;
+use crate::cut;
 use crate::maker::Maker;
 use crate::rng::Rng;
 use crate::ALL;
@@ -9,7 +10,9 @@ use model::*;
 pub fn of_history(r: &mut Rng, n: usize, maker: &Maker, calls: u64) -> Vec<u8> {
     let mut img = formatted(n);
     for _ in 0..r.below(calls) {
-        maker.call(r, &img).run(&mut img);
+        let call = maker.call(r, &img);
+        let made = cut::sometimes(r, &img, call);
+        cut::run(&mut img, &made);
         if r.chance(60) {
             mount(&mut img, ALL);
         }
@@ -32,9 +35,9 @@ fn damage_at(r: &mut Rng, img: &mut [u8], at: usize) {
     let n = img.len() as u64;
     let anywhere = r.below(n / 8) as usize * 8;
     match r.below(12) {
-        0 => img[at + 2] = r.of(&[0xFF, 0xFE, 0xFC, 0xF8, 0xF0, 0xE0, 0x00, 0x13]),
-        1 => img[at] = r.of(&[0xA5, 0xA0, 0x00, 0xFA, 0xFF]),
-        2 => img[at + 1] = r.of(&[0x5A, 0xFF, 0x00]),
+        0 => img[at + 2] = r.of(&[0xFF, 0xFE, 0xFC, 0xF8, 0xF0, 0xE0, 0x00, 0x13, 0x7E, 0x7F, 0xF4, 0xFA]),
+        1 => img[at] = r.of(&[0xA5, 0xA0, 0x00, 0xFA, 0xFF, 0x80, 0xA4, 0xA1, 0xFB, 0xFE, 0xB5, 0xFD]),
+        2 => img[at + 1] = r.of(&[0x5A, 0xFF, 0x00, 0x5B, 0xDA, 0x12, 0xFB]),
         3 => {
             let l = r.of(&[0u32, 1, 7, 8, 9, 4096, u32::MAX, u32::MAX - 6, 1 << 31]).to_le_bytes();
             img[at + 4..at + 8].copy_from_slice(&l);
@@ -42,7 +45,7 @@ fn damage_at(r: &mut Rng, img: &mut [u8], at: usize) {
         4 => {
             let a = at + 8 + r.below(70) as usize;
             if a < img.len() {
-                img[a] = r.of(&[0, 0xFF, b'/', b'a', b' ', 0x5A, 0xA0]);
+                img[a] = r.of(&[0, 0xFF, b'/', b'a', b' ', 0x5A, 0xA0, 0x80, 0xE1, 0x7F]);
             }
         }
         5 => img[at + 3] = r.of(&[0xFF, 0x00]),
@@ -58,10 +61,10 @@ fn damage_at(r: &mut Rng, img: &mut [u8], at: usize) {
             }
         }
         9 => {
-            img[anywhere] = r.of(&[0xA0, 0x00, 0xA5, 0xFA]);
+            img[anywhere] = r.of(&[0xA0, 0x00, 0xA5, 0xFA, 0x80, 0xA4, 0xA1]);
             img[anywhere + 1] = 0x5A;
         }
-        10 => img[at] = 0xA0,
+        10 => img[at] = r.of(&[0xA0, 0x80]),
         _ => img.rotate_right((r.below(200) * 8 % SECTOR) as usize),
     }
 }
@@ -84,6 +87,15 @@ pub fn built(r: &mut Rng, n: usize, plain: bool) -> Vec<u8> {
         img[a + 1] = r.of(&[0x5A, 0x00]);
     }
     img
+}
+
+/// The low bytes of the marks that a move cleans away.
+pub const MARKS: [u8; 6] = [0x00, 0xA0, 0x80, 0xA5, 0xA4, 0xA1];
+
+/// Three bytes on their ways to a marker's, or a status that isn't.
+fn torn_marker(r: &mut Rng) -> [u8; 3] {
+    let status = r.of(&[0xFF, 0xFF, 0xF1, 0xFE, 0xF8, 0xE0]);
+    [r.of(&[0xFA, 0xFA, 0xFB, 0xFE]), r.of(&[0xFF, 0x5A, 0x5B, 0x7E]), status]
 }
 
 struct Builder {
@@ -129,8 +141,8 @@ impl Builder {
         let p = self.p;
         let torn = r.chance(30);
         if p < self.img.len() {
-            let (high, status) = if torn { (r.of(&[0xFF, 0x5A]), 0xFF) } else { (0x5A, 0xF0) };
-            self.img[p..p + 3].copy_from_slice(&[0xFA, high, status]);
+            let bytes = if torn { torn_marker(r) } else { [0xFA, 0x5A, 0xF0] };
+            self.img[p..p + 3].copy_from_slice(&bytes);
         }
         self.turned = true;
         self.p = 0;
@@ -141,15 +153,16 @@ impl Builder {
     fn record(&mut self, r: &mut Rng, i: u64, last: bool) -> bool {
         let (p, end) = (self.p, self.end());
         let low = match i {
-            0 => r.of(&[0x00, 0xA0]),
-            1 => r.of(&[0xA5, 0xA5, 0xA0, 0x00]),
-            _ if r.chance(3) => 0xA0,
+            0 => r.of(&[0x00, 0x00, 0xA0, 0x80]),
+            1 => r.of(&[0xA5, 0xA5, 0xA4, 0xA1, 0xA0, 0x80, 0x00]),
+            _ if r.chance(3) => r.of(&[0xA0, 0x80]),
+            _ if r.chance(5) => r.of(&[0xA4, 0xA1]),
             _ => 0xA5,
         };
         let status = match i {
-            _ if last => r.of(&[0xFC, 0xF8, 0x00, 0xFE, 0xFF, 0xE0]),
-            0 => r.of(&[0, 0, 0xE0, 0xF8, 0xFC]),
-            _ => r.of(&[0, 0xFC, 0xF8, 0xE0, 0, 0xFC]),
+            _ if last => r.of(&[0xFC, 0xF8, 0x00, 0xFE, 0xFE, 0xFF, 0xFF, 0xE0, 0x7F, 0xF0]),
+            0 => r.of(&[0, 0, 0xE0, 0xF8, 0xFC, 0x70, 0xF0]),
+            _ => r.of(&[0, 0xFC, 0xF8, 0xE0, 0, 0xFC, 0x7E, 0x18]),
         };
         if status == 0xFF {
             self.torn(r);
@@ -165,6 +178,8 @@ impl Builder {
         self.img[p + 8..p + 8 + name.len()].copy_from_slice(&name);
         if status != 0xFE || r.chance(55) {
             self.img[p + 8 + name.len()] = 0;
+        } else if r.chance(60) {
+            self.img[p + 8 + name.len()] = r.of(&[0x80, 0xC0, 0xFE, 0x7F]);
         }
         let at = p + size - up8(d as u64) as usize;
         self.data(r, at, d);
@@ -172,16 +187,16 @@ impl Builder {
         true
     }
 
-    /// A torn record, begun more or less; its byte 8 may break its rule.
+    /// A torn record, begun more or less; its first two bytes may break their rule.
     fn torn(&mut self, r: &mut Rng) {
         let p = self.p;
-        self.img[p] = 0xA5;
-        self.img[p + 1] = r.of(&[0xFF, 0x5A]);
+        self.img[p] = r.of(&[0xA5, 0xA5, 0xB5, 0xFD, 0xEF, 0xFE, 0xA4]);
+        self.img[p + 1] = r.of(&[0xFF, 0x5A, 0x5B, 0xFE, 0x7A, 0x12]);
         if r.chance(50) {
             self.img[p + 4..p + 6].copy_from_slice(&[3, 0]);
         }
         if r.chance(30) {
-            self.img[p + 8] = r.of(&[0u8, 0xFF, 0x61]);
+            self.img[p + 8] = r.of(&[0u8, 0xFF, 0x61, 0x80]);
         }
     }
 
@@ -203,11 +218,11 @@ impl Builder {
         if self.plain {
             self.img[at..at + d].fill(r.of(&[0x11, 0, 0xFF]));
             if d > 10 && r.chance(40) {
-                self.img[at + 8..at + 10].copy_from_slice(&[r.of(&[0u8, 0xA0, 0xA5]), 0x5A]);
+                self.img[at + 8..at + 10].copy_from_slice(&[r.of(&MARKS), 0x5A]);
             }
             return;
         }
-        let pattern = [0xA0, 0x5A, 0x00, 0x5A, 0xA5, 0x5A, 0xFF, 0x00];
+        let pattern = [r.of(&MARKS), 0x5A, r.of(&MARKS), 0x5A, r.of(&MARKS), 0x5A, 0xFF, 0x00];
         for k in 0..d {
             self.img[at + k] = pattern[(k + k / 8 * 2) % 8];
         }

@@ -1,5 +1,6 @@
 //! "History and ledger": the ledger, and the check of what demand 3 says.
 use crate::call::{Call, Store};
+use crate::cut::{self, Made};
 use crate::ALL;
 use model::*;
 use std::collections::BTreeSet;
@@ -27,21 +28,34 @@ impl Ledger {
     }
 
     /// "It is fed each call's arguments, its answer and its steps used. For a cut
-    /// put it is also told the place of the commit in that put's step list".
-    pub fn feed(&mut self, call: &Call, reply: &Reply, commit: Option<u64>) {
+    /// put it is also told the place of the commit in that put's step list". K14: and of
+    /// a cut call, what the byte of its next program step holds.
+    pub fn feed(&mut self, call: &Call, reply: &Reply, commit: Option<u64>, next: Option<u8>) {
         match (call, reply.answer) {
             (Call::Put(name, data, _), 0) => self.with(name, data),
-            (Call::Put(name, data, _), 4) if reply.steps >= commit.expect("a cut put has a commit") => {
-                self.with(name, data)
-            }
+            (Call::Put(name, data, _), 4) if committed_at(commit, reply.steps, next) => self.with(name, data),
             (Call::Remove(name, _), 0) => self.without(name),
+            (Call::Remove(name, _), 4) if remove_done(next) => self.without(name),
             _ => {}
         }
     }
 }
 
+/// "At 4 likewise, exactly if the steps used reach the commit's place." K14: "A put ..
+/// cut inside its deciding byte counts by what that byte then holds: .. done at FC".
+fn committed_at(commit: Option<u64>, steps: u64, next: Option<u8>) -> bool {
+    let place = commit.expect("a cut put has a commit");
+    steps >= place || (steps + 1 == place && next == Some(COMMITTED))
+}
+
+/// K14: its only step is the deciding one; a remove is done "at anything but FC and F8".
+fn remove_done(next: Option<u8>) -> bool {
+    !matches!(next, Some(COMMITTED | MIGRATING))
+}
+
 /// "n + d + 9 for n name and d data bytes, 1 more if the file it replaces has FC,
-/// 3 more with a marker, both by the rules above on the image that this put got".
+/// 3 more with a marker, both by the rules above on the image that this put got";
+/// 10 for 9, since a name's 00 takes two steps (K14: "Counts in 01 .. follow").
 /// None for another call and for a put that is refused.
 pub fn commit_place(img: &[u8], call: &Call) -> Option<u64> {
     let Call::Put(name, data, _) = call else { return None };
@@ -51,7 +65,9 @@ pub fn commit_place(img: &[u8], call: &Call) -> Option<u64> {
     let c = rules::read_settled(img).ok()?;
     let placed = put_room(img, &c, name, data.len() as u64)?;
     let fc = c.find_live(img, name).is_some_and(|r| r.status == COMMITTED);
-    Some((name.len() + data.len() + 9) as u64 + fc as u64 + 3 * placed.marker.is_some() as u64)
+    // a wrong model with one step for the name's 00 is to be told by what it keeps, not by this count
+    let end = if faults::seeded(faults::Fault::NameEndAtOnce) { 9 } else { 10 };
+    Some((name.len() + data.len() + end) as u64 + fc as u64 + 3 * placed.marker.is_some() as u64)
 }
 
 /// An image in a history, with its ledger.
@@ -66,16 +82,41 @@ impl World {
         World { img: crate::call::formatted(n), ledger: Ledger::default() }
     }
 
-    /// One call, and the ledger fed with it.
-    pub fn step(&mut self, store: &impl Store, call: &Call) -> Result<Reply, String> {
-        let commit = commit_place(&self.img, call);
-        let before = self.img.clone();
+    /// One call, and the ledger fed with it. A store can't be cut inside a byte: what the
+    /// byte of the next step then holds is written here, behind the call. Gives whether
+    /// that changed it.
+    pub fn step(&mut self, store: &impl Store, made: &Made) -> Result<(Reply, bool), String> {
+        let (call, before) = (&made.call, self.img.clone());
+        let commit = commit_place(&before, call);
+        let plan = call.plan(&before);
         let reply = store.call(&mut self.img, call)?;
         if !matches!(reply.answer, 0 | 4) && (self.img != before || reply.steps != 0) {
             return Err(format!("refusal {} changed the image", reply.answer));
         }
-        self.ledger.feed(call, &reply, commit);
-        Ok(reply)
+        let steps = plan.map_or(vec![], |p| p.steps);
+        let undone = cut::left(&steps, &reply);
+        self.listed_steps(before, &steps[..steps.len() - undone.len()])?;
+        let next = match undone.first() {
+            Some(&Step::Program(a, _)) => Some(a as usize),
+            _ => None,
+        };
+        let found = next.map(|a| self.img[a]);
+        if let Some(held) = made.held {
+            cut_inside(&mut self.img, undone, held);
+        }
+        let holds = next.map(|a| self.img[a]);
+        self.ledger.feed(call, &reply, commit, holds);
+        Ok((reply, holds != found))
+    }
+
+    /// "each program step in it .. stands in one of the step lists above": the call has
+    /// left the image that these steps make of the one it got.
+    fn listed_steps(&self, mut before: Vec<u8>, done: &[Step]) -> Result<(), String> {
+        carry_out(&mut before, done, ALL);
+        if self.img != before {
+            return Err(format!("the image is not the one after the first {} steps listed", done.len()));
+        }
+        Ok(())
     }
 
     /// What demand 3 says of a mount after the history. Gives the mounted image.
@@ -142,16 +183,16 @@ impl World {
 }
 
 /// The first violation in a history, if there is one.
-pub fn replay(store: &impl Store, n: usize, calls: &[Call]) -> Option<String> {
+pub fn replay(store: &impl Store, n: usize, calls: &[Made]) -> Option<String> {
     let mut w = World::new(n);
-    calls.iter().enumerate().find_map(|(i, call)| {
-        let violation = w.step(store, call).and_then(|_| w.check(store)).err()?;
+    calls.iter().enumerate().find_map(|(i, made)| {
+        let violation = w.step(store, made).and_then(|_| w.check(store)).err()?;
         Some(format!("call {i}: {violation}"))
     })
 }
 
 /// A shorter history with a violation.
-pub fn shrink(store: &impl Store, n: usize, calls: &[Call]) -> Vec<Call> {
+pub fn shrink(store: &impl Store, n: usize, calls: &[Made]) -> Vec<Made> {
     let mut best = calls.to_vec();
     let mut chunk = best.len() / 2;
     while chunk >= 1 {

@@ -6,6 +6,7 @@ pub mod c_calls;
 pub mod call;
 pub mod cc;
 pub mod compare;
+pub mod cut;
 pub mod facts;
 pub mod history;
 pub mod images;

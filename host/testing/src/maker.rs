@@ -1,5 +1,6 @@
 //! Random names, contents and calls.
 use crate::call::Call;
+use crate::images::MARKS;
 use crate::rng::Rng;
 use crate::ALL;
 use model::*;
@@ -34,8 +35,10 @@ pub enum Lengths {
 pub enum Contents {
     /// false heads, records and markers
     Marks,
-    /// a false record at every boundary, whose size steps past a head
+    /// a false record or head at every boundary; the record's size steps past a head
     FalseRecords,
+    /// a false record at every boundary, of low byte A5, A4 or A1
+    RecordMarks,
     /// one byte over and over with a few marks, which is short to write down
     Plain,
 }
@@ -84,7 +87,7 @@ impl Maker {
     pub fn full_sectors(r: &mut Rng) -> Maker {
         Maker {
             lengths: Lengths::Uniform(r.of(&[SECTOR / 8, SECTOR / 4, SECTOR / 2])),
-            contents: Contents::FalseRecords,
+            contents: r.of(&[Contents::FalseRecords, Contents::RecordMarks]),
             weights: [50, 5, 45, 0, 0, 0, 0],
             bad: 0,
             cut: r.of(&[0, 5]),
@@ -193,7 +196,8 @@ impl Maker {
     pub fn content(&self, r: &mut Rng, length: u64) -> Vec<u8> {
         match self.contents {
             Contents::Marks if r.chance(66) => marks(r, length),
-            Contents::Marks | Contents::FalseRecords => false_records(r, length),
+            Contents::Marks | Contents::FalseRecords => false_records(r, length, &[0xA5, 0xA5, 0xA0, 0x80, 0x00]),
+            Contents::RecordMarks => false_records(r, length, &[0xA5, 0xA4, 0xA1]),
             Contents::Plain => plain(r, length),
         }
     }
@@ -244,12 +248,12 @@ fn rich_length(r: &mut Rng, img: &[u8], name: &[u8]) -> u64 {
     }
 }
 
-/// At every boundary the same false record, that steps far, or the same false head.
-fn false_records(r: &mut Rng, length: u64) -> Vec<u8> {
-    let status = r.of(&[0xFC, 0xF8, 0x00, 0xFE, 0xE0]);
+/// At every boundary the same false record, that steps far, or the same false head, with
+/// one of these low bytes.
+fn false_records(r: &mut Rng, length: u64, lows: &[u8]) -> Vec<u8> {
+    let status = r.of(&[0xFC, 0xF8, 0x00, 0xFE, 0xE0, 0x7E]);
     let l = r.of(&[0x61u16, 0x08, 0x0100, 0x0FF0, 0x0E01, 0x1000, 0x1800, 0x03D0]).to_le_bytes();
-    let low = r.of(&[0xA5, 0xA5, 0xA0, 0x00]);
-    let block = [low, 0x5A, status, 0xFF, l[0], l[1], 0, 0];
+    let block = [r.of(lows), 0x5A, status, 0xFF, l[0], l[1], 0, 0];
     (0..length as usize).map(|i| block[i % 8]).collect()
 }
 
@@ -261,20 +265,20 @@ fn marks(r: &mut Rng, length: u64) -> Vec<u8> {
         let k = if style < 4 { style * 3 + r.below(5) } else { r.below(14) };
         v.extend_from_slice(&match k {
             0 => [0x00, 0x5A, 0xFF, 0xFF, 0xFF, 0xFF, 0xFF, 0xFF],
-            1 => [0xA0, 0x5A, 0xFF, 0xFF, 0xFF, 0xFF, 0xFF, 0xFF],
-            2 => [0xA5, 0x5A, 0xFF, 0xFF, 0xFF, 0xFF, 0xFF, 0xFF],
+            1 => [r.of(&[0xA0, 0x80]), 0x5A, 0xFF, 0xFF, 0xFF, 0xFF, 0xFF, 0xFF],
+            2 => [r.of(&[0xA5, 0xA4, 0xA1]), 0x5A, 0xFF, 0xFF, 0xFF, 0xFF, 0xFF, 0xFF],
             3 => [0xFA, 0x5A, 0xFF, 0xFF, 0xFF, 0xFF, 0xFF, 0xFF],
             4 => {
                 let status = r.of(&[0xFC, 0xF8, 0x00, 0xFE, 0xE0]);
                 let l = r.of(&[0u32, 8, 16, 100, 4000, 5000]).to_le_bytes();
-                [r.of(&[0xA5, 0x00, 0xA0]), 0x5A, status, 0xFF, l[0], l[1], l[2], l[3]]
+                [r.of(&MARKS), 0x5A, status, 0xFF, l[0], l[1], l[2], l[3]]
             }
             5 => [0x61, 0x00, 0xFF, 0xFF, 0xFF, 0xFF, 0xFF, 0xFF],
             6 => [0xFF; 8],
             7 => [0x00; 8],
             8 => [0x00, 0x5A, 0x00, 0x5A, 0x00, 0x5A, 0x00, 0x5A],
             9 => [0xA0, 0x5A, 0xFF, 0xFF, 0, 0, 0, 0],
-            10 => [0xA5, 0xFF, 0xFF, 0xFF, 0xFF, 0xFF, 0xFF, 0xFF],
+            10 => [r.of(&[0xA5, 0xB7, 0xFA, 0xFB]), 0xFF, 0xFF, 0xFF, 0xFF, 0xFF, 0xFF, 0xFF],
             11 => [0xFA, 0x5A, 0xF0, 0xFF, 0xFF, 0xFF, 0xFF, 0xFF],
             _ => r.bits().to_le_bytes(),
         });
@@ -289,7 +293,7 @@ fn plain(r: &mut Rng, length: u64) -> Vec<u8> {
     for _ in 0..r.below(4) {
         let a = (r.below(length) / 8 * 8) as usize;
         if let Some(low) = v.get_mut(a) {
-            *low = r.of(&[0x00, 0xA0, 0xA5, 0xFA]);
+            *low = r.of(&[0x00, 0xA0, 0xA5, 0xFA, 0x80, 0xA4, 0xA1, 0xA7]);
         }
         if let Some(high) = v.get_mut(a + 1) {
             *high = 0x5A;

@@ -26,15 +26,15 @@ pub fn chain(r: &mut Rng, n: usize) -> Vec<u8> {
 }
 
 fn odd_magic(r: &mut Rng, img: &mut [u8], at: u64) {
-    let low = r.of(&[0xA5, 0xA0, 0x00, 0xFA, 0xFF, 0xA4, 0x5A, 0xF8, 0x80]);
-    let high = r.of(&[0x5A, 0x5A, 0x5A, 0xFF, 0x00, 0x5B, 0x7A]);
+    let low = r.of(&[0xA5, 0xA0, 0x00, 0xFA, 0xFF, 0xA4, 0xA1, 0x5A, 0xF8, 0x80, 0x20, 0xFB, 0xB5]);
+    let high = r.of(&[0x5A, 0x5A, 0x5A, 0x5A, 0xFF, 0x00, 0x5B, 0x7A, 0x12]);
     img[at as usize] = low;
     img[at as usize + 1] = high;
 }
 
 fn odd_status(r: &mut Rng, img: &mut [u8], at: u64) {
     let any = r.bits() as u8;
-    img[at as usize + 2] = r.of(&[0xFF, 0xFE, 0xFC, 0xF8, 0xF0, 0xE0, 0x00, any, any]);
+    img[at as usize + 2] = r.of(&[0xFF, 0xFE, 0xFC, 0xF8, 0xF0, 0xE0, 0x00, any, any, any | 0xF0]);
 }
 
 /// A length that ends at a limit, just before or behind it, or is far too long.
@@ -64,7 +64,7 @@ fn odd_name(r: &mut Rng, img: &mut [u8], x: &Record) {
         }
         _ => {
             let i = from + r.below(x.name_len.max(1)) as usize;
-            img[i] = r.of(&[0x20, 0x7F, 0x80, b'/', 0x01, 0xFF]);
+            img[i] = r.of(&[0x20, 0x7F, 0x80, 0xE1, b'/', 0x01, 0xFF]);
         }
     }
 }
@@ -80,7 +80,7 @@ fn odd_twin(r: &mut Rng, img: &mut [u8], c: &Chain) {
 
 /// Bytes at random, bytes of the layout at random, or blocks of a header's bytes.
 pub fn noise(r: &mut Rng, n: usize) -> Vec<u8> {
-    let palette = [0x00, 0xFF, 0x5A, 0xA5, 0xA0, 0xFA, 0xFC, 0xFE];
+    let palette = [0x00, 0xFF, 0x5A, 0xA5, 0xA0, 0x80, 0xA4, 0xFA, 0xFC, 0xFE];
     match r.below(4) {
         0 => (0..n).map(|_| r.bits() as u8).collect(),
         1 => (0..n).map(|_| r.of(&palette)).collect(),
@@ -95,7 +95,8 @@ fn blocks(r: &mut Rng, n: usize, percent: u64) -> Vec<u8> {
     for block in img.chunks_exact_mut(8) {
         if r.chance(percent) {
             let length = r.of(&[0u8, 3, 8, 0x40, 0xFF]);
-            block[..3].copy_from_slice(&[r.of(&[0xA5, 0x00, 0xA0, 0xFA]), 0x5A, r.of(&[0x00, 0xFC, 0xF8, 0xFE, 0xFF])]);
+            let low = r.of(&[0xA5, 0xA5, 0x00, 0xA0, 0xFA, 0x80, 0xA4, 0xA1]);
+            block[..3].copy_from_slice(&[low, 0x5A, r.of(&[0x00, 0xFC, 0xF8, 0xFE, 0xFF, 0x70])]);
             block[4..8].copy_from_slice(&[length, 0, 0, 0]);
         }
     }

@@ -12,7 +12,7 @@ fn compared(store: &impl Store, images: u64) -> Tally {
 }
 
 /// Places that random images come to seldom (testing::tags).
-const PLACES: [&str; 22] = [
+const PLACES: [&str; 35] = [
     "T = N",
     "T = 0 after the turn",
     "T = floor(h)",
@@ -35,6 +35,19 @@ const PLACES: [&str; 22] = [
     "room, the replaced one out",
     "sweep erases several",
     "sweep erases to N",
+    "head 80",
+    "second 80",
+    "second A4",
+    "second A1",
+    "torn, first byte partly",
+    "torn, second byte partly",
+    "torn, byte 8 odd",
+    "torn wrap, first partly",
+    "torn wrap, second partly",
+    "torn wrap, status partly",
+    "reserved, end 80 or more",
+    "dead status, odd",
+    "new marks in X",
 ];
 
 #[test]

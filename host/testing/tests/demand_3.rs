@@ -36,7 +36,7 @@ fn histories_keep_demand_3() {
 /// image it made itself.
 #[test]
 fn faults_are_noticed() {
-    for fault in Fault::ALL {
+    for fault in Fault::ALL.into_iter().chain([Fault::CutPastErase]) {
         let run = || faults::with(fault, || histories(1, 400_000, 0).1);
         let unnoticed = matches!(catch_unwind(AssertUnwindSafe(run)), Ok(None));
         assert!(!unnoticed, "{fault:?} is not noticed");

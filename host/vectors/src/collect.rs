@@ -1,5 +1,6 @@
 //! Which runs of the model become vectors.
 use crate::emit::{equation, place_equation, Vector};
+use crate::held::{plain, told, Told};
 use crate::histories;
 use crate::required::REQUIRED;
 use model::*;
@@ -18,7 +19,7 @@ const SOURCES: [&str; 9] =
 pub const EACH: u64 = 3;
 /// Below this many vectors a tag is rare.
 const RARE: u64 = 12;
-const HISTORIES: u64 = 40;
+const HISTORIES: u64 = 120;
 /// A program step costs antt as much as its address: no long step lists.
 const MOST_STEPS: u64 = 150;
 const MOST_TEXT: usize = 9_000;
@@ -44,21 +45,23 @@ impl Collection {
     }
 
     /// This call on this image, unless there are enough of its kind.
-    fn try_call(&mut self, img: &[u8], call: &Call, source: &'static str) {
+    fn try_call(&mut self, img: &[u8], told: &Told, source: &'static str) {
+        let call = &told.made.call;
         let mut after = img.to_vec();
-        let reply = call.run(&mut after);
+        let reply = told.run(&mut after);
         if call.need(img) > 2 * MOST_STEPS || reply.steps > MOST_STEPS {
             return;
         }
         let (kind, answer) = (call.kind(), reply.answer);
-        let tags = tags::of(img, call, &reply, &after);
+        let mut tags = tags::of(img, call, &reply, &after);
+        tags.extend(told.tag);
         let key = format!("{kind} {answer} {}", tags.join(", "));
         let enough = self.keys.get(&key).copied().unwrap_or(0) >= alike(kind, answer);
         let own = BREAKS.iter().any(|b| b.0 == source);
         if !own && (enough || !self.wanted(kind, answer, &tags)) {
             return;
         }
-        let (function, text) = equation(img, call, &reply, &after);
+        let (function, text) = equation(img, call, told.byte, &reply, &after);
         if text.len() > MOST_TEXT {
             return;
         }
@@ -147,10 +150,11 @@ fn from_history(r: &mut Rng, c: &mut Collection) {
     let mut img = testing::call::formatted(n);
     for _ in 0..r.below(40) {
         let call = maker.call(r, &img);
+        let told = told(r, &img, call);
         if r.chance(12) {
-            c.try_call(&img, &call, "history");
+            c.try_call(&img, &told, "history");
         }
-        call.run(&mut img);
+        told.run(&mut img);
         if r.chance(60) {
             mount(&mut img, ALL);
         }
@@ -158,7 +162,7 @@ fn from_history(r: &mut Rng, c: &mut Collection) {
     let last = Maker::short(5);
     for _ in 0..3 {
         let call = last.call(r, &img);
-        c.try_call(&img, &call, "history");
+        c.try_call(&img, &told(r, &img, call), "history");
     }
     repairs(r, c, &img, "history");
 }
@@ -168,10 +172,10 @@ fn repairs(r: &mut Rng, c: &mut Collection, img: &[u8], source: &'static str) {
     let need = Call::Mount(ALL).need(img);
     if need > 0 || r.chance(30) {
         let k = if r.chance(40) { ALL } else { r.below(need + 1) };
-        c.try_call(img, &Call::Mount(k), source);
+        c.try_call(img, &told(r, img, Call::Mount(k)), source);
     }
     let call = Maker::short(5).call(r, img);
-    c.try_call(img, &call, source);
+    c.try_call(img, &told(r, img, call), source);
 }
 
 /// A put cut at its first steps, where it may tear a marker, or a cut sweep, or nothing.
@@ -182,7 +186,7 @@ fn cut_before(r: &mut Rng, img: &mut [u8]) {
         2 => Call::Sweep(r.below(60)),
         _ => return,
     };
-    call.run(img);
+    told(r, img, call).run(img);
 }
 
 /// Calls on images that are built, damaged or aimed at a rule.
@@ -250,7 +254,7 @@ fn broken(c: &mut Collection) {
             let mut img =
                 if r.chance(50) { tight(&mut r, 8192) } else { of_history(&mut r, 8192, &Maker::short(0), 20) };
             if break_it(&mut r, &mut img) {
-                c.try_call(&img, &Call::Mount(ALL), source);
+                c.try_call(&img, &plain(Call::Mount(ALL)), source);
             }
         }
     }
@@ -270,7 +274,7 @@ fn bad_lengths(c: &mut Collection) {
             Call::Format(30),
         ];
         for call in calls {
-            c.try_call(&img, &call, "bad length");
+            c.try_call(&img, &plain(call), "bad length");
         }
     }
 }

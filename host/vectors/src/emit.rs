@@ -93,8 +93,9 @@ fn numbers(r: &Reply) -> String {
     format!("{} {} {} {} {}", r.answer, r.first, r.second, r.third, r.steps)
 }
 
-/// What a call answers and leaves: the checking function and the equation.
-pub fn equation(before: &[u8], call: &Call, reply: &Reply, after: &[u8]) -> (&'static str, String) {
+/// What a call answers and leaves, told this byte of its next step: the checking function
+/// and the equation.
+pub fn equation(before: &[u8], call: &Call, told: u64, reply: &Reply, after: &[u8]) -> (&'static str, String) {
     let (b, a, n) = (pieces(before), pieces(after), numbers(reply));
     let k = allowance(call);
     match call {
@@ -103,7 +104,7 @@ pub fn equation(before: &[u8], call: &Call, reply: &Reply, after: &[u8]) -> (&'s
             let part = &before[reply.first as usize..(reply.first + reply.second) as usize];
             ("check-part", format!("check-part {b} {} {n} {}", request(call), pieces(part)))
         }
-        _ => ("check", format!("check {b} {k} {} {n} {a}", request(call))),
+        _ => ("check", format!("check {b} {k} {told} {} {n} {a}", request(call))),
     }
 }
 

@@ -1,9 +1,10 @@
 //! Wrong definitions, one textual edit each: the vectors must notice every one.
 use crate::computed::{check_edited, shared, Edit};
 use crate::emit::Vector;
+use crate::inside_faults::INSIDE_FAULTS;
 use std::path::Path;
 
-struct Fault {
+pub struct Fault {
     what: &'static str,
     edit: Edit,
     /// only vectors of these kinds are run
@@ -13,7 +14,7 @@ struct Fault {
 /// At most this many vectors are run for a fault.
 const MOST: usize = 30;
 
-const fn fault(
+pub const fn fault(
     what: &'static str,
     aim: &'static [&'static str],
     file: &'static str,
@@ -84,9 +85,9 @@ const FAULTS: &[Fault] = &[
     fault(
         "status E0 is refused",
         &["wear record"],
-        "Bytes.antt",
-        "is-dead st = eqb st 0xE0 || eqb st 0x00",
-        "is-dead st = eqb st 0x00",
+        "Next.antt",
+        "cond (is-reserved st) Kind.Reserved Kind.Record",
+        "cond (is-reserved st) Kind.Reserved (cond (eqb st 0xE0) Kind.Bad Kind.Record)",
     ),
     fault(
         "any reserved byte is taken",
@@ -120,7 +121,7 @@ const FAULTS: &[Fault] = &[
         "reserved: only 00 ends the name",
         &["reserved, name cut"],
         "Bytes.antt",
-        "eqb b 0x00 || (held && eqb b 0xFF)",
+        "eqb b 0x00 || (held && leb 0x80 b)",
         "eqb b 0x00",
     ),
     fault(
@@ -169,8 +170,8 @@ const FAULTS: &[Fault] = &[
         "torn: the status before byte 8",
         &["torn"],
         "Mount.antt",
-        "program 8 0x00 ∷ program 2 0x00 ∷ []",
-        "program 2 0x00 ∷ program 8 0x00 ∷ []",
+        "program 7 0x00 ∷ program 8 0x00\n    ∷ status-void-steps 2 0xFF",
+        "program 7 0x00\n    ∷ (status-void-steps 2 0xFF ++ (program 8 0x00 ∷ []))",
     ),
     fault(
         "a torn record by its data_len",
@@ -190,15 +191,15 @@ const FAULTS: &[Fault] = &[
         "Y is START before the erases",
         &["sweep erases", "START, next CLEAN"],
         "Move.antt",
-        "map erase starts ++ (program (y .at) 0x00 ∷ forget-steps x starts)",
-        "program (y .at) 0x00 ∷ (map erase starts ++ forget-steps x starts)",
+        "vacated-steps starts ++ (start-steps (y .at) low ++ forget-steps x starts)",
+        "start-steps (y .at) low ++ (vacated-steps starts ++ forget-steps x starts)",
     ),
     fault(
         "the old head is erased before it is cleaned",
         &["sweep erases", "START, next CLEAN", "several moves"],
         "Move.antt",
-        "clean-steps (length (content-of x)) (data-at x) (content-of x) ++ vacate-steps x y (vacated N x y)",
-        "vacate-steps x y (vacated N x y) ++ clean-steps (length (content-of x)) (data-at x) (content-of x)",
+        "clean-steps (length (content-of x)) (data-at x) (content-of x) ++ vacate-steps x y low (vacated N x y)",
+        "vacate-steps x y low (vacated N x y) ++ clean-steps (length (content-of x)) (data-at x) (content-of x)",
     ),
     fault(
         "an allowance equal to the need answers 4",
@@ -211,8 +212,8 @@ const FAULTS: &[Fault] = &[
         "the ledger takes a cut put for none",
         &["history: put cut at the commit"],
         "History.antt",
-        "leb (commit-place name content (reading image)) (n .steps)",
-        "leb (1 + commit-place name content (reading image)) (n .steps)",
+        "committed-at (commit-place name content (reading image)) (n .steps) v",
+        "committed-at (1 + commit-place name content (reading image)) (n .steps) v",
     ),
     fault(
         "the commit's place without the step to F8",
@@ -233,7 +234,8 @@ fn aimed<'v>(vectors: &'v [Vector], aim: &[&str]) -> Vec<(usize, &'v Vector)> {
 
 /// The table of the faults; false if one is not noticed or its edit doesn't apply.
 pub fn run(spec: &Path, vectors: &[Vector], jobs: usize, only: Option<&str>) -> Result<bool, String> {
-    let faults: Vec<&Fault> = FAULTS.iter().filter(|f| only.is_none_or(|what| f.what == what)).collect();
+    let faults: Vec<&Fault> =
+        FAULTS.iter().chain(INSIDE_FAULTS).filter(|f| only.is_none_or(|what| f.what == what)).collect();
     let results = shared(&faults, jobs, |job, fault| {
         let chosen = aimed(vectors, fault.aim);
         let verdict = match check_edited(spec, &[fault.edit], &chosen, job) {

@@ -31,8 +31,9 @@ build [] = []
 build (fill n b ∷ ps) = filled n b (build ps)
 build (lit s ∷ ps) = s ++ build ps
 
-abbrev pub call : Request → ℕ → Call
-call r k = record { request = r; allowance = k }
+-- the byte v of the next step: 256 is none
+abbrev pub call : Request → ℕ → ℕ → Call
+call r k v = record { request = r; allowance = k; held = v }
 
 abbrev pub file : List ℕ → List ℕ → File
 file n c = record { name = n; content = c }
@@ -44,9 +45,9 @@ told n r a b c k = eqb (n .answer) r && eqb (n .first) a && eqb (n .second) b &&
 abbrev pub right : Outcome → ℕ → ℕ → ℕ → ℕ → ℕ → List ℕ → Bool
 right o r a b c k m = told (o .numbers) r a b c k && Basics.same (o .image) m
 
-unfoldable pub check : List Piece → ℕ → Request → ℕ → ℕ → ℕ → ℕ → ℕ → List Piece → Bool
+unfoldable pub check : List Piece → ℕ → ℕ → Request → ℕ → ℕ → ℕ → ℕ → ℕ → List Piece → Bool
 unfolding NAMES
-check before allowed q r x y z k after = right (outcome (build before) (call q allowed)) r x y z k (build after)
+check before allowed v q r x y z k after = right (outcome (build before) (call q allowed v)) r x y z k (build after)
 
 unfoldable pub check-format : List Piece → ℕ → ℕ → ℕ → ℕ → ℕ → ℕ → List Piece → Bool
 unfolding NAMES
@@ -58,7 +59,7 @@ part-right m o r x y z k p = right o r x y z k m && Basics.same (part-of m (o .n
 
 unfoldable pub check-part : List Piece → Request → ℕ → ℕ → ℕ → ℕ → ℕ → List Piece → Bool
 unfolding NAMES
-check-part before q r x y z k part = part-right (build before) (outcome (build before) (call q 0)) r x y z k (build part)
+check-part before q r x y z k part = part-right (build before) (outcome (build before) (call q 0 256)) r x y z k (build part)
 
 -- two tests agree
 abbrev pub agree : Bool → Bool → Bool
@@ -94,12 +95,12 @@ calls-ok m (c ∷ cs) = bits-ok m (steps-done m c) && calls-ok (outcome m c .ima
 listed : ℕ → ℕ → List ℕ → List (List ℕ)
 listed zero i m = []
 listed (suc k) i m =
-    let n = outcome m (call (list i) 0) .numbers in
+    let n = outcome m (call (list i) 0 256) .numbers in
     (part-of m n ++ (n .third ∷ [])) ∷ listed k (i + 1) m
 
 held : List ℕ → List (List ℕ) → File → Bool
 held m ls f =
-    let n = outcome m (call (get (f .name)) 0) .numbers in
+    let n = outcome m (call (get (f .name)) 0 256) .numbers in
     eqb (length (Basics.keep (Basics.same (f .name ++ (length (f .content) ∷ []))) ls)) 1
     && eqb (n .answer) 0 && Basics.same (part-of m n) (f .content)
 
@@ -114,7 +115,7 @@ mounted-ok o l others =
     let left = o .image in
     let count = o .numbers .third in
     eqb (o .numbers .answer) 0 && eqb count (length l) && Basics.all (held left (listed count 0 left)) l
-    && Basics.all (λ n. eqb (outcome left (call (get n) 0) .numbers .answer) 2) others
+    && Basics.all (λ n. eqb (outcome left (call (get n) 0 256) .numbers .answer) 2) others
 
 -- a history from a formatted image: the image it leaves, the ledger, the bits, and the mount after it
 unfoldable pub check-history : ℕ → List Call → Ledger → List (List ℕ) → List Piece → Bool
@@ -123,7 +124,7 @@ check-history N cs l others after =
     let start = format (replicate N 7) 1000 .image in
     let left = replay start cs in
     Basics.same left (build after) && ledger-is (ledger start cs []) l && calls-ok start cs
-    && bits-ok left (steps-of (Answers.mount-plan left)) && mounted-ok (outcome left (call mount 100000)) l others
+    && bits-ok left (steps-of (Answers.mount-plan left)) && mounted-ok (outcome left (call mount 100000 256)) l others
 ";
 
 /// The modules that Lib.antt names.

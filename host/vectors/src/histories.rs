@@ -1,6 +1,8 @@
 //! Whole short histories with their ledgers, as vectors.
 use crate::collect::{Collection, EACH};
 use crate::emit::{allowance, bytes, pieces, request, Vector};
+use crate::held::{told, Told};
+use model::{COMMITTED, MIGRATING};
 use std::fmt::Write as _;
 use testing::call::{Call, Model};
 use testing::ledger::{commit_place, World};
@@ -12,6 +14,11 @@ const MOST_STEPS: u64 = 300;
 const MOST_TEXT: usize = 9_000;
 const AT_COMMIT: &str = "history: put cut at the commit";
 const BEFORE_COMMIT: &str = "history: put cut before the commit";
+const IN_COMMIT: &str = "history: put done inside its commit";
+const REMOVE_INSIDE: &str = "history: remove cut inside";
+const REMOVE_AT_F8: &str = "history: remove inside at F8";
+/// Random histories come to these seldom.
+const RARE: [&str; 5] = [AT_COMMIT, BEFORE_COMMIT, IN_COMMIT, REMOVE_INSIDE, REMOVE_AT_F8];
 
 struct History {
     world: World,
@@ -23,9 +30,21 @@ struct History {
 }
 
 impl History {
-    fn call(&mut self, call: &Call) {
-        let reply = self.world.step(&Model, call).expect("the model keeps demand 3");
-        write!(self.text, "call {} {} ∷ ", request(call), allowance(call)).unwrap();
+    fn call(&mut self, told: &Told) {
+        let call = &told.made.call;
+        let commit = commit_place(&self.world.img, call);
+        let (reply, inside) = self.world.step(&Model, &told.made).expect("the model keeps demand 3");
+        self.world.check(&Model).expect("the model keeps demand 3");
+        write!(self.text, "call {} {} {} ∷ ", request(call), allowance(call), told.byte).unwrap();
+        let held = told.made.held.filter(|_| inside);
+        self.tags.extend(held.map(|_| "history: cut inside a byte"));
+        self.tags.extend(match (call, held) {
+            (Call::Put(..), Some(COMMITTED)) if commit == Some(reply.steps + 1) => Some(IN_COMMIT),
+            (Call::Remove(..), Some(MIGRATING)) => Some(REMOVE_AT_F8),
+            (Call::Remove(..), Some(_)) => Some(REMOVE_INSIDE),
+            (Call::Mount(_), Some(_)) => Some("history: mount cut inside"),
+            _ => None,
+        });
         self.calls += 1;
         self.cuts += (reply.answer == 4) as u64;
         self.steps += reply.steps;
@@ -34,7 +53,7 @@ impl History {
     fn random(r: &mut Rng) -> History {
         let n = r.of(&[8192, 8192, 8192, 8192, 12288]);
         let mut h = History { world: World::new(n), text: String::new(), calls: 0, cuts: 0, steps: 0, tags: vec![] };
-        let mut maker = Maker { weights: [44, 10, 20, 14, 5, 5, 0], ..Maker::short(r.of(&[0, 0, 20])) };
+        let mut maker = Maker { weights: [44, 20, 20, 14, 2, 2, 0], ..Maker::short(r.of(&[0, 0, 20])) };
         if r.chance(60) {
             // few names, so that files are replaced
             maker.names.truncate(2);
@@ -45,9 +64,10 @@ impl History {
                 continue;
             }
             let call = h.cut_at_commit(r, call);
-            h.call(&call);
+            h.call(&told(r, &h.world.img, call));
             if r.chance(65) {
-                h.call(&Call::Mount(r.of(&[ALL, ALL, 1, 3])));
+                let mount = Call::Mount(r.of(&[ALL, ALL, 0, 1, 3, 7]));
+                h.call(&told(r, &h.world.img, mount));
             }
         }
         h
@@ -68,7 +88,6 @@ impl History {
     }
 
     fn vector(self) -> Vector {
-        self.world.check(&Model).expect("the model keeps demand 3");
         let ledger = &self.world.ledger;
         let files: String = ledger.files.iter().map(|f| format!("file {} {} ∷ ", bytes(&f.0), bytes(&f.1))).collect();
         let absent = [&b"a"[..], b"dose", b"zz"].into_iter().filter(|x| ledger.content(x).is_none());
@@ -81,10 +100,10 @@ impl History {
 }
 
 /// So many histories, with cuts, that are not too long to compute; then more until
-/// enough of them have a put cut at its commit, and one just before it.
+/// enough of them have what is rare.
 pub fn add(r: &mut Rng, c: &mut Collection, count: u64) {
     let lacks = |c: &Collection, tag: &str| c.count(&format!("tag {tag}")) < EACH;
-    while c.count("history 0") < count || [AT_COMMIT, BEFORE_COMMIT].iter().any(|t| lacks(c, t)) {
+    while c.count("history 0") < count || RARE.iter().any(|t| lacks(c, t)) {
         let h = History::random(r);
         let wanted = c.count("history 0") < count || h.tags.iter().any(|t| lacks(c, t));
         if h.steps > MOST_STEPS || h.calls < 3 || !wanted {

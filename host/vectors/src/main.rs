@@ -8,8 +8,10 @@ mod collect;
 mod computed;
 mod emit;
 mod faults;
+mod held;
 mod helper;
 mod histories;
+mod inside_faults;
 mod required;
 
 use collect::Collection;

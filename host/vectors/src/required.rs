@@ -1,7 +1,7 @@
 //! What the vectors must cover (testing::tags).
 
 /// Tags that must have vectors.
-pub const REQUIRED: [&str; 44] = [
+pub const REQUIRED: [&str; 65] = [
     "N 8192",
     "N 12288",
     "bad length",
@@ -46,4 +46,25 @@ pub const REQUIRED: [&str; 44] = [
     "history: put cut before the commit",
     "place, T = N before the turn",
     "place, turned",
+    "cut inside a byte",
+    "cut before an erase",
+    "cut between bytes",
+    "history: cut inside a byte",
+    "history: mount cut inside",
+    "history: put done inside its commit",
+    "history: remove cut inside",
+    "history: remove inside at F8",
+    "head 80",
+    "second 80",
+    "second A4",
+    "second A1",
+    "torn, first byte partly",
+    "torn, second byte partly",
+    "torn, byte 8 odd",
+    "torn wrap, first partly",
+    "torn wrap, second partly",
+    "torn wrap, status partly",
+    "reserved, end 80 or more",
+    "dead status, odd",
+    "new marks in X",
 ];

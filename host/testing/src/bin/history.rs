@@ -19,6 +19,8 @@ fn main() {
     let seen = tester.seen;
     println!("seed {seed}: {} calls checked, no violation", seen.checked);
     println!("answers: {:?}", seen.answers);
+    println!("calls cut inside a byte: {:?}", seen.inside);
+    println!("images by the bytes that such cuts leave: {:?}", seen.bytes);
     println!("most live F8 at once: {}", seen.facts.most_f8);
     println!("facts broken (not demand 3): {:?}", seen.facts.broken);
     println!("{} kinds of image seen", seen.facts.kinds.len());

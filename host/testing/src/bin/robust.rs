@@ -6,6 +6,7 @@
 use model::*;
 use std::collections::BTreeMap;
 use testing::call::Call;
+use testing::cut;
 use testing::images::{built, damage, of_history};
 use testing::maker::Maker;
 use testing::{argument, rng::Rng, ALL};
@@ -76,7 +77,8 @@ fn used(r: &mut Rng, mut img: Vec<u8>, maker: &Maker, count: &mut Count) {
     for _ in 0..3 {
         let before = img.clone();
         let call = maker.call(r, &img);
-        let reply = call.run(&mut img);
+        let made = cut::sometimes(r, &img, call);
+        let (call, reply) = (&made.call, cut::run(&mut img, &made));
         note(count, format!("then {} {}", call.kind(), reply.answer));
         assert!(matches!(reply.answer, 0 | 4) || img == before);
         let again = mount(&mut img, ALL);
@@ -103,7 +105,7 @@ fn main() {
             damage(&mut r, &mut img);
         }
         if r.chance(1) {
-            img.iter_mut().for_each(|b| *b = r.of(&[0, 0xFF, 0x5A, 0xA5, 0xA0, 0xFA, 0xFC, 0xFE]));
+            img.iter_mut().for_each(|b| *b = r.of(&[0, 0xFF, 0x5A, 0xA5, 0xA0, 0x80, 0xA4, 0xFA, 0xFC, 0xFE]));
         }
         let k = if r.chance(30) { r.below(12) } else { ALL };
         if let Some(left) = mounted(&img, k, &mut count) {

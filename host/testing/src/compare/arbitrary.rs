@@ -33,7 +33,8 @@ pub fn history<S: Store>(c: &mut Comparison<S>, r: &mut Rng, calls: u64) {
             c.cuts(r, &img, &whole);
         }
         let call = maker.call(r, &img);
-        img = c.call(&img, &call).1;
+        let after = c.call(&img, &call).1;
+        img = super::inside(r, &img, call).unwrap_or(after);
         let name = name_for(r, &img);
         c.call(&img, &Call::Get(name));
         c.call(&img, &Call::List(r.below(8)));

@@ -2,6 +2,7 @@
 use super::mounting::mounts;
 use super::Comparison;
 use crate::call::{formatted, Call, Store};
+use crate::images::MARKS;
 use crate::rng::Rng;
 use crate::ALL;
 use model::SECTOR;
@@ -96,7 +97,8 @@ fn named<S: Store>(c: &mut Comparison<S>, img: &[u8], name: &[u8]) {
 /// No bytes, FF alone, and marks at every boundary.
 pub fn of_length(length: usize) -> Vec<Vec<u8>> {
     let marked = |low: u8| (0..length).map(|i| [low, 0x5A, 0xFF, 0xFF, 8, 0, 0, 0][i % 8]).collect();
-    vec![vec![0xFF; length], vec![0x11; length], marked(0x00), marked(0xA0), marked(0xA5)]
+    let plain = [vec![0xFF; length], vec![0x11; length]];
+    plain.into_iter().chain(MARKS.map(marked)).collect()
 }
 
 /// Every cut of puts of each kind of content, first and again, and of a sweep of it.

@@ -6,6 +6,7 @@ mod tally;
 mod writing;
 
 use crate::call::{Call, Store};
+use crate::cut::{self, Made};
 use crate::rng::Rng;
 use model::Reply;
 pub use tally::Tally;
@@ -87,16 +88,27 @@ impl<'s, S: Store> Comparison<'s, S> {
     }
 
     /// The same call at many allowances, all if it is short. Gives what the model
-    /// leaves at each that is below the need.
+    /// leaves at each that is below the need, and now and then with a byte cut inside.
     fn cuts(&mut self, r: &mut Rng, img: &[u8], call: &Call) -> Vec<Vec<u8>> {
         let need = call.need(img);
         let mut left = Vec::new();
         for k in crate::call::allowances(r, need) {
-            let (_, after) = self.call(img, &call.with_allowance(k));
+            let call = call.with_allowance(k);
+            let (_, after) = self.call(img, &call);
             if k < need {
                 left.push(after);
+                left.extend(inside(r, img, call));
             }
         }
         left
     }
+}
+
+/// Now and then what a cut inside its next byte leaves of this call.
+fn inside(r: &mut Rng, img: &[u8], call: Call) -> Option<Vec<u8>> {
+    let made = cut::sometimes(r, img, call);
+    let Made { held: Some(_), .. } = made else { return None };
+    let mut left = img.to_vec();
+    cut::run(&mut left, &made);
+    Some(left)
 }

@@ -18,7 +18,7 @@ fn cut_call(r: &mut Rng, img: &[u8]) -> Call {
     let name = name_for(r, img);
     let edge = edges(img, &name);
     let length = if !edge.is_empty() && r.chance(50) { r.of(&edge) } else { r.below(30) };
-    let contents = r.of(&[Contents::Marks, Contents::FalseRecords, Contents::Plain]);
+    let contents = r.of(&[Contents::Marks, Contents::FalseRecords, Contents::RecordMarks, Contents::Plain]);
     let maker = Maker { contents, lengths: Lengths::Short { big: 0 }, ..Maker::short(0) };
     Call::Put(name, maker.content(r, length), ALL)
 }
