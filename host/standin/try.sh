@@ -12,7 +12,7 @@ cargo build --release --offline --quiet --target-dir "$built" -p compare
 "$built/release/compare" | tail -n 1
 "$built/release/cuts" | tail -n 1
 
-faults=$(sed -n 's/^    \([A-Z][A-Za-z]*\),$/\1/p' model/src/faults.rs)
+faults=$(sed -n '/const ALL/,/];/s/^ *Fault::\([A-Za-z0-9]*\),$/\1/p' model/src/faults.rs)
 for fault in $faults; do
     for tester in compare "cuts 400000"; do
         # $tester is a name with its arguments
