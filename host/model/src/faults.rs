@@ -113,14 +113,13 @@ pub fn seeded(fault: Fault) -> bool {
 
 /// Run `f` with this fault seeded in this thread.
 pub fn with<T>(fault: Fault, f: impl FnOnce() -> T) -> T {
-    /// Takes the fault out again, also if `f` panics.
-    struct Restore;
+    /// Puts back what was seeded before, also if `f` panics.
+    struct Restore(Option<Fault>);
     impl Drop for Restore {
         fn drop(&mut self) {
-            SEEDED.with(|s| s.set(None));
+            SEEDED.with(|s| s.set(self.0));
         }
     }
-    SEEDED.with(|s| s.set(Some(fault)));
-    let _restore = Restore;
+    let _restore = Restore(SEEDED.with(|s| s.replace(Some(fault))));
     f()
 }

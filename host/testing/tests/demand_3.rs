@@ -12,22 +12,22 @@ use testing::tags::BYTE_TAGS;
 /// Histories up to this many checked calls; what was seen, and the first violation.
 fn histories(calls: u64, exhaust: u64, longest: u64, maker: fn(&mut Rng) -> Maker) -> (Seen, Option<String>) {
     let mut r = Rng::new(8);
-    let mut tester = Tester { store: &Model, exhaust, longest, seen: Seen::default() };
+    let mut tester = Tester { store: &Model, exhaust, longest, one_of: 1, seen: Seen::default() };
     let violation = tester.until(&mut r, calls, &[8192, 8192, 12288, 16384, 20480], maker).err();
     (tester.seen, violation.map(|v| v.what))
 }
 
 fn any_maker(r: &mut Rng) -> Maker {
-    if r.chance(50) {
-        Maker::full_sectors(r)
-    } else {
-        Maker::rich(r)
+    match r.below(4) {
+        0 => Maker::full_sectors(r),
+        1 => Maker::cut_sweeps(r),
+        _ => Maker::rich(r),
     }
 }
 
 /// Old data full of false records.
 fn record_marks(r: &mut Rng) -> Maker {
-    Maker { contents: Contents::RecordMarks, ..Maker::full_sectors(r) }
+    Maker { contents: Contents::RecordMarks, ..Maker::cut_sweeps(r) }
 }
 
 /// The longest names, whose end is the last byte of their 64, and many cuts.

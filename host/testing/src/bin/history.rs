@@ -11,7 +11,7 @@ fn main() {
     let exhaust = std::env::args().nth(4).is_some_and(|x| x == "exhaust");
     let mut r = Rng::new(seed);
     let exhaust = if exhaust { 60 } else { 0 };
-    let mut tester = Tester { store: &Model, exhaust, longest: LONGEST, seen: Seen::default() };
+    let mut tester = Tester { store: &Model, exhaust, longest: LONGEST, one_of: 1, seen: Seen::default() };
     let lengths = if only > 0 { vec![only] } else { vec![8192, 12288, 16384, 20480] };
     if let Err(v) = tester.until(&mut r, total, &lengths, Maker::rich) {
         print!("{}", v.show(&Model));
