@@ -31,6 +31,6 @@ pub use chain::{read_chain, Chain, Record};
 pub use flash::{carry_out, cut_inside, Step};
 pub use geometry::*;
 pub use head::{find_head, walk};
-pub use place::{put_room, Place, Placed};
+pub use place::{put_room, sizes_behind, Place, Placed};
 pub use plan::{planned, Ask, Plan};
 pub use rules::{read_image, settled};

@@ -108,12 +108,6 @@ impl Maker {
         Maker { lengths: Lengths::Uniform(r.of(&[488, 1000, 1360, 2000, 3000])), cut: 30, ..Maker::full_sectors(r) }
     }
 
-    /// Sweeps that are cut again and again: what is left of their copies takes the room
-    /// that puts keep free (K6), up to T = N and T = floor(h).
-    pub fn cut_sweeps(r: &mut Rng) -> Maker {
-        Maker { weights: [25, 5, 70, 0, 0, 0, 0], cut: r.of(&[30, 50, 70]), due: 100, ..Maker::full_sectors(r) }
-    }
-
     /// Short contents and many cuts: calls with few steps.
     pub fn short(big: u64) -> Maker {
         Maker {

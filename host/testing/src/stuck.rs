@@ -19,6 +19,12 @@ impl Maker {
             due: 100,
         }
     }
+
+    /// Sweeps that are cut again and again: what is left of their copies takes the room
+    /// that puts keep free (K6), up to T = N and T = floor(h).
+    pub fn cut_sweeps(r: &mut Rng) -> Maker {
+        Maker { weights: [25, 5, 70, 0, 0, 0, 0], cut: r.of(&[30, 50, 70]), due: 100, ..Maker::full_sectors(r) }
+    }
 }
 
 /// So many names of up to 7 bytes, whose records are of the least size.

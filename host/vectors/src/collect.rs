@@ -3,6 +3,7 @@ use crate::emit::{equation, place_equation, Vector};
 use crate::held::{plain, told, Told};
 use crate::histories;
 use crate::required::REQUIRED;
+use crate::rooms::{self, ROOM_STATES};
 use model::*;
 use std::collections::BTreeMap;
 use std::fmt::Write as _;
@@ -11,11 +12,21 @@ use testing::call::{Call, ANSWERS};
 use testing::images::{built, damage, of_history};
 use testing::maker::{Contents, Lengths, Maker};
 use testing::rng::Rng;
-use testing::tags::BYTE_TAGS;
+use testing::tags::{BYTE_TAGS, ROOM_TAGS};
 use testing::{tags, ALL};
 
-const SOURCES: [&str; 9] =
-    ["history", "whole history", "built", "damaged", "dirty", "tight", "reserved byte", "behind torn", "bad length"];
+const SOURCES: [&str; 10] = [
+    "history",
+    "whole history",
+    "built",
+    "damaged",
+    "dirty",
+    "tight",
+    "reserved byte",
+    "behind torn",
+    "bad length",
+    "room",
+];
 /// How many vectors each of these needs at least.
 pub const EACH: u64 = 3;
 /// Below this many vectors a tag is rare.
@@ -87,7 +98,7 @@ impl Collection {
     /// What has too few vectors.
     pub fn missing(&self) -> Vec<String> {
         let answers = ANSWERS.iter().flat_map(|(kind, all)| all.iter().map(move |a| format!("{kind} {a}")));
-        let tags = REQUIRED.iter().chain(&BYTE_TAGS).map(|t| format!("tag {t}"));
+        let tags = REQUIRED.iter().chain(&BYTE_TAGS).chain(&ROOM_TAGS).chain(&ROOM_STATES).map(|t| format!("tag {t}"));
         let sources = SOURCES.iter().map(|s| format!("source {s}"));
         answers.chain(tags).chain(sources).filter(|w| self.count(w) < EACH).collect()
     }
@@ -294,6 +305,7 @@ pub fn collect() -> Collection {
     }
     broken(&mut c);
     places(&mut r, &mut c);
+    rooms::add(&mut r, &mut c);
     histories::add(&mut r, &mut c, HISTORIES);
     c
 }
