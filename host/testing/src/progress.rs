@@ -6,6 +6,7 @@ use crate::call::{Call, Store};
 use crate::ALL;
 use model::faults::{self, Fault};
 use model::*;
+use std::fmt;
 
 /// The moves of a sweep, at most.
 const MOVES: u64 = 5;
@@ -20,6 +21,14 @@ pub struct Progress {
     pub most: u64,
     /// puts refused with 28 that 01's rule would have taken
     pub refused: u64,
+}
+
+impl fmt::Display for Progress {
+    fn fmt(&self, f: &mut fmt::Formatter) -> fmt::Result {
+        let Progress { puts, sweeps, most, refused } = self;
+        writeln!(f, "{refused} puts refused that 01's rule takes")?;
+        write!(f, "{puts} puts with their {sweeps} sweeps, past up to {most} records of the head's sector: none stuck")
+    }
 }
 
 impl Progress {

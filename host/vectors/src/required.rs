@@ -54,3 +54,17 @@ pub const REQUIRED: [&str; 50] = [
     "history: remove cut inside",
     "history: remove inside at F8",
 ];
+
+/// Sources that must have vectors.
+pub const SOURCES: [&str; 10] = [
+    "history",
+    "whole history",
+    "built",
+    "damaged",
+    "dirty",
+    "tight",
+    "reserved byte",
+    "behind torn",
+    "bad length",
+    "room",
+];

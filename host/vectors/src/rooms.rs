@@ -1,6 +1,7 @@
-//! The room rule by itself (K6), at both sides of a length at which its answer changes.
+//! The place functions by themselves, and the room rule (K6), at both sides of a length at
+//! which its answer changes.
 use crate::collect::{Collection, EACH};
-use crate::emit::{room_equation, Vector};
+use crate::emit::{place_equation, room_equation, Vector};
 use model::*;
 use testing::compare::name_for;
 use testing::images::of_history;
@@ -14,6 +15,25 @@ const MOST_RECORDS: usize = 60;
 /// What the vectors need besides the tags of `of_room`.
 pub const ROOM_STATES: [&str; 5] =
     ["room: N 16384", "room: replacing", "room: new one there", "room: others there", "room: turned"];
+
+/// Single sizes: a reading never gives some places, as T = N
+/// before the turn with floor(h) > 0, that the room rule passes through.
+pub fn places(r: &mut Rng, c: &mut Collection) {
+    for _ in 0..60 {
+        let length = r.of(&[8192, 12288]);
+        let head = r.below(length / 8) * 8;
+        let turned = r.chance(40) && floor(head) > 0;
+        let end = if turned { floor(head) } else { length };
+        let tail = if r.chance(30) { end } else { r.below(end / 8) * 8 };
+        let size = r.of(&[16, 24, end - tail, end - tail + 8, floor(head), floor(head) + 8]).max(16);
+        let mut tags = vec![if turned { "place, turned" } else { "place, not turned" }];
+        if !turned && tail == length {
+            tags.push("place, T = N before the turn");
+        }
+        let text = place_equation(Place { head, tail, turned, length }, size);
+        c.add(Vector { function: "check-place", text, kind: "place", answer: 0, tags, source: "built" });
+    }
+}
 
 /// What a history leaves whose room is nearly used up.
 fn settled(r: &mut Rng) -> Vec<u8> {
