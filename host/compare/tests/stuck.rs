@@ -31,7 +31,7 @@ fn a_stuck_store_stays_stuck() {
     for stuck in [three_files(), tiny_files()] {
         let mut img = formatted(8192);
         faults::with(Fault::RoomAsIn01, || stuck.puts.iter().for_each(|put| assert_eq!(put.run(&mut img).answer, 0)));
-        while call(&mut img, Call::Sweep(ALL)).answer == 0 {}
+        assert!((0..3).any(|_| call(&mut img, Call::Sweep(ALL)).answer == 28));
         assert_eq!(call(&mut img, Call::Sweep(ALL)), Reply::refusal(28));
         assert_eq!(call(&mut img, Call::Put(b"x".to_vec(), vec![], ALL)), Reply::refusal(28));
         let head = read_image(&img).expect("a chain").records[0].name(&img).to_vec();

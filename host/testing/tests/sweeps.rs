@@ -4,7 +4,7 @@ use model::faults::{self, Fault};
 use model::{mount, put, remove, sweep, Reply};
 use testing::call::{formatted, Call, Model};
 use testing::maker::Maker;
-use testing::progress::gets_past;
+use testing::progress::{gets_past, Progress};
 use testing::rng::Rng;
 use testing::stuck::{three_files, tiny_files};
 use testing::ALL;
@@ -28,7 +28,7 @@ fn the_rule_of_01_gets_stuck() {
                 assert_eq!(call.run(&mut img).answer, 0);
             }
             assert!(gets_past(&Model, &img).is_err());
-            while sweep(&mut img, ALL).answer == 0 {}
+            assert!((0..3).any(|_| sweep(&mut img, ALL).answer == 28));
             is_stuck(&mut img);
             assert_eq!(put(&mut img, b"x", b"", ALL), Reply::refusal(28));
         });
@@ -97,4 +97,17 @@ fn the_promise_notices_wrong_rules() {
     for fault in [Fault::RoomAsIn01, Fault::OthersNotCounted] {
         assert!(promise_with(fault, 20_000).is_err(), "{fault:?} is not noticed");
     }
+}
+
+/// The promise alone holds without the new one: two of the largest are each at least as
+/// long. The room behind the copies, which `Progress` looks at too, is what is lost.
+#[test]
+fn the_promise_needs_the_others_alone() {
+    assert_eq!(promise_with(Fault::NewNotCounted, 4_000), Ok(()));
+    let mut img = formatted(8192);
+    let put = Call::Put(b"dose".to_vec(), vec![7; 2025], ALL);
+    let reply = faults::with(Fault::NewNotCounted, || put.run(&mut img));
+    assert_eq!(reply.answer, 0);
+    assert!(gets_past(&Model, &img).is_ok());
+    assert!(Progress::default().look(&Model, &put, &reply, &img).is_err());
 }
