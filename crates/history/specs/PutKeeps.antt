@@ -27,7 +27,7 @@ use Rattle.history.specs.OkLaws.{old-file, Old}
 use Rattle.history.specs.Settled.{rested-reads}
 use Rattle.history.specs.Puts.{Commits, put-commits}
 use Rattle.history.specs.Induction.{left, Keeps, carried-done, carried-cut}
-use Rattle.history.specs.Calls.{Puts, put-no, put-yes, puts-of}
+use Rattle.history.specs.Calls.{Puts, put-no, put-yes, puts-of, room-fits}
 use Rattle.history.specs.Partly.{partly-none}
 use Rattle.history.specs.Commit.{Inside-commit, not-yet, all-done, commits-sound, commits-early, commits-late, commits-end, commit-left, commits-inside}
 
@@ -146,7 +146,7 @@ put-keeps im l n c k v i b = go (puts-of l im n c i)
     go (put-yes r q ok f e) =
         subst (Keeps Inv im l (Request.put n c) k v) (sym e)
         (put-given im l n c k v (put-steps (r .place) (file-named n (r .entries)) n c) _ (place-is im r n c (rested-reads q))
-        (put-commits q (file-named n (r .entries)) n c (rested-old n q) ok b f))
+        (put-commits q (file-named n (r .entries)) n c (rested-old n q) ok b (room-fits (r .place) n _ (r .entries) f)))
 
 -- its steps are sound
 pub put-sound : (im : Image) (l : Ledger) (n c : List ℕ) → Inv l im → Bytes c → Steps-sound im (steps-of (put-plan n c im))
@@ -156,4 +156,4 @@ put-sound im l n c i b = go (puts-of l im n c i)
     go (put-no r) = subst (λ (p : Answer Plan). Steps-sound im (steps-of p)) (sym (r .is)) tt
     go (put-yes r q ok f e) =
         subst (λ (p : Answer Plan). Steps-sound im (steps-of p)) (sym e)
-        (commits-sound (put-commits q (file-named n (r .entries)) n c (rested-old n q) ok b f))
+        (commits-sound (put-commits q (file-named n (r .entries)) n c (rested-old n q) ok b (room-fits (r .place) n _ (r .entries) f)))

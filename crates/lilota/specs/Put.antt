@@ -1,5 +1,5 @@
 -- Put: from what the code found to the definitions' room, steps and outcome.
-use Prim.Native.Nat.{ℕ, _+_, _≤_, max}
+use Prim.Native.Nat.{ℕ, _+_, _≤_}
 use native.Mathlib.Omega.{arith}
 use mathlib.Core.Path.{_≡_, refl, sym, ap, _∙_}
 use mathlib.Core.Bool.{Bool, true, false}
@@ -10,44 +10,37 @@ use lib.Seq.{getD-drop}
 use Rattle.spec.specs.declared.Place.{Place}
 use Rattle.spec.specs.declared.Status.{Status}
 use Rattle.spec.specs.Step.{Image}
-use Rattle.spec.specs.Basics.{give, checked, onward, keep, first-such, any}
+use Rattle.spec.specs.Basics.{Answer, give, checked, onward, keep, first-such}
 use Rattle.spec.specs.Geometry.{good-length}
 use Rattle.spec.specs.Record.{Entry, size-of, name-ok}
-use Rattle.spec.specs.Files.{superseded, has-name, file-named}
+use Rattle.spec.specs.Files.{has-name, file-named}
 use Rattle.spec.specs.Chain.{Reading}
-use Rattle.spec.specs.Place.{fits, fits-all, largest, other-name, largest-with, room}
+use Rattle.spec.specs.Place.{fits, fits-all, room}
 use Rattle.spec.specs.Write.{put-steps}
-use Rattle.spec.specs.Answers.{refusal, carry-out, doing, settled-reading, put-into, put-plan, put}
+use Rattle.spec.specs.Answers.{Plan, refusal, carry-out, doing, settled-reading, put-into, put-plan, put}
 use Rattle.reading.specs.declared.Spot.{Spot}
 use Rattle.reading.specs.declared.Found.{Found}
 use Rattle.reading.specs.declared.Survey.{Survey}
 use Rattle.reading.specs.FileLaws.{is-file}
 use Rattle.reading.specs.Seek.{found-in}
 use Rattle.reading.specs.NamesLaw.{files-are}
-use Rattle.reading.specs.Largest.{others}
+use Rattle.reading.specs.Room.{room-in}
 use Rattle.reading.specs.Read.{reading-of}
 use Rattle.writing.specs.declared.Old.{Old}
 use Rattle.writing.specs.declared.Old.the-variants as old-as
 use Rattle.writing.specs.Old.{old-of, entry-of as entry-of-old, put-old}
-use Rattle.writing.specs.Room.{largest-max, placed-inside}
+use Rattle.writing.specs.Room.{placed-inside}
 use Rattle.writing.specs.Put.{Ready}
 use Rattle.lilota.specs.Numbers.{outcome}
 use Rattle.lilota.specs.Settled.{Settled}
 
 -- ---- the room
 
--- the largest of the others, and then the new one
-pub largest-is : (name : List ℕ) (s : ℕ) (es : List Entry) → any (superseded es) es ≡ false
-    → max s (largest 0 (others name es)) ≡ largest-with name s es
-unfolding largest-with
-largest-is name s es q =
-    sym (largest-max s (others name es)) ∙ ap (λ (l : List Entry). largest s (keep (other-name name) l)) (sym (files-are es q))
-
 -- what has room fits
-pub room-fits : (p : Place) (s l : ℕ) → room p s l ≡ true → fits p s ≡ true
-unfolding fits-all
-room-fits p s l h = go (fits p s) refl h where
-  go : (t : Bool) → fits p s ≡ t → room p s l ≡ true → t ≡ true
+pub room-fits : (r : Reading) (name : List ℕ) (d : ℕ) → room-in r name d ≡ true → fits (r .place) (size-of (length name) d) ≡ true
+unfolding room fits-all
+room-fits r name d h = go (fits (r .place) (size-of (length name) d)) refl h where
+  go : (t : Bool) → fits (r .place) (size-of (length name) d) ≡ t → room-in r name d ≡ true → t ≡ true
   go true e w = refl
   go false e w = rw (e, fits-all) at w
 
@@ -97,10 +90,11 @@ module _ (image : Image) (k : ℕ) (name content : List ℕ) where
   unfolding put-plan
   put-on h g = rw (put-plan, h, g)
 
-  pub put-room : (r : Reading) (t : Bool)
-      → t ≡ room (r .place) (size-of (length name) (length content)) (largest-with name (size-of (length name) (length content)) (r .entries))
-      → carry-out image k (checked t 28 (give (doing (put-steps (r .place) (file-named name (r .entries)) name content) 0 0 0))) ≡ carry-out image k
-      (put-into name content r)
+  -- the steps, if there is room (t)
+  abbrev put-if : Reading → Bool → Answer Plan
+  put-if r t = checked t 28 (give (doing (put-steps (r .place) (file-named name (r .entries)) name content) 0 0 0))
+
+  pub put-room : (r : Reading) (t : Bool) → t ≡ room-in r name (length content)
+      → carry-out image k (put-if r t) ≡ carry-out image k (put-into name content r)
   unfolding put-into
-  put-room r t e =
-      ap (λ (b : Bool). carry-out image k (checked b 28 (give (doing (put-steps (r .place) (file-named name (r .entries)) name content) 0 0 0)))) e
+  put-room r t e = ap (λ (b : Bool). carry-out image k (put-if r b)) e

@@ -10,11 +10,10 @@ use reading::Survey;
 use reading::files::file_named;
 use reading::image::first_cursor;
 use reading::image::read_settled;
-use reading::largest::largest_other;
+use reading::room::has_room;
 use record::name::name_ok;
 use spec::Status;
 use writing::Old;
-use writing::has_room_for;
 use writing::write_file;
 ghost use mathlib.Core.Path.{_≡_};
 ghost use mathlib.Core.Bool.{true};
@@ -24,7 +23,7 @@ ghost use Rattle.spec.specs.Basics.{onward, keep, first-such};
 ghost use Rattle.spec.specs.Geometry.{good-length};
 ghost use Rattle.spec.specs.Record.{size-of, name-ok};
 ghost use Rattle.spec.specs.Files.{has-name, file-named};
-ghost use Rattle.spec.specs.Place.{fits, largest-with, room};
+ghost use Rattle.spec.specs.Place.{fits};
 ghost use Rattle.spec.specs.Write.{put-steps};
 ghost use Rattle.spec.specs.Answers.{settled-reading, carry-out, put-into, put};
 ghost use Rattle.flash.specs.Did.{Did};
@@ -35,16 +34,6 @@ ghost use Rattle.reading.specs.Read.{reading-of};
 ghost use Rattle.writing.specs.Old.{old-of, Lies};
 ghost use Rattle.lilota.specs.Numbers.{written, outcome};
 ghost use Rattle.lilota.specs.Settled.{Settled};
-
-// Whether there is room for a file of this name, beside the other files.
-fn has_room(image: &[u8], s: Survey, name: &[u8], d: usize) -> bool
-    requires { ⌜ Settled (now image) s × (length (now name) ≤ 63) ⌝ }
-    ensures { λ r. ⌜ r ≡ room (s .place) (size-of (length (now (name .entry))) d) (largest-with (now (name .entry)) (size-of (length (now (name .entry))) d) (reading-of (now (image .entry)) s .entries)) ⌝ }
-{
-    let place = s.place;
-    let others = largest_other(image, first_cursor(image, place.head), name);
-    has_room_for(place, name.len(), d, others)
-}
 
 // The file that a put of this name replaces.
 fn old_file(image: &[u8], start: Cursor, name: &[u8]) -> Old

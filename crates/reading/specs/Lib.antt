@@ -8,7 +8,6 @@ pub mod Ends
 pub mod Fold
 pub mod FileLaws
 pub mod Seek
-pub mod Largest
 pub mod Tally
 pub mod Faithful
 pub mod TallyLaws
@@ -16,5 +15,7 @@ pub mod NamesLaw
 pub mod SettledLaws
 pub mod FreeLaws
 pub mod Read
+pub mod Stows
+pub mod Room
 pub mod Survey
 pub mod RuleLaws

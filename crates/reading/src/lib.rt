@@ -1,11 +1,11 @@
-// Reading an image: its head, its chain, its files, whether it breaks a rule, whether it is settled.
+// Reading an image: its head, its chain, its files, whether it breaks a rule, whether it is settled, whether a put has room.
 // Everything here only looks, and nothing passes over data bytes but the check of the free run.
 pub mod chain;
 pub mod files;
 pub mod free;
 mod head;
 pub mod image;
-pub mod largest;
+pub mod room;
 mod rules;
 pub mod scan;
 

@@ -101,7 +101,7 @@ fn sweep_row(image: &mut [u8], name: &[u8], content: &[u8]) {
 
 fn main() {
     let mut image = [0u8; 8192];
-    let large = [7u8; 2704];
+    let large = [7u8; 2024];
     let dose = b"dose";
     let old = b"\x01\x02\x03";
     let new = b"\x07\x08\x09";
@@ -117,7 +117,7 @@ fn main() {
     first_put_row(&mut image, dose, old, 17);
     text(b"replacing, cut at 17   ");
     second_put_row(&mut image, dose, old, new, 17);
-    text(b"2,704 bytes            ");
+    text(b"2,024 bytes            ");
     first_put_row(&mut image, dose, &large, ENOUGH);
     text(b"name of 63 bytes       ");
     first_put_row(&mut image, named, old, ENOUGH);
@@ -131,4 +131,6 @@ fn main() {
     text(b"\ncase                    sweep moves steps mount steps  head  tail files  the first\n");
     text(b"sweep, data 00 5A 03   ");
     sweep_row(&mut image, dose, b"\x00\x5A\x03");
+    text(b"sweep, 2,024 bytes     ");
+    sweep_row(&mut image, dose, &large);
 }

@@ -1,5 +1,5 @@
 -- "Placing": whether and where a size fits, the place after it, and the room that put asks for.
-use Rattle.spec.specs.Prelude.{ℕ, _+_, max, Bool, true, false, _&&_, _||_, not, List, [], _∷_, leb, ltb}
+use Rattle.spec.specs.Prelude.{ℕ, _+_, max, Bool, true, false, _&&_, _||_, not, List, [], _∷_, _++_, map, leb, ltb, eqb}
 use Rattle.spec.specs.declared.Place.{Place}
 use Rattle.spec.specs.Basics.{keep}
 use Rattle.spec.specs.Geometry.{floor}
@@ -45,6 +45,24 @@ other-name n e = not (has-name n e)
 unfoldable pub largest-with : List ℕ → ℕ → List Entry → ℕ
 largest-with name s es = largest s (keep (other-name name) (files es))
 
--- "Put is given room exactly if s fits and, after that, two more records of the largest size .. fit one after the other"
-abbrev pub room : Place → ℕ → ℕ → Bool
-room p s l = fits-all p (s ∷ l ∷ l ∷ [])
+-- "begin in the head's sector": the address a lies there
+unfoldable pub in-head-sector : Place → ℕ → Bool
+in-head-sector p a = eqb (floor a) (floor (p .head))
+
+abbrev pub begins-there : Place → Entry → Bool
+begins-there p e = in-head-sector p (e .at)
+
+-- "all live records that begin in the head's sector (the replaced one out ..)": their sizes "in chain order"
+unfoldable pub standing : Place → List ℕ → List Entry → List ℕ
+standing p name es = map size (keep (begins-there p) (keep (other-name name) (files es)))
+
+-- "the new one in if it begins there"; in chain order it is the last
+unfoldable pub joining : Place → ℕ → List ℕ
+joining p s = elim (in-head-sector p (address p s)) [ true ↦ s ∷ [] | false ↦ [] ]
+
+-- "New rule for put: the new record fits; then all live records that begin in the head's sector .. fit one after another in chain order;
+-- then two of the largest"
+unfoldable pub room : Place → List ℕ → ℕ → List Entry → Bool
+room p name s es =
+    let l = largest-with name s es in
+    fits-all p (s ∷ (standing p name es ++ (joining p s ++ (l ∷ l ∷ []))))

@@ -1,17 +1,15 @@
--- Laws on placing: what fits lies inside the image; sizes one after the other.
-use Prim.Native.Nat.{ℕ, _+_, _≤_, _<_, max}
+-- Laws on placing: what fits lies inside the image.
+use Prim.Native.Nat.{ℕ, _+_, _≤_, _<_}
 use native.Mathlib.Omega.{arith}
-use mathlib.Core.Path.{_≡_, refl, _∙_}
-use mathlib.Core.Bool.{Bool, true, false, _&&_, _||_, not, and-false}
-use mathlib.Core.List.{List, [], _∷_}
-use borrow.Author.Tests.{leb-true, ltb-true, lt-leb}
+use mathlib.Core.Path.{_≡_, refl}
+use mathlib.Core.Bool.{Bool, true, false, _&&_, _||_, not}
+use borrow.Author.Tests.{leb-true, ltb-true}
 use lib.Dec.{leb}
 use Rattle.spec.specs.declared.Place.{Place}
 use Rattle.spec.specs.declared.Placed.the-variants.{At, Full}
 use Rattle.spec.specs.Geometry.{floor}
 use Rattle.spec.specs.Reading.{limit}
-use Rattle.spec.specs.Place.{fits-at-tail, fits, address, with-marker, place-after, fits-all, largest}
-use Rattle.spec.specs.Record.{Entry, size}
+use Rattle.spec.specs.Place.{fits-at-tail, fits, address, with-marker, place-after}
 use Rattle.spec.specs.Placed.{placed, Sound}
 
 -- ---- the three parts of an answer
@@ -68,33 +66,3 @@ marker-before-turn p s e m = go (way p s e) where
   go : Way p s → (p .turned ≡ false) × (p .tail < p .length)
   go (at-tail t a l) = let z : _≡_ {A = Bool} false true = rw t at m in let y : _≡_ {A = ℕ} 0 1 = cc in absurd (omega arith)
   go (at-start t u a l) = (u, ltb-true (p .tail) (p .length) (rw t at m))
-
--- ---- sizes one after the other
-
-pub room-on : (p : Place) (s : ℕ) (ss : List ℕ) (a : ℕ) (k : Bool) (q : Place) → placed p s ≡ At a k q → fits-all p (s ∷ ss) ≡ fits-all q ss
-unfolding fits-all
-room-on p s ss a k q e = let w = placed-parts p s a k q e in rw (w .0, fits-all, w .3)
-
-pub room-end : (p : Place) → fits-all p [] ≡ true
-unfolding fits-all
-room-end p = refl
-
-pub room-stop : (p : Place) (s : ℕ) (ss : List ℕ) → placed p s ≡ Full → fits-all p (s ∷ ss) ≡ false
-unfolding fits-all
-room-stop p s ss e = rw (placed-full p s e, fits-all)
-
--- what is longer than the image fits nowhere
-nowhere : (p : Place) (s : ℕ) → Sound p → p .length < s → fits p s ≡ false
-unfolding fits fits-at-tail
-nowhere p s h l =
-    rw (lt-leb (p .tail + s) (limit p) (omega (arith, limit-inside p h)), lt-leb s (floor (p .head)) (omega (arith, h .inside)), fits, fits-at-tail)
-    (and-false (not (p .turned)))
-
-pub too-long : (p : Place) (s : ℕ) (ss : List ℕ) → Sound p → p .length < s → fits-all p (s ∷ ss) ≡ false
-unfolding fits-all
-too-long p s ss h l = rw (nowhere p s h l, fits-all)
-
--- the new record's size may be compared last
-pub largest-max : (s : ℕ) (es : List Entry) → largest s es ≡ max s (largest 0 es)
-largest-max s [] = omega arith
-largest-max s (e ∷ es) = largest-max (max s (size e)) es ∙ omega (arith, largest-max (max 0 (size e)) es)

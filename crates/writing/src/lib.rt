@@ -1,4 +1,4 @@
-// The record at its place: the room for it, and the steps that put it there in place of an old one.
+// The record at its place: the steps that put it there in place of an old one.
 // Every byte goes through flash::program, and every sector through flash::erase.
 pub mod build;
 pub mod copy;
@@ -16,11 +16,9 @@ use spec::Status;
 ghost use mathlib.Core.Path.{_≡_};
 ghost use mathlib.Core.Bool.{true};
 ghost use mathlib.Core.List.{_++_};
-ghost use Prim.Native.Nat.{_+_, _<_, _≤_, _^_, max};
+ghost use Prim.Native.Nat.{_+_, _<_, _≤_, _^_};
 ghost use lib.ListN.{length};
 ghost use Rattle.spec.specs.Record.{size-of};
-ghost use Rattle.spec.specs.Place.{room};
-ghost use Rattle.spec.specs.Placed.{Sound};
 ghost use Rattle.spec.specs.Write.{migrate-steps, delete-steps, put-steps};
 ghost use Rattle.flash.specs.Did.{Did};
 ghost use Rattle.writing.specs.Old.{entry-of, Lies};
@@ -31,44 +29,6 @@ ghost use Rattle.writing.specs.Head.{HeadEnds, entry-at, copy-of};
 pub enum Old {
     None,
     At(usize, Status),
-}
-
-// Whether a record of this size and then two of the largest size fit one after the other.
-pub fn has_room(place: Place, size: usize, largest: usize) -> bool
-    ensures { λ r. ⌜ r ≡ room place size largest ⌝ }
-{
-    let Placed::At(_, _, first) = place.after(size) else {
-        return false;
-    };
-    let Placed::At(_, _, second) = first.after(largest) else {
-        return false;
-    };
-    let Placed::At(_, _, _) = second.after(largest) else {
-        return false;
-    };
-    true
-}
-
-fn max_of(a: usize, b: usize) -> usize
-    ensures { λ r. ⌜ r ≡ max a b ⌝ }
-{
-    if a < b {
-        return b;
-    }
-    a
-}
-
-// The same for a name of n and a content of d bytes, beside files of which the largest has this size.
-// Content that is longer than the image is refused before its size is computed.
-pub fn has_room_for(place: Place, n: usize, d: usize, others: usize) -> bool
-    requires { ⌜ Sound place × (n ≤ 63) ⌝ }
-    ensures { λ r. ⌜ r ≡ room place (size-of n d) (max (size-of n d) others) ⌝ }
-{
-    if place.length < d {
-        return false;
-    }
-    let s = size(n, d);
-    has_room(place, s, max_of(s, others))
 }
 
 // The old file's status FC to F8, if it is FC; then the marker, if one is needed.

@@ -1,6 +1,7 @@
 -- With room, the answer is read off the meter that replace leaves; without, 28 and the image as it was.
 use mathlib.Core.Path.{refl, sym, _∙_}
 use mathlib.Core.Bool.{true, false}
+use lib.ListN.{length}
 use Rattle.record.specs.Suffix.{flag}
 use Rattle.reading.specs.Read.{reading-of}
 use Rattle.lilota.specs.Carry.{carried, refused}
@@ -10,12 +11,16 @@ use Rattle.lilota.proofs.put.put_into.Statement.{statement}
 use Rattle.lilota.proofs.put.put_into.Tie as tie
 
 has-room-requires : tie.Need-has-room-requires
-has-room-requires c κs = search needs
+has-room-requires c κs =
+    let p = c .before .before .before .before .pre in
+    (record { surveyed = p .0 .surveyed; quiet = p .0 .quiet }, p .1)
 
 replace-requires : tie.Need-replace-requires
 replace-requires c κs =
-    let p = c .before .before .before .before .before .before .before .pre in
-    (p .0, p .1, room-fits _ _ _ (flag (c .before .before .has-room .ensures) (c .before .if1 .taken)), refl)
+    let c7 = c .before .before .before .before .before .before .before in
+    let a = c7 .args in
+    let roomy = flag (c .before .before .has-room .ensures) (c .before .if1 .taken) in
+    (c7 .pre .0, c7 .pre .1, room-fits (reading-of (a .image .now) (a .s)) (a .name .now) (length (a .content .now)) roomy, refl)
 
 ended-requires : tie.Need-ended-requires
 ended-requires c κs = search needs

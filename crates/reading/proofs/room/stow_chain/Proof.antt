@@ -1,16 +1,16 @@
--- largest_other: the largest of all is that of the rest, begun with the largest so far.
+-- What all files make of the first state is what the rest makes of the state so far.
 use Rattle.reading.specs.Fold.{turned, Folded, fold-start}
-use Rattle.reading.specs.Largest.{largest-of, largest-over, largest-onward}
+use Rattle.reading.specs.Room.{stow-of, stow-over, stow-onward}
 use Rattle.reading.proofs.Others.{other-step}
 use Rattle.reading.specs.Cursor.{left}
-use Rattle.reading.proofs.largest.largest_other.Statement.{statement}
-use Rattle.reading.proofs.largest.largest_other.Tie as tie
+use Rattle.reading.proofs.room.stow_chain.Statement.{statement}
+use Rattle.reading.proofs.room.stow_chain.Tie as tie
 
 abbrev Inv-loop : tie.InvT-loop
-Inv-loop image name c₀ most₀ c most = Folded (largest-of name) image c₀ 0 c most
+Inv-loop image place name c₀ stowed₀ c stowed = Folded (stow-of place name) image c₀ stowed₀ c stowed
 
 abbrev μ-loop : tie.MeasureT-loop
-μ-loop image name c₀ most₀ c most = left c
+μ-loop image place name c₀ stowed₀ c stowed = left c
 
 loop-holds : tie.Need-loop-holds Inv-loop μ-loop
 loop-holds c = fold-start _ _ _ _ (c .before .before .pre)
@@ -23,11 +23,11 @@ enum-known-s c = c .match .keys1
 
 returns : tie.Need-returns Inv-loop μ-loop
 returns c =
-    largest-over _ (c .before .before .loop .inv) (c .before .advance .result) (c .before .advance .ensures .0)
+    stow-over _ _ (c .before .before .loop .inv) (c .before .advance .result) (c .before .advance .ensures .0)
     (other-step (c .before .advance .result) (c .match .keys2))
 
-larger-with-requires : tie.Need-larger-with-requires Inv-loop μ-loop
-larger-with-requires c κs =
+stow-record-requires : tie.Need-stow-record-requires Inv-loop μ-loop
+stow-record-requires c κs =
     let c3 = c .before .before .before in
     let t = turned (c3 .advance .ensures) (c .before .s .given .1) in
     (t .whole, t .onward .name, t .onward .data-len)
@@ -42,10 +42,10 @@ loop-again : tie.Need-loop-again Inv-loop μ-loop
 loop-again c =
     let c2 = c .before .before in let c4 = c2 .before .before in let c5 = c4 .before in
     let t = turned (c4 .advance .ensures) (c2 .s .given .1) in
-    largest-onward _ (c5 .loop .inv) t _ (c .larger-with .ensures)
+    stow-onward _ _ (c5 .loop .inv) t _ (c .stow-record .ensures)
 
-pub largest-other-spec : {M : Type 1} → statement M
-largest-other-spec =
+pub stow-chain-spec : {M : Type 1} → statement M
+stow-chain-spec =
     tie.close
     (tie.spec
     Inv-loop
@@ -54,6 +54,6 @@ largest-other-spec =
     advance-requires
     enum-known-s
     returns
-    larger-with-requires
+    stow-record-requires
     loop-less
     loop-again)
