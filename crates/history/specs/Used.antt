@@ -1,0 +1,32 @@
+-- The steps that a call reports, whatever its allowance: at most those of its plan.
+use Prim.Native.Nat.{ℕ, _≤_}
+use native.Mathlib.Omega.{arith}
+use mathlib.Core.Path.{_≡_, refl, ap}
+use mathlib.Core.Bool.{Bool, true, false}
+use lib.ListN.{length}
+use lib.Dec.{leb}
+use borrow.Author.Tests.{leb-true, leb-false}
+use Rattle.spec.specs.Step.{Image}
+use Rattle.spec.specs.Basics.{Answer, refuse, give}
+use Rattle.spec.specs.Answers.{Plan, Outcome, carry-out}
+use Rattle.history.specs.Induction.{carried-done, carried-cut}
+
+-- a plan whose own count is the length of its list
+pub used-most : (im : Image) (k : ℕ) (p : Plan) → p .done .steps ≡ length (p .steps) → carry-out im k (give p) .numbers .steps ≤ length (p .steps)
+used-most im k p d = go (leb (length (p .steps)) k) refl
+  where
+    go : (b : Bool) → leb (length (p .steps)) k ≡ b → carry-out im k (give p) .numbers .steps ≤ length (p .steps)
+    go true e = omega (arith, ap (λ (o : Outcome). o .numbers .steps) (carried-done im k p (leb-true (length (p .steps)) k e)), d)
+    go false e =
+        omega (arith, ap (λ (o : Outcome). o .numbers .steps) (carried-cut im k p (leb-false (length (p .steps)) k e)), leb-false (length (p .steps)) k e)
+
+-- a refusal
+used-none : (im : Image) (k n : ℕ) → carry-out im k (refuse n) .numbers .steps ≡ 0
+unfolding carry-out
+used-none im k n = refl
+
+-- what bounds each plan that is carried out bounds the steps used
+pub used-bound : (im : Image) (k b : ℕ) (a : Answer Plan)
+    → ((p : Plan) → a ≡ give p → (p .done .steps ≡ length (p .steps)) × (length (p .steps) ≤ b)) → carry-out im k a .numbers .steps ≤ b
+used-bound im k b (refuse n) h = omega (arith, used-none im k n)
+used-bound im k b (give p) h = omega (arith, used-most im k p (h p refl .0), h p refl .1)
