@@ -1,5 +1,5 @@
 -- The steps that a call reports, whatever its allowance: at most those of its plan.
-use Prim.Native.Nat.{ℕ, _≤_}
+use Prim.Native.Nat.{ℕ, _≤_, _<_}
 use native.Mathlib.Omega.{arith}
 use mathlib.Core.Path.{_≡_, refl, ap}
 use mathlib.Core.Bool.{Bool, true, false}
@@ -12,13 +12,16 @@ use Rattle.spec.specs.Answers.{Plan, Outcome, carry-out}
 use Rattle.history.specs.Induction.{carried-done, carried-cut}
 
 -- a plan whose own count is the length of its list
-pub used-most : (im : Image) (k : ℕ) (p : Plan) → p .done .steps ≡ length (p .steps) → carry-out im k (give p) .numbers .steps ≤ length (p .steps)
+pub used-most : (im : Image) (k : ℕ) (p : Plan) → p .done .steps ≡ length (p .steps)
+    → carry-out im k (give p) .numbers .steps ≤ length (p .steps)
 used-most im k p d = go (leb (length (p .steps)) k) refl
   where
     go : (b : Bool) → leb (length (p .steps)) k ≡ b → carry-out im k (give p) .numbers .steps ≤ length (p .steps)
-    go true e = omega (arith, ap (λ (o : Outcome). o .numbers .steps) (carried-done im k p (leb-true (length (p .steps)) k e)), d)
+    go true e =
+        omega (arith, ap (λ (o : Outcome). o .numbers .steps) (carried-done im k p (leb-true (length (p .steps)) k e)), d)
     go false e =
-        omega (arith, ap (λ (o : Outcome). o .numbers .steps) (carried-cut im k p (leb-false (length (p .steps)) k e)), leb-false (length (p .steps)) k e)
+        let less : k < length (p .steps) = leb-false (length (p .steps)) k e in
+        omega (arith, ap (λ (o : Outcome). o .numbers .steps) (carried-cut im k p less))
 
 -- a refusal
 used-none : (im : Image) (k n : ℕ) → carry-out im k (refuse n) .numbers .steps ≡ 0

@@ -72,7 +72,10 @@ clean-few (suc k) a (x ∷ s) =
 start-few : (a low : ℕ) → length (start-steps a low) ≤ 2
 start-few a low = go (eqb low 0xA0)
   where
-    go : (b : Bool) → length {A = Step} (elim b as (λ x. List Step) [ true ↦ program a 0x80 ∷ program a 0x00 ∷ [] | false ↦ program a 0x00 ∷ [] ]) ≤ 2
+    go : (b : Bool) → length {A = Step} (elim b as (λ x. List Step) [
+      | true ↦ program a 0x80 ∷ program a 0x00 ∷ []
+      | false ↦ program a 0x00 ∷ []
+    ]) ≤ 2
     go true = omega arith
     go false = omega arith
 
@@ -80,7 +83,7 @@ forget-few : (x : Entry) (zs : List ℕ) → length (forget-steps x zs) ≤ 1
 forget-few x [] = omega arith
 forget-few x (z ∷ zs) = omega arith
 
-end-few : (N : ℕ) (y : Entry) → y .at ≤ N → vacated-end N y ≤ N
+pub end-few : (N : ℕ) (y : Entry) → y .at ≤ N → vacated-end N y ≤ N
 unfolding vacated-end
 end-few N y h = go (eqb (y .at) 0)
   where

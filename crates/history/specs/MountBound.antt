@@ -1,7 +1,7 @@
 -- The most steps of a mount, on every image that a history leaves.
 use Prim.Native.Nat.{ℕ, _≤_}
 use native.Mathlib.Omega.{arith}
-use mathlib.Core.Path.{_≡_, refl, ap}
+use mathlib.Core.Path.{refl, ap}
 use mathlib.Core.List.{[]}
 use lib.ListN.{length}
 use Rattle.spec.specs.Step.{Image}
@@ -9,7 +9,7 @@ use Rattle.spec.specs.Basics.{Answer}
 use Rattle.spec.specs.Mount.{mended}
 use Rattle.spec.specs.Answers.{Plan, carry-out, format, mount, mount-work}
 use Rattle.spec.specs.History.{Ledger, replay, ledger}
-use Rattle.spec.specs.Bounds.{Mount-bound, Mounts-by-head, Mount-bound-by-head}
+use Rattle.spec.specs.Bounds.{Mount-bound, Mount-bound-by-head}
 use Rattle.history.specs.Kinds.{Inv}
 use Rattle.history.specs.Mending.{Mends}
 use Rattle.history.specs.Mounts.{mends}
@@ -21,7 +21,11 @@ repairs-most : (im : Image) (l : Ledger) (i : Inv l im) (k : ℕ) → mount im k
 repairs-most im l i k =
     let m : Mends l im = mends l im i in
     let P : Plan = mount-work (mended im (m .r)) in
-    omega (arith, ap (λ (p : Answer Plan). carry-out im k p .numbers .steps) (mount-is im (m .r) (i .good) (m .reads)), used-most im k P refl)
+    omega (
+      arith,
+      ap (λ (p : Answer Plan). carry-out im k p .numbers .steps) (mount-is im (m .r) (i .good) (m .reads)),
+      used-most im k P refl,
+    )
 
 -- THE theorem on mount: document 02's bound
 pub mount-bound : Mount-bound
@@ -37,4 +41,5 @@ mount-bound-by-head raw k calls e b =
     let im : Image = replay (format raw k .image) calls in
     let l : Ledger = ledger (format raw k .image) calls [] in
     let i : Inv l im = history-inv raw k calls e b in
-    record { read = mends l im i .r; reads = mends l im i .reads; few = λ m. omega (arith, repairs-most im l i m, mends l im i .few .by-head) }
+    let w : Mends l im = mends l im i in
+    record { read = w .r; reads = w .reads; few = λ m. omega (arith, repairs-most im l i m, w .few .by-head) }
