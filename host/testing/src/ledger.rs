@@ -1,4 +1,5 @@
 //! "History and ledger": the ledger, and the check of what demand 3 says.
+use crate::bounds;
 use crate::call::{Call, Store};
 use crate::cut::{self, Made};
 use crate::ALL;
@@ -90,6 +91,7 @@ impl World {
         let commit = commit_place(&before, call);
         let plan = call.plan(&before);
         let reply = store.call(&mut self.img, call)?;
+        bounds::check(&before, call, commit, &reply)?;
         if !matches!(reply.answer, 0 | 4) && (self.img != before || reply.steps != 0) {
             return Err(format!("refusal {} changed the image", reply.answer));
         }
@@ -128,6 +130,7 @@ impl World {
         if reply.answer != 0 {
             return Err(format!("mount answers {}", reply.answer));
         }
+        bounds::check(&self.img, &Call::Mount(ALL), None, &reply)?;
         if reply.third != self.ledger.files.len() as u64 {
             return Err(format!("mount counts {} files, the ledger {}", reply.third, self.ledger.files.len()));
         }

@@ -2,6 +2,7 @@
 //! document 01 and the check of demand 3, the facts expected of histories.
 
 pub mod aimed;
+pub mod bounds;
 pub mod c_calls;
 pub mod call;
 pub mod cc;
@@ -15,6 +16,7 @@ pub mod maker;
 pub mod odd;
 pub mod rng;
 pub mod tags;
+pub mod worst;
 
 /// An allowance that no call uses up.
 pub const ALL: u64 = u64::MAX;
