@@ -21,6 +21,7 @@ use Rattle.spec.specs.Reading.{legal, judged, read-at, reading}
 use Rattle.spec.specs.Mount.{settled}
 use Rattle.spec.specs.Answers.{if-settled, settled-reading}
 use Rattle.history.specs.Lists.{each-append}
+use Rattle.history.specs.Steps.{Programs}
 use Rattle.history.specs.Erase.{erases-length}
 
 -- ---- what stands at the front of a list of l bytes
@@ -209,6 +210,11 @@ abbrev pub Inner : ℕ → List Step → Type 0
 Inner N [] = Unit {0}
 Inner N (program a b ∷ ss) = Inner N ss
 Inner N (erase a ∷ ss) = (a + 4096 ≤ N) × Inner N ss
+
+pub programs-inner : (N : ℕ) (ss : List Step) → Programs ss → Inner N ss
+programs-inner N [] p = tt
+programs-inner N (program a b ∷ ss) p = programs-inner N ss p
+programs-inner N (erase a ∷ ss) p = absurd p
 
 pub inner-append : (N : ℕ) (ss ts : List Step) → Inner N ss → Inner N ts → Inner N (ss ++ ts)
 inner-append N [] ts p q = q

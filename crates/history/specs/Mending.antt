@@ -1,6 +1,6 @@
 -- What mount does on an image of the invariant (Mends). On each kind one repair at most has steps, so mount is that repair, if it leaves
 -- a rested image, on which the others have nothing to do.
-use Prim.Native.Nat.{ℕ, _≤_}
+use Prim.Native.Nat.{ℕ, _+_, _/_}
 use native.Mathlib.Omega.{arith}
 use mathlib.Core.Path.{_≡_, sym, ap, _∙_, subst}
 use mathlib.Core.Bool.{true}
@@ -14,12 +14,13 @@ use Rattle.spec.specs.Reading.{reading}
 use Rattle.spec.specs.Move.{Work, begin, reread, after}
 use Rattle.spec.specs.Mount.{repair-1, repair-2-on, repair-3, repair-4, mended}
 use Rattle.spec.specs.History.{Ledger}
-use Rattle.spec.specs.Bounds.{mount-most, mount-by-head, head-data}
+use Rattle.spec.specs.Bounds.{At-most, head-most, head-data}
 use Rattle.history.specs.Safe.{Safe}
 use Rattle.history.specs.Erase.{good-is}
 use Rattle.history.specs.Kinds.{Inv, Rested}
 use Rattle.history.specs.Settled.{rested-idle, idle-2, idle-3, idle-4, after-some}
 use Rattle.history.specs.Closes.{Rests}
+use Rattle.history.specs.StepCounts.{most-none, most-more}
 
 -- ---- mount
 
@@ -28,14 +29,18 @@ pub data Needs (l : Ledger) (im : Image) (r : Reading) : Type 0 where
   needs-none : Rested l im r → Needs l im r
   needs-some : (mended im r .steps ≡ [] → ⊥) → Needs l im r
 
--- both bounds of mount
+-- mount's bounds, by the length of the image and by the data of its head
 pub record Few (im : Image) (r : Reading) (ss : List Step) : Type 0 where
-  pub most : length ss ≤ mount-most (length im)
-  pub by-head : length ss ≤ mount-by-head (length im) (head-data (r .entries))
+  pub by-length : At-most (length im / 8 + 8) (length im / 4096) ss
+  pub by-head : At-most (head-most (head-data (r .entries))) (length im / 4096) ss
 
--- a good length is at least two sectors, so nine steps are few
-pub nine-few : {im : Image} {r : Reading} (ss : List Step) → good-length (length im) ≡ true → length ss ≤ 9 → Few im r ss
-nine-few {im} ss g h = record { most = omega (arith, good-is (length im) g .1); by-head = omega (arith, good-is (length im) g .1) }
+-- nine bytes are few in an image of a good length
+pub nine-few : {im : Image} {r : Reading} (ss : List Step) → good-length (length im) ≡ true → At-most 9 0 ss → Few im r ss
+nine-few {im} ss g h =
+    record {
+      by-length = most-more h (omega (arith, good-is (length im) g .1)) (omega arith);
+      by-head = most-more h (omega arith) (omega arith);
+    }
 
 -- what mount does: the image is read, cut anywhere the files stay, at the end it is rested, and the steps are few
 pub record Mends (l : Ledger) (im : Image) : Type 0 where
@@ -57,7 +62,7 @@ module _ {l : Ledger} {im : Image} {r : Reading} (reads : reading im ≡ give r)
         needs = needs-none q;
         safe = subst (λ (v : Work). Safe (Inv l) im (v .steps)) (sym m) i;
         rested = subst (λ (v : Work). Rested l (run im (v .steps)) (v .reading)) (sym m) q;
-        few = subst (λ (v : Work). Few im r (v .steps)) (sym m) (nine-few [] (q .good) (omega arith));
+        few = subst (λ (v : Work). Few im r (v .steps)) (sym m) (nine-few [] (q .good) (most-more most-none (omega arith) (omega arith)));
       }
 
   module _ {ss : List Step} {h : ℕ} (q : Rests l im ss h) (some : ss ≡ [] → ⊥) (few : Few im r ss) where

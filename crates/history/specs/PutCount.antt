@@ -18,10 +18,12 @@ use Rattle.spec.specs.Place.{address, with-marker, room}
 use Rattle.spec.specs.Write.{status-step, migrate-steps, delete-steps, marker-steps, turn-steps, record-steps, put-steps}
 use Rattle.spec.specs.Answers.{Plan, doing, put-into, put-plan, settled-reading}
 use Rattle.spec.specs.History.{three-if}
-use Rattle.spec.specs.Bounds.{old-count, put-count, Put-exact, Put-bound}
+use Rattle.spec.specs.Bounds.{At-most, old-count, put-count, Put-exact, Put-bound, Put-kinds}
 use Rattle.history.specs.Steps.{length-moved}
 use Rattle.history.specs.Put.{length-record}
-use Rattle.history.specs.Used.{used-bound}
+use Rattle.history.specs.StepCounts.{most-length, most-programs}
+use Rattle.history.specs.Landing.{put-programs}
+use Rattle.history.specs.Used.{used-bound, used-kinds}
 
 -- ---- the list
 
@@ -67,9 +69,10 @@ three-most : (b : Bool) → three-if b ≤ 3
 three-most true = omega arith
 three-most false = omega arith
 
-pub put-steps-most : (p : Place) (o : Option Entry) (n c : List ℕ) → length (put-steps p o n c) ≤ length n + length c + 15
+pub put-steps-most : (p : Place) (o : Option Entry) (n c : List ℕ) → At-most (length n + length c + 15) 0 (put-steps p o n c)
 put-steps-most p o n c =
-    omega (arith, put-steps-count p o n c, old-most o, three-most (with-marker p (size-of (length n) (length c))))
+    most-programs (put-steps p o n c) (put-programs p o n c)
+    (omega (arith, put-steps-count p o n c, old-most o, three-most (with-marker p (size-of (length n) (length c)))))
 
 -- ---- the call
 
@@ -108,13 +111,21 @@ put-exact n c im p e =
       exact = sym (ap (λ (y : Plan). length (y .steps)) (g .is)) ∙ put-steps-count (g .r .place) (file-named n (g .r .entries)) n c;
     }
 
+module _ (n c : List ℕ) (im : Image) where
+  most : (p : Plan) → put-plan n c im ≡ give p → At-most (length n + length c + 15) 0 (p .steps)
+  most p e =
+      let g : Given n c im p = given n c im p e in
+      subst (λ (y : Plan). At-most (length n + length c + 15) 0 (y .steps)) (g .is)
+      (put-steps-most (g .r .place) (file-named n (g .r .entries)) n c)
+
+  few : (p : Plan) → put-plan n c im ≡ give p → (p .done .steps ≡ length (p .steps)) × (length (p .steps) ≤ length n + length c + 15)
+  few p e =
+      let g : Given n c im p = given n c im p e in
+      (subst (λ (y : Plan). y .done .steps ≡ length (y .steps)) (g .is) refl, omega (arith, most-length (p .steps) (most p e)))
+
 -- and at most so many, with any allowance
 pub put-bound : Put-bound
-put-bound n c im k = used-bound im k (length n + length c + 15) (put-plan n c im) few
-  where
-    few : (p : Plan) → put-plan n c im ≡ give p → (p .done .steps ≡ length (p .steps)) × (length (p .steps) ≤ length n + length c + 15)
-    few p e =
-        let g : Given n c im p = given n c im p e in (
-          subst (λ (y : Plan). y .done .steps ≡ length (y .steps)) (g .is) refl,
-          omega (arith, ap (λ (y : Plan). length (y .steps)) (g .is), put-steps-most (g .r .place) (file-named n (g .r .entries)) n c),
-        )
+put-bound n c im k = used-bound im k (length n + length c + 15) (put-plan n c im) (few n c im)
+
+pub put-kinds : Put-kinds
+put-kinds n c im k = used-kinds k (put-plan n c im) (most n c im)

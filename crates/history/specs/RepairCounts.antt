@@ -1,10 +1,10 @@
--- How many steps the repairs have, told from their lists.
+-- How many steps the repairs have, told from their lists alone: bytes programmed and sectors erased.
 use Prim.Native.Nat.{ℕ, zero, suc, _+_, _-_, _*_, _/_, _≤_}
 use native.Mathlib.Omega.{arith}
 use mathlib.Core.Path.{_≡_, refl, ap}
 use mathlib.Core.Bool.{Bool, true, false}
 use mathlib.Core.List.{List, [], _∷_, _++_, map}
-use lib.ListN.{length, drop, length-append, length-drop, length-map}
+use lib.ListN.{length, drop, length-append, length-drop}
 use lib.Dec.{eqb, leb}
 use borrow.Author.Tests.{leb-true}
 use Rattle.spec.specs.declared.Place.{Place}
@@ -15,7 +15,10 @@ use Rattle.spec.specs.Geometry.{floor, ceiling, sectors-by, sectors}
 use Rattle.spec.specs.Record.{Entry, content-of, data-at}
 use Rattle.spec.specs.Move.{mark-here, mark-steps, clean-steps, vacated-end, vacated, forget-steps, start-steps, vacate-steps, close-steps}
 use Rattle.spec.specs.Mount.{free-sectors, dirty, erase-steps}
+use Rattle.spec.specs.Bounds.{At-most}
 use Rattle.history.specs.Lists.{keep-yes, keep-no}
+use Rattle.history.specs.Steps.{Programs, programs-append}
+use Rattle.history.specs.StepCounts.{most-append, most-more, most-programs, most-erases}
 
 -- ---- sectors
 
@@ -41,6 +44,19 @@ keep-few p (x ∷ xs) = go (p x) refl (keep-few p xs)
     go false e h = omega (arith, ap length (keep-no p x xs e))
 
 -- ---- step (c)
+
+mark-programs : (a : ℕ) (s : List ℕ) → Programs (mark-steps a s)
+mark-programs a s = go (mark-here s)
+  where
+    go : (b : Bool) → Programs (elim b as (λ x. List Step) [ true ↦ program (a + 1) 0x00 ∷ [] | false ↦ [] ])
+    go true = tt
+    go false = tt
+
+pub clean-programs : (k a : ℕ) (s : List ℕ) → Programs (clean-steps k a s)
+unfolding clean-steps
+clean-programs zero a s = tt
+clean-programs (suc k) a s =
+    programs-append (mark-steps a s) (clean-steps k (a + 8) (drop 8 s)) (mark-programs a s) (clean-programs k (a + 8) (drop 8 s))
 
 mark-few : (a : ℕ) (s : List ℕ) → length (mark-steps a s) ≤ 1
 mark-few a s = go (mark-here s)
@@ -69,19 +85,16 @@ clean-few (suc k) a (x ∷ s) =
 
 -- ---- steps (d) to (f)
 
-start-few : (a low : ℕ) → length (start-steps a low) ≤ 2
-start-few a low = go (eqb low 0xA0)
+pub start-most : (a low : ℕ) → At-most 2 0 (start-steps a low)
+start-most a low = go (eqb low 0xA0)
   where
-    go : (b : Bool) → length {A = Step} (elim b as (λ x. List Step) [
-      | true ↦ program a 0x80 ∷ program a 0x00 ∷ []
-      | false ↦ program a 0x00 ∷ []
-    ]) ≤ 2
-    go true = omega arith
-    go false = omega arith
+    go : (b : Bool) → At-most 2 0 (elim b as (λ x. List Step) [ true ↦ program a 0x80 ∷ program a 0x00 ∷ [] | false ↦ program a 0x00 ∷ [] ])
+    go true = record { programs-few = omega arith; erases-few = omega arith }
+    go false = record { programs-few = omega arith; erases-few = omega arith }
 
-forget-few : (x : Entry) (zs : List ℕ) → length (forget-steps x zs) ≤ 1
-forget-few x [] = omega arith
-forget-few x (z ∷ zs) = omega arith
+forget-most : (x : Entry) (zs : List ℕ) → At-most 1 0 (forget-steps x zs)
+forget-most x [] = record { programs-few = omega arith; erases-few = omega arith }
+forget-most x (z ∷ zs) = record { programs-few = omega arith; erases-few = omega arith }
 
 pub end-few : (N : ℕ) (y : Entry) → y .at ≤ N → vacated-end N y ≤ N
 unfolding vacated-end
@@ -94,23 +107,22 @@ end-few N y h = go (eqb (y .at) 0)
 vacated-few : (N : ℕ) (x y : Entry) → y .at ≤ N → length (vacated N x y) ≤ N / 4096
 vacated-few N x y h = omega (arith, sectors-few (floor (x .at)) (vacated-end N y), end-few N y h)
 
--- (c) to (f): X's data in words, the sectors, and three
-pub close-few : (N : ℕ) (x y : Entry) (low : ℕ) → y .at ≤ N
-    → length (close-steps N x y low) ≤ (length (content-of x) + 7) / 8 + N / 4096 + 3
+-- (c) to (f): a byte for 8 of X's data, and three; the sectors
+pub close-most : (N : ℕ) (x y : Entry) (low : ℕ) → y .at ≤ N
+    → At-most ((length (content-of x) + 7) / 8 + 3) (N / 4096) (close-steps N x y low)
 unfolding close-steps
-close-few N x y low h =
+close-most N x y low h =
     let zs : List ℕ = vacated N x y in
-    omega (
-      arith,
-      length-append (clean-steps (length (content-of x)) (data-at x) (content-of x)) (vacate-steps x y low zs),
-      clean-few (length (content-of x)) (data-at x) (content-of x),
-      length-append (map erase zs) (start-steps (y .at) low ++ forget-steps x zs),
-      length-append (start-steps (y .at) low) (forget-steps x zs),
-      length-map zs erase,
-      vacated-few N x y h,
-      start-few (y .at) low,
-      forget-few x zs,
-    )
+    let d : ℕ = length (content-of x) in
+    let clean : List Step = clean-steps d (data-at x) (content-of x) in
+    let c : At-most ((d + 7) / 8) 0 clean =
+    most-programs clean (clean-programs d (data-at x) (content-of x)) (clean-few d (data-at x) (content-of x)) in
+    let e : At-most 0 (N / 4096) (map erase zs) = most-erases zs (vacated-few N x y h) in
+    let s : At-most 3 0 (start-steps (y .at) low ++ forget-steps x zs) =
+    most-append (start-steps (y .at) low) (forget-steps x zs) (start-most (y .at) low) (forget-most x zs) in
+    most-more (most-append clean (vacate-steps x y low zs) c
+    (most-append (map erase zs) (start-steps (y .at) low ++ forget-steps x zs) e s))
+    (omega arith) (omega arith)
 
 -- ---- repair 1
 
@@ -132,16 +144,12 @@ free-few p h k = go (p .turned) k
           k refl,
         )
 
--- the sectors of the free run, and two
-pub first-few : (im : Image) (p : Place) (a low : ℕ) → p .head ≤ p .length → (p .turned ≡ false → p .head ≤ p .tail)
-    → length (erase-steps im p ++ start-steps a low) ≤ p .length / 4096 + 2
+-- two, and the sectors of the free run
+pub first-most : (im : Image) (p : Place) (a low : ℕ) → p .head ≤ p .length → (p .turned ≡ false → p .head ≤ p .tail)
+    → At-most 2 (p .length / 4096) (erase-steps im p ++ start-steps a low)
 unfolding erase-steps
-first-few im p a low h k =
-    omega (
-      arith,
-      length-append (erase-steps im p) (start-steps a low),
-      length-map (keep (dirty im) (free-sectors p)) erase,
-      keep-few (dirty im) (free-sectors p),
-      free-few p h k,
-      start-few a low,
-    )
+first-most im p a low h k =
+    let zs : List ℕ = keep (dirty im) (free-sectors p) in
+    let e : At-most 0 (p .length / 4096) (map erase zs) =
+    most-erases zs (omega (arith, keep-few (dirty im) (free-sectors p), free-few p h k)) in
+    most-more (most-append (map erase zs) (start-steps a low) e (start-most a low)) (omega arith) (omega arith)

@@ -2,7 +2,7 @@
 //! say them (Bounds).
 use crate::call::Call;
 use model::rules::read_settled;
-use model::{read_image, Reply, SECTOR};
+use model::{read_image, Reply, Step, SECTOR};
 
 /// "mount takes at most N/8 + N/4,096 + 8 steps", behind any history.
 pub fn mount_most(n: u64) -> u64 {
@@ -11,7 +11,7 @@ pub fn mount_most(n: u64) -> u64 {
 
 /// The same by the d data bytes of the head's record: only these are cleaned of marks.
 pub fn mount_by_head(n: u64, d: u64) -> u64 {
-    d.div_ceil(8) + n / SECTOR + 7
+    d.div_ceil(8) + n / SECTOR + 9
 }
 
 /// "a put of n name bytes and d data bytes: at most n + d + 14", 15 with K14.
@@ -59,8 +59,34 @@ pub fn check(img: &[u8], call: &Call, commit: Option<u64>, reply: &Reply) -> Res
     }
 }
 
-/// Nine steps are always within it; above them the head is looked at.
+/// Where a head without data is enough for so many steps it is not looked at.
 fn within_head(img: &[u8], steps: u64) -> bool {
     let bound = |d| mount_by_head(img.len() as u64, d);
     steps <= bound(0) || read_image(img).is_ok_and(|c| steps <= bound(c.records[0].data_len))
+}
+
+/// The two kinds of step apart, since an erase takes longer: the most bytes that a call
+/// programs in an image of n bytes, and the most sectors that it erases.
+pub fn most_of_each(n: u64, call: &Call) -> (u64, u64) {
+    let sectors = n / SECTOR;
+    match call {
+        Call::Mount(_) => (n / 8 + 8, sectors),
+        Call::Put(name, data, _) => (put_most(name, data), 0),
+        Call::Remove(..) => (1, 0),
+        Call::Format(_) => (8, sectors),
+        Call::Sweep(_) => (5 * (n + n / 8 + 8), 5 * sectors),
+        Call::Get(_) | Call::List(_) => (0, 0),
+    }
+}
+
+/// These steps of a call are held to that.
+pub fn check_each(n: usize, call: &Call, done: &[Step]) -> Result<(), String> {
+    let (programs, erases) = most_of_each(n as u64, call);
+    let erased = done.iter().filter(|s| matches!(s, Step::Erase(_))).count() as u64;
+    let programmed = done.len() as u64 - erased;
+    if programmed <= programs && erased <= erases {
+        Ok(())
+    } else {
+        Err(format!("{}: {programmed} bytes programmed, {erased} sectors erased", call.kind()))
+    }
 }

@@ -97,6 +97,7 @@ impl World {
         }
         let steps = plan.map_or(vec![], |p| p.steps);
         let undone = cut::left(&steps, &reply);
+        bounds::check_each(before.len(), call, &steps[..steps.len() - undone.len()])?;
         self.listed_steps(before, &steps[..steps.len() - undone.len()])?;
         let next = match undone.first() {
             Some(&Step::Program(a, _)) => Some(a as usize),

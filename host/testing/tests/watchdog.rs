@@ -1,7 +1,7 @@
 //! K9 on the model: the longest mounts against the bound, and put's steps by case.
 use model::Reply;
 use std::collections::BTreeMap;
-use testing::bounds::{mount_by_head, mount_most};
+use testing::bounds::{check_each, mount_by_head, mount_most};
 use testing::call::{Call, Model, Store};
 use testing::cut;
 use testing::ledger::{commit_place, World};
@@ -14,6 +14,8 @@ use testing::ALL;
 fn longest(n: usize) -> u64 {
     let mount = |before| {
         let (mut img, data) = image(&Model, n, before);
+        let plan = Call::Mount(ALL).plan(&img).expect("it is not refused");
+        assert_eq!(check_each(n, &Call::Mount(ALL), &plan.steps), Ok(()));
         let reply = Model.call(&mut img, &Call::Mount(ALL)).expect("steps as reported");
         assert_eq!(reply.answer, 0);
         assert_eq!(reply.third, 1, "the file is there");
