@@ -1,5 +1,5 @@
 //! K9 on the model: the longest mounts against the bound, and put's steps by case.
-use model::Reply;
+use model::{Reply, Step};
 use std::collections::BTreeMap;
 use testing::bounds::{check_each, mount_by_head, mount_most};
 use testing::call::{Call, Model, Store};
@@ -20,7 +20,12 @@ fn longest(n: usize) -> u64 {
         assert_eq!(reply.answer, 0);
         assert_eq!(reply.third, 1, "the file is there");
         assert!(reply.steps <= mount_by_head(n as u64, data as u64));
-        println!("N {n}, {before:?}: {data} bytes at the head, {} steps, bound {}", reply.steps, mount_most(n as u64));
+        let erases = plan.steps.iter().filter(|s| matches!(s, Step::Erase(_))).count();
+        println!(
+            "N {n}, {before:?}: {data} bytes at the head, {} steps ({erases} erases), bound {}",
+            reply.steps,
+            mount_most(n as u64)
+        );
         reply.steps
     };
     // in a small image the filler takes more room than it gives
