@@ -14,7 +14,7 @@ pub fn mount_by_head(n: u64, d: u64) -> u64 {
     d.div_ceil(8) + n / SECTOR + 9
 }
 
-/// "a put of n name bytes and d data bytes: at most n + d + 14", 15 with K14.
+/// A put takes "at most n + d + 14" steps, 15 with K14.
 pub fn put_most(name: &[u8], data: &[u8]) -> u64 {
     (name.len() + data.len()) as u64 + 15
 }
