@@ -107,7 +107,8 @@ after-all p s ss = fits-all-is (place-after p s) ss
 
 -- what fits behind a size that was placed fits where the image is then read to end
 pub led-room : {J : Image} {h s : ℕ} {p : Place} {fs : List Entry} (led : Led J h p s fs) → p .head ≡ h → p .length ≡ length J
-    → (es : List Entry) → fits-all (place-after p s) (live-sizes es) ≡ true → all-fit (floor h) (length J) (led .T) (led .u) (live-sizes es) ≡ true
+    → (es : List Entry) → fits-all (place-after p s) (live-sizes es) ≡ true
+    → all-fit (floor h) (length J) (led .T) (led .u) (live-sizes es) ≡ true
 led-room {J} {h} {s} {p} led hd len es f =
     let ss : List ℕ = live-sizes es in
     sym (lands-fit (floor h) ss (led .lands) (sizes-some (keep alive es)))

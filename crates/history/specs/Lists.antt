@@ -143,6 +143,24 @@ module _ {A : Type 0} where
   all-each p (x ∷ xs) h = rw (h .0, all) (all-each p xs (h .1))
 
   -- none is kept
+  pub keep-all : (p : A → Bool) (xs : List A) → Each (λ x. p x ≡ true) xs → keep p xs ≡ xs
+  keep-all p [] h = refl
+  keep-all p (x ∷ xs) h = keep-yes p x xs (h .0) ∙ ap (λ (l : List A). x ∷ l) (keep-all p xs (h .1))
+
+  -- two tests, either way round
+  pub keep-swap : (p q : A → Bool) (xs : List A) → keep p (keep q xs) ≡ keep q (keep p xs)
+  keep-swap p q [] = refl
+  keep-swap p q (x ∷ xs) = go (p x) (q x) refl refl (keep-swap p q xs)
+    where
+      go : (a b : Bool) → p x ≡ a → q x ≡ b → keep p (keep q xs) ≡ keep q (keep p xs)
+          → keep p (keep q (x ∷ xs)) ≡ keep q (keep p (x ∷ xs))
+      go true true e f i =
+          ap (keep p) (keep-yes q x xs f) ∙ keep-yes p x (keep q xs) e ∙ ap (λ (l : List A). x ∷ l) i ∙ sym (keep-yes q x (keep p xs) f)
+          ∙ sym (ap (keep q) (keep-yes p x xs e))
+      go true false e f i = ap (keep p) (keep-no q x xs f) ∙ i ∙ sym (keep-no q x (keep p xs) f) ∙ sym (ap (keep q) (keep-yes p x xs e))
+      go false true e f i = ap (keep p) (keep-yes q x xs f) ∙ keep-no p x (keep q xs) e ∙ i ∙ sym (ap (keep q) (keep-no p x xs e))
+      go false false e f i = ap (keep p) (keep-no q x xs f) ∙ i ∙ sym (ap (keep q) (keep-no p x xs e))
+
   pub keep-none : (p : A → Bool) (xs : List A) → Each (λ x. p x ≡ false) xs → keep p xs ≡ []
   keep-none p [] h = refl
   keep-none p (x ∷ xs) h = keep-no p x xs (h .0) ∙ keep-none p xs (h .1)

@@ -2,7 +2,7 @@
 use Prim.Native.Nat.{ℕ, zero, suc, _+_, _-_, _≤_, min}
 use native.Mathlib.Omega.{arith}
 use mathlib.Core.Path.{_≡_, refl, sym, ap, _∙_, subst}
-use mathlib.Core.Bool.{Bool, true, false, not}
+use mathlib.Core.Bool.{Bool, true, false}
 use mathlib.Core.Option.{Option, none, some}
 use mathlib.Core.List.{List, [], _∷_, _++_}
 use lib.ListN.{length, length-append}
@@ -126,7 +126,8 @@ module _ {l : Ledger} {im : Image} {r : Reading} (q : Rested l im r) (n c : List
 
   -- fs are the records that put leaves
   led-passes : (old : Option Entry) (fs : List Entry) → Old n (r .entries) old
-      → Led (run im (put-steps (r .place) old n c)) (q .h) (r .place) z fs → keep alive fs ≡ keep (other-name n) (files (r .entries)) ++ (new ∷ []) → Passes (run im (put-steps (r .place) old n c))
+      → Led (run im (put-steps (r .place) old n c)) (q .h) (r .place) z fs
+      → keep alive fs ≡ keep (other-name n) (files (r .entries)) ++ (new ∷ []) → Passes (run im (put-steps (r .place) old n c))
   led-passes old fs o led k =
       let J : Image = run im (put-steps (r .place) old n c) in
       let m : Commits l (with-file n c l) im (put-steps (r .place) old n c)
@@ -161,7 +162,8 @@ put-gets-on im l n c m i b e = go (puts-of l im n c i)
   where
     go : Puts l im n c → Passes (put im n c m .image)
     go (put-no r) =
-        let z : r .number ≡ 0 = sym (refused-answer im m (r .number)) ∙ sym (ap (λ (p : Answer Plan). carry-out im m p .numbers .answer) (r .is)) ∙ e in
+        let z : r .number ≡ 0 =
+        sym (refused-answer im m (r .number)) ∙ sym (ap (λ (p : Answer Plan). carry-out im m p .numbers .answer) (r .is)) ∙ e in
         absurd (not-both (eqb (r .number) 0) (r .not-done) (eq-eqb (r .number) 0 z))
     go (put-yes r q nice rule k) =
         let ss : List Step = put-steps (r .place) (file-named n (r .entries)) n c in

@@ -15,13 +15,12 @@ use Rattle.spec.specs.Chain.{Reading, read, reading-from}
 use Rattle.spec.specs.Files.{files}
 use Rattle.spec.specs.Place.{fits-all, place-after, address, other-name, largest-with}
 use Rattle.spec.specs.Place.{in-head-sector, begins-there, standing, joining, room}
-use Rattle.spec.specs.Answers.{put}
 use Rattle.spec.specs.History.{Ledger}
 use Rattle.spec.specs.Progress.{to-pass}
-use Rattle.history.specs.Lists.{keep-yes, keep-no, keep-append, keep-same, each-map, each-keep, pairwise-before, pairwise-behind}
+use Rattle.history.specs.Lists.{keep-yes, keep-no, keep-same, keep-append, keep-all, keep-swap, each-map, each-keep}
+use Rattle.history.specs.Lists.{pairwise-before, pairwise-behind}
 use Rattle.history.specs.Store.{alive, files-alive, same-sym, Unique}
 use Rattle.history.specs.Ledger.{Absent}
-use Rattle.history.specs.Lay.{sizes}
 use Rattle.history.specs.Kinds.{Rested}
 use Rattle.history.specs.OkLaws.{same-refl}
 use Rattle.history.specs.Put.{file}
@@ -33,22 +32,7 @@ use Rattle.history.specs.HeadSector.{near, Split, split}
 
 -- ---- what put leaves: the live records are those that stood, the replaced one out, and the new one
 
-keep-all : {A : Type 0} (p : A → Bool) (xs : List A) → Each (λ x. p x ≡ true) xs → keep p xs ≡ xs
-keep-all p [] h = refl
-keep-all p (x ∷ xs) h = keep-yes p x xs (h .0) ∙ ap (λ (ys : List _). x ∷ ys) (keep-all p xs (h .1))
-
-keep-swap : {A : Type 0} (p q : A → Bool) (xs : List A) → keep p (keep q xs) ≡ keep q (keep p xs)
-keep-swap {A} p q [] = refl
-keep-swap {A} p q (x ∷ xs) = go (p x) (q x) refl refl (keep-swap p q xs)
-  where
-    go : (a b : Bool) → p x ≡ a → q x ≡ b → keep p (keep q xs) ≡ keep q (keep p xs) → keep p (keep q (x ∷ xs)) ≡ keep q (keep p (x ∷ xs))
-    go true true e f i =
-        ap (keep p) (keep-yes q x xs f) ∙ keep-yes p x (keep q xs) e ∙ ap (λ (ys : List A). x ∷ ys) i ∙ sym (keep-yes q x (keep p xs) f)
-        ∙ sym (ap (keep q) (keep-yes p x xs e))
-    go true false e f i = ap (keep p) (keep-no q x xs f) ∙ i ∙ sym (keep-no q x (keep p xs) f) ∙ sym (ap (keep q) (keep-yes p x xs e))
-    go false true e f i = ap (keep p) (keep-yes q x xs f) ∙ keep-no p x (keep q xs) e ∙ i ∙ sym (ap (keep q) (keep-no p x xs e))
-    go false false e f i = ap (keep p) (keep-no q x xs f) ∙ i ∙ sym (ap (keep q) (keep-no p x xs e))
-
+-- no live record has this name
 others : (n : List ℕ) (es : List Entry) → Absent n es → keep (other-name n) (keep alive es) ≡ keep alive es
 others n es a =
     keep-all (other-name n) (keep alive es)
@@ -89,6 +73,7 @@ module _ (n : List ℕ) (new : Entry) (fresh : alive new ≡ true) where
           (ap (keep (other-name n)) (keep-yes alive e ys a)
           ∙ keep-no (other-name n) e (keep alive ys) (ap not (ap (λ (z : List ℕ). same z n) m ∙ same-refl n)) ∙ others n ys behind)
 
+-- the new record's size, if it begins there
 joined-size : (p : Place) (s : ℕ) (new : Entry) → size new ≡ s → new .at ≡ address p s
     → map size (keep (begins-there p) (new ∷ [])) ≡ joining p s
 unfolding joining
@@ -114,6 +99,7 @@ placed-sizes p n s es fs new e a k =
     ∙ map-append size (keep (begins-there p) (keep (other-name n) (files es))) (keep (begins-there p) (new ∷ []))
     ∙ ap (λ (z : List ℕ). map size (keep (begins-there p) (keep (other-name n) (files es))) ++ z) (joined-size p s new e a)
 
+-- behind the new record they fit one after another
 room-placed : (p : Place) (n : List ℕ) (s : ℕ) (es : List Entry) → room p n s es ≡ true
     → fits-all (place-after p s) (standing p n es ++ joining p s) ≡ true
 unfolding room

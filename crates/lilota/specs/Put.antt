@@ -10,14 +10,14 @@ use lib.Seq.{getD-drop}
 use Rattle.spec.specs.declared.Place.{Place}
 use Rattle.spec.specs.declared.Status.{Status}
 use Rattle.spec.specs.Step.{Image}
-use Rattle.spec.specs.Basics.{give, checked, onward, keep, first-such}
+use Rattle.spec.specs.Basics.{Answer, give, checked, onward, keep, first-such}
 use Rattle.spec.specs.Geometry.{good-length}
 use Rattle.spec.specs.Record.{Entry, size-of, name-ok}
 use Rattle.spec.specs.Files.{has-name, file-named}
 use Rattle.spec.specs.Chain.{Reading}
 use Rattle.spec.specs.Place.{fits, fits-all, room}
 use Rattle.spec.specs.Write.{put-steps}
-use Rattle.spec.specs.Answers.{refusal, carry-out, doing, settled-reading, put-into, put-plan, put}
+use Rattle.spec.specs.Answers.{Plan, refusal, carry-out, doing, settled-reading, put-into, put-plan, put}
 use Rattle.reading.specs.declared.Spot.{Spot}
 use Rattle.reading.specs.declared.Found.{Found}
 use Rattle.reading.specs.declared.Survey.{Survey}
@@ -90,9 +90,11 @@ module _ (image : Image) (k : ℕ) (name content : List ℕ) where
   unfolding put-plan
   put-on h g = rw (put-plan, h, g)
 
+  -- the steps, if there is room (t)
+  abbrev put-if : Reading → Bool → Answer Plan
+  put-if r t = checked t 28 (give (doing (put-steps (r .place) (file-named name (r .entries)) name content) 0 0 0))
+
   pub put-room : (r : Reading) (t : Bool) → t ≡ room-in r name (length content)
-      → carry-out image k (checked t 28 (give (doing (put-steps (r .place) (file-named name (r .entries)) name content) 0 0 0))) ≡ carry-out image k
-      (put-into name content r)
+      → carry-out image k (put-if r t) ≡ carry-out image k (put-into name content r)
   unfolding put-into
-  put-room r t e =
-      ap (λ (b : Bool). carry-out image k (checked b 28 (give (doing (put-steps (r .place) (file-named name (r .entries)) name content) 0 0 0)))) e
+  put-room r t e = ap (λ (b : Bool). carry-out image k (put-if r b)) e

@@ -3,7 +3,7 @@ use Prim.Native.Nat.{ℕ, zero, suc}
 use mathlib.Core.Path.{_≡_, refl, sym, ap, ap₂, _∙_}
 use mathlib.Core.Bool.{true, false}
 use mathlib.Core.List.{List, [], _∷_, _++_, append-nil}
-use Rattle.spec.specs.Step.{Image, Step, program, run}
+use Rattle.spec.specs.Step.{Image, Step, run}
 use Rattle.spec.specs.Record.{Entry}
 use Rattle.spec.specs.Chain.{Reading, reading-from}
 use Rattle.spec.specs.Move.{Work, begin, reread, after, copy-steps, to-clean-step, close-steps, hand-over, moved-on, move}

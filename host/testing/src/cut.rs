@@ -48,7 +48,7 @@ impl Next {
     pub fn values(self, r: &mut Rng) -> Vec<u8> {
         let bits = self.bits();
         if bits.count_ones() > 4 {
-            return (0..3).filter_map(|_| self.value(r)).collect();
+            return (0..2).filter_map(|_| self.value(r)).collect();
         }
         (1..=bits).filter(|cleared| cleared & !bits == 0).map(|cleared| self.found & !cleared).collect()
     }
@@ -70,7 +70,7 @@ pub fn next(img: &[u8], call: &Call) -> Option<Next> {
 /// The call with, now and then, a cut inside its next byte; where there is none, as
 /// before an erase, a byte that must have no effect.
 pub fn sometimes(r: &mut Rng, img: &[u8], call: Call) -> Made {
-    if call.allowance() == ALL || r.chance(50) {
+    if call.allowance() == ALL || r.chance(40) {
         return Made::between(call);
     }
     let any = r.bits() as u8;

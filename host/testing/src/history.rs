@@ -57,7 +57,7 @@ impl Seen {
         self.checked += 1;
         self.facts.look(img);
         let Ok(c) = read_image(img) else { return };
-        for (tag, _) in tags::of_bytes(img, &c).into_iter().filter(|t| t.1) {
+        for tag in tags::of_bytes(img, &c) {
             *self.bytes.entry(tag).or_default() += 1;
         }
     }
@@ -65,11 +65,16 @@ impl Seen {
 
 pub struct Tester<'s, S: Store> {
     pub store: &'s S,
-    /// percent of calls at which every cut is tried, between two steps and inside a
-    /// byte, each followed by cuts of the mount after it
+    /// of a thousand calls, those at which every cut is tried, between two steps and
+    /// inside a byte, each followed by cuts of the mount after it
     pub exhaust: u64,
+    /// a history has 20 calls at least, and fewer than this
+    pub longest: u64,
     pub seen: Seen,
 }
+
+/// Long enough that most stores turn more than once.
+pub const LONGEST: u64 = 220;
 
 impl<S: Store> Tester<'_, S> {
     /// Histories until so many calls are checked, each with an N of these and a maker
@@ -83,8 +88,7 @@ impl<S: Store> Tester<'_, S> {
     ) -> Result<(), Violation> {
         while self.seen.checked < calls {
             let (n, maker) = (r.of(lengths), maker(r));
-            let most = r.of(&[40, 40, 40, 200]);
-            let length = 20 + r.below(most);
+            let length = 20 + r.below(self.longest - 20);
             self.run(r, n, &maker, length)?;
         }
         Ok(())
@@ -95,7 +99,7 @@ impl<S: Store> Tester<'_, S> {
         let mut w = World::new(n);
         let mut calls = Vec::new();
         for _ in 0..length {
-            if r.chance(self.exhaust) {
+            if r.below(1000) < self.exhaust {
                 let whole = maker.whole_call(r, &w.img);
                 self.every_cut(r, &w, &mut calls, &whole)?;
             }

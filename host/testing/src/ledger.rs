@@ -97,8 +97,9 @@ impl World {
         }
         let steps = plan.map_or(vec![], |p| p.steps);
         let undone = cut::left(&steps, &reply);
-        bounds::check_each(before.len(), call, &steps[..steps.len() - undone.len()])?;
-        self.listed_steps(before, &steps[..steps.len() - undone.len()])?;
+        let done = &steps[..steps.len() - undone.len()];
+        bounds::check_each(before.len(), call, done)?;
+        self.listed_steps(before, done, &reply)?;
         let next = match undone.first() {
             Some(&Step::Program(a, _)) => Some(a as usize),
             _ => None,
@@ -113,11 +114,11 @@ impl World {
     }
 
     /// "each program step in it .. stands in one of the step lists above": the call has
-    /// left the image that these steps make of the one it got.
-    fn listed_steps(&self, mut before: Vec<u8>, done: &[Step]) -> Result<(), String> {
+    /// done so many steps, and left the image that these make of the one it got.
+    fn listed_steps(&self, mut before: Vec<u8>, done: &[Step], reply: &Reply) -> Result<(), String> {
         carry_out(&mut before, done, ALL);
-        if self.img != before {
-            return Err(format!("the image is not the one after the first {} steps listed", done.len()));
+        if self.img != before || reply.steps != done.len() as u64 {
+            return Err(format!("{reply:?}: not what the first {} steps listed make", done.len()));
         }
         Ok(())
     }

@@ -139,10 +139,14 @@ impl Maker {
         if !r.chance(self.cut) {
             return call;
         }
-        let need = call.need(img);
-        call.with_allowance(match r.below(4) {
-            0 => r.below(need.min(12) + 1),
-            1 => need.saturating_sub(r.below(12)),
+        let steps = call.plan(img).map_or(vec![], |p| p.steps);
+        let need = steps.len() as u64;
+        // three steps of many write a marker: half the cuts fall there
+        let marker = steps.windows(2).position(|w| matches!(w, [Step::Program(_, 0xFA), Step::Program(_, 0x5A)]));
+        call.with_allowance(match (r.below(4), marker) {
+            (0 | 1, Some(at)) => at as u64 + r.below(4),
+            (0, None) => r.below(need.min(12) + 1),
+            (1, None) => need.saturating_sub(r.below(12)),
             _ => r.below(need + 1),
         })
     }

@@ -58,36 +58,51 @@ fn of_image(img: &[u8], t: &mut Vec<&'static str>) {
         ("reserved after the turn", last.status == RESERVED && last.turned),
     ];
     add(t, &found);
-    add(t, &of_bytes(img, &c));
+    t.extend(of_bytes(img, &c));
 }
 
 /// The bytes that only a cut inside a byte leaves (K14), and marks of them in old data.
-pub fn of_bytes(img: &[u8], c: &Chain) -> [(&'static str, bool); BYTES] {
+pub fn of_bytes(img: &[u8], c: &Chain) -> Vec<&'static str> {
     let b = |a: u64| byte(img, a);
     let (first, last) = (&c.records[0], &c.records[c.records.len() - 1]);
     let low_of_second = c.records.get(1).filter(|y| !y.torn).map(|y| b(y.at));
     let wrap = c.torn_wrap;
     let new_mark = |p: &[u8]| matches!(p, [0x80 | 0xA4 | 0xA1, 0x5A, ..]);
     let odd = |r: &Record| !r.torn && !matches!(r.status, RESERVED | COMMITTED | MIGRATING | WEAR | DELETED);
-    [
-        ("head 80", b(c.head) == 0x80),
-        ("second 80", low_of_second == Some(0x80)),
-        ("second A4", low_of_second == Some(0xA4)),
-        ("second A1", low_of_second == Some(0xA1)),
-        ("torn, first byte partly", last.torn && b(last.at) != 0xA5),
-        ("torn, second byte partly", last.torn && !matches!(b(last.at + 1), 0xFF | 0x5A)),
-        ("torn, byte 8 odd", last.torn && !matches!(b(last.at + 8), 0xFF | 0x00)),
-        ("torn wrap, first partly", wrap.is_some_and(|a| b(a) != 0xFA)),
-        ("torn wrap, second partly", wrap.is_some_and(|a| !matches!(b(a + 1), 0xFF | 0x5A))),
-        ("torn wrap, status partly", wrap.is_some_and(|a| b(a + 2) != 0xFF)),
-        ("reserved, end 80 or more", last.missing.is_some_and(|a| b(a) != 0xFF)),
-        ("dead status, odd", c.records.iter().any(odd)),
-        ("new marks in X", !first.live && first.data(img).chunks(8).any(new_mark)),
-    ]
+    let found = [
+        b(c.head) == 0x80,
+        low_of_second == Some(0x80),
+        low_of_second == Some(0xA4),
+        low_of_second == Some(0xA1),
+        last.torn && b(last.at) != 0xA5,
+        last.torn && !matches!(b(last.at + 1), 0xFF | 0x5A),
+        last.torn && !matches!(b(last.at + 8), 0xFF | 0x00),
+        wrap.is_some_and(|a| b(a) != 0xFA),
+        wrap.is_some_and(|a| !matches!(b(a + 1), 0xFF | 0x5A)),
+        wrap.is_some_and(|a| b(a + 2) != 0xFF),
+        last.missing.is_some_and(|a| b(a) != 0xFF),
+        c.records.iter().any(odd),
+        !first.live && first.data(img).chunks(8).any(new_mark),
+    ];
+    BYTE_TAGS.into_iter().zip(found).filter(|t| t.1).map(|t| t.0).collect()
 }
 
-/// How many tags `of_bytes` has.
-pub const BYTES: usize = 13;
+/// The tags of `of_bytes`, in its order.
+pub const BYTE_TAGS: [&str; 13] = [
+    "head 80",
+    "second 80",
+    "second A4",
+    "second A1",
+    "torn, first byte partly",
+    "torn, second byte partly",
+    "torn, byte 8 odd",
+    "torn wrap, first partly",
+    "torn wrap, second partly",
+    "torn wrap, status partly",
+    "reserved, end 80 or more",
+    "dead status, odd",
+    "new marks in X",
+];
 
 /// What a put does with the room.
 fn of_put(img: &[u8], name: &[u8], data: &[u8], t: &mut Vec<&'static str>) {

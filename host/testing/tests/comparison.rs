@@ -4,6 +4,7 @@ use model::faults::Fault;
 use model::Reply;
 use testing::call::{Call, Model, Store, Wrong, ANSWERS};
 use testing::compare::{Comparison, Tally};
+use testing::tags::BYTE_TAGS;
 
 fn compared(store: &impl Store, images: u64) -> Tally {
     let mut comparison = Comparison::new(store);
@@ -12,7 +13,7 @@ fn compared(store: &impl Store, images: u64) -> Tally {
 }
 
 /// Places that random images come to seldom (testing::tags).
-const PLACES: [&str; 35] = [
+const PLACES: [&str; 22] = [
     "T = N",
     "T = 0 after the turn",
     "T = floor(h)",
@@ -35,19 +36,6 @@ const PLACES: [&str; 35] = [
     "room, the replaced one out",
     "sweep erases several",
     "sweep erases to N",
-    "head 80",
-    "second 80",
-    "second A4",
-    "second A1",
-    "torn, first byte partly",
-    "torn, second byte partly",
-    "torn, byte 8 odd",
-    "torn wrap, first partly",
-    "torn wrap, second partly",
-    "torn wrap, status partly",
-    "reserved, end 80 or more",
-    "dead status, odd",
-    "new marks in X",
 ];
 
 #[test]
@@ -59,7 +47,7 @@ fn the_model_equals_itself() {
             assert!(tally.answered(kind, answer) >= 20, "{kind} {answer}\n{}", tally.report());
         }
     }
-    for place in PLACES {
+    for place in PLACES.into_iter().chain(BYTE_TAGS) {
         assert!(tally.tagged(place) >= 10, "{place}\n{}", tally.report());
     }
 }

@@ -11,6 +11,7 @@ use testing::call::{Call, ANSWERS};
 use testing::images::{built, damage, of_history};
 use testing::maker::{Contents, Lengths, Maker};
 use testing::rng::Rng;
+use testing::tags::BYTE_TAGS;
 use testing::{tags, ALL};
 
 const SOURCES: [&str; 9] =
@@ -19,7 +20,7 @@ const SOURCES: [&str; 9] =
 pub const EACH: u64 = 3;
 /// Below this many vectors a tag is rare.
 const RARE: u64 = 12;
-const HISTORIES: u64 = 120;
+const HISTORIES: u64 = 80;
 /// A program step costs antt as much as its address: no long step lists.
 const MOST_STEPS: u64 = 150;
 const MOST_TEXT: usize = 9_000;
@@ -86,7 +87,7 @@ impl Collection {
     /// What has too few vectors.
     pub fn missing(&self) -> Vec<String> {
         let answers = ANSWERS.iter().flat_map(|(kind, all)| all.iter().map(move |a| format!("{kind} {a}")));
-        let tags = REQUIRED.iter().map(|t| format!("tag {t}"));
+        let tags = REQUIRED.iter().chain(&BYTE_TAGS).map(|t| format!("tag {t}"));
         let sources = SOURCES.iter().map(|s| format!("source {s}"));
         answers.chain(tags).chain(sources).filter(|w| self.count(w) < EACH).collect()
     }

@@ -1,7 +1,7 @@
 //! What the vectors must cover (testing::tags).
 
-/// Tags that must have vectors.
-pub const REQUIRED: [&str; 65] = [
+/// Tags that must have vectors, besides those of testing::tags::BYTE_TAGS.
+pub const REQUIRED: [&str; 52] = [
     "N 8192",
     "N 12288",
     "bad length",
@@ -54,17 +54,4 @@ pub const REQUIRED: [&str; 65] = [
     "history: put done inside its commit",
     "history: remove cut inside",
     "history: remove inside at F8",
-    "head 80",
-    "second 80",
-    "second A4",
-    "second A1",
-    "torn, first byte partly",
-    "torn, second byte partly",
-    "torn, byte 8 odd",
-    "torn wrap, first partly",
-    "torn wrap, second partly",
-    "torn wrap, status partly",
-    "reserved, end 80 or more",
-    "dead status, odd",
-    "new marks in X",
 ];

@@ -1,19 +1,22 @@
-//! The power cut at every step, through the C interface: random histories of all
-//! calls against the ledger.
-//!   cuts [CALLS [SEED [PERCENT]]]
-//! PERCENT of the calls are tried at every allowance (long ones at both ends and a
-//! sample), each followed by the mount at its allowances; after each of them a whole
+//! The power cut at every step and inside its byte, through the C interface: random
+//! histories of all calls against the ledger.
+//!   cuts [CALLS [SEED [OF_1000]]]
+//! Of a thousand calls so many are tried at every allowance (long ones at both ends and
+//! a sample), and there at every subset of the bits that the next step would clear (of
+//! more than four bits a sample), each followed by cut mounts; after each of them a whole
 //! mount, list and get must give the ledger. The others are cut somewhere or not at
-//! all.
+//! all. A library can't be cut inside a byte: the test writes that byte, behind the
+//! call, by the list of steps.
 use testing::argument;
 use testing::c_calls::Library;
-use testing::history::{Seen, Tester};
+use testing::history::{Seen, Tester, LONGEST};
 use testing::maker::Maker;
 use testing::rng::Rng;
+use testing::tags::BYTE_TAGS;
 
 const LENGTHS: [usize; 9] = [8192, 8192, 8192, 12288, 12288, 16384, 20480, 32768, 65536];
 /// Few, for long histories come to more kinds of image in the same time.
-const PERCENT: u64 = 2;
+const OF_1000: u64 = 3;
 /// The images that the histories have to come to.
 const AIMED: [&str; 11] = [
     "T = floor(h)",
@@ -29,6 +32,9 @@ const AIMED: [&str; 11] = [
     "superseded 1",
 ];
 
+/// The calls that have to be cut inside a byte.
+const INSIDE: [&str; 4] = ["put", "remove", "sweep", "mount"];
+
 fn maker(r: &mut Rng) -> Maker {
     match r.below(6) {
         0 | 1 => Maker::full_sectors(r),
@@ -39,20 +45,26 @@ fn maker(r: &mut Rng) -> Maker {
     }
 }
 
-/// How often each aimed image was seen. Gives how many never were.
+/// How often each aimed image was seen, and each aimed cut. Gives how many never were.
 fn aimed(seen: &Seen) -> usize {
-    let count = |part: &str| seen.facts.kinds.iter().filter(|k| k.0.contains(part)).map(|k| k.1).sum::<u64>();
-    for part in AIMED {
-        println!("{:>9} images with {part}", count(part));
+    let kinds = |part: &str| seen.facts.kinds.iter().filter(|k| k.0.contains(part)).map(|k| k.1).sum::<u64>();
+    let images = AIMED.iter().map(|part| (format!("images with {part}"), kinds(part)));
+    let bytes = BYTE_TAGS.iter().map(|tag| (format!("images with {tag}"), seen.bytes.get(tag).copied().unwrap_or(0)));
+    let inside = INSIDE
+        .iter()
+        .map(|kind| (format!("times {kind}, cut inside a byte"), seen.inside.get(kind).copied().unwrap_or(0)));
+    let counts: Vec<(String, u64)> = images.chain(bytes).chain(inside).collect();
+    for (what, count) in &counts {
+        println!("{count:>9} {what}");
     }
-    AIMED.iter().filter(|part| count(part) == 0).count()
+    counts.iter().filter(|c| c.1 == 0).count()
 }
 
 fn main() {
-    let (calls, seed, exhaust) = (argument(1, 60_000), argument(2, 1), argument(3, PERCENT));
+    let (calls, seed, exhaust) = (argument(1, 80_000), argument(2, 1), argument(3, OF_1000));
     let store = Library::new(library::functions());
     println!("library: {}", library::path().display());
-    let mut tester = Tester { store: &store, exhaust, seen: Seen::default() };
+    let mut tester = Tester { store: &store, exhaust, longest: LONGEST, seen: Seen::default() };
     if let Err(v) = tester.until(&mut Rng::new(seed), calls, &LENGTHS, maker) {
         print!("{}", v.show(&store));
         std::process::exit(1);
@@ -61,7 +73,7 @@ fn main() {
         println!("{times:>9} {answer}");
     }
     let missing = aimed(&tester.seen);
-    println!("{missing} kinds of image not seen{}", if missing > 0 { ": more calls are needed" } else { "" });
+    println!("{missing} kinds of image or cut not seen{}", if missing > 0 { ": more calls are needed" } else { "" });
     println!("{} calls, each followed by a mount, list and get: 0 violations", tester.seen.checked);
     if missing > 0 {
         std::process::exit(1);

@@ -1,12 +1,15 @@
 //! Small-scope search: sectors of 64 bytes, all histories up to equal images.
 //!   bfs SECTORS MAXSTATES [CONTENTS [one|two [deep]]]
 //! CONTENTS: digits that choose from the contents below. In every settled state
-//! every put, remove and sweep at every cut, and after it the mount, at every cut
-//! too (of puts by sampling). Demand 3 is checked on each.
-use model::SECTOR;
+//! every put, remove and sweep at every cut, between two steps and inside the next byte
+//! (every subset of up to four bits, else a sample), and after it the mount, at every
+//! cut too (of puts by sampling). Demand 3 is checked on each. Settled images that
+//! differ in dead bytes alone, but FF and marks, count as one state.
+use model::{byte, floor, mark, read_image, SECTOR};
 use std::collections::{HashSet, VecDeque};
 use std::hash::{DefaultHasher, Hash, Hasher};
 use testing::call::{Call, Model};
+use testing::cut::{self, Made};
 use testing::facts::Facts;
 use testing::ledger::World;
 use testing::{argument, rng::Rng, ALL};
@@ -24,15 +27,42 @@ struct Search {
     ways: Vec<(usize, String)>,
     facts: Facts,
     most: usize,
+    r: Rng,
     cuts: u64,
+    inside: u64,
     mount_cuts: u64,
 }
 
-fn key(w: &World) -> u64 {
+fn key(img: &[u8], w: &World) -> u64 {
     let mut h = DefaultHasher::new();
-    w.img.hash(&mut h);
+    img.hash(&mut h);
     w.ledger.files.hash(&mut h);
     h.finish()
+}
+
+/// In [from, to) every byte becomes 1, but FF and the two bytes of a mark.
+fn flatten(m: &mut [u8], img: &[u8], from: u64, to: u64) {
+    for a in from..to {
+        let pair = a - a % 8;
+        let marked = a < pair + 2 && pair + 1 < to && mark(img, pair);
+        if byte(img, a) != 0xFF && !marked {
+            m[a as usize] = 1;
+        }
+    }
+}
+
+/// A settled image with one value for dead bytes but FF and marks: a dead record's
+/// status, the letters of its name, its data, and the lost bytes before the head.
+fn plain(img: &[u8]) -> Vec<u8> {
+    let mut m = img.to_vec();
+    let Ok(c) = read_image(img) else { return m };
+    for x in c.records.iter().filter(|x| !x.live) {
+        m[x.at as usize + 2] = 0;
+        m[x.at as usize + 8..(x.at + 8 + x.name_len) as usize].fill(b'x');
+        flatten(&mut m, img, x.data_at, x.data_at + x.data_len);
+    }
+    flatten(&mut m, img, floor(c.head), c.head);
+    m
 }
 
 fn contents() -> Vec<Vec<u8>> {
@@ -43,6 +73,9 @@ fn contents() -> Vec<Vec<u8>> {
         vec![0x00, 0x5A, 0x00, 0xFF, 0, 0, 0, 0, 0x61, 0x00, 0xFF, 0xFF, 0xFF, 0xFF, 0xFF, 0xFF, 0xA0, 0x5A],
         vec![0xA5, 0x5A, 0x00, 0xFF, 0, 0, 0, 0, 0x61, 0x00, 0xA5, 0x5A, 0xFF, 0xFF, 0xFF, 0xFF, 0xA5, 0xFF, 0xFF],
         vec![0xA5, 0xFF, 0xFF, 0xFF, 0xFF, 0xFF, 0xFF, 0xFF, 0xFA, 0x5A, 0xF0, 0xFF],
+        vec![0x80, 0x5A, 0x00, 0xFF, 0, 0, 0, 0, 0x80, 0x5A],
+        vec![0xA4, 0x5A, 0xFC, 0xFF, 0x08, 0, 0, 0, 0x61, 0x00, 0xFF, 0xFF, 0xFF, 0xFF, 0xFF, 0xFF, 0xA1, 0x5A],
+        vec![0xA1, 0x5A, 0x7E, 0xFF, 0, 0, 0, 0, 0x00, 0x5A, 0xFC, 0xFF, 0x08, 0, 0, 0],
     ]
 }
 
@@ -65,41 +98,52 @@ impl Search {
 
     /// One call at every cut; each mounted image is a new state.
     fn every_cut(&mut self, s: &State, call: &Call) {
-        for k in 1..=call.need(&s.world.img) {
+        for k in 0..=call.need(&s.world.img) {
             let call = call.with_allowance(k);
-            let label = format!("{call:02x?}");
-            let mut w = s.world.clone();
-            if let Err(e) = w.step(&Model, &call) {
-                self.fail(s.way, &label, &e);
-            }
-            let here = key(&w);
-            if self.seen.contains(&here) {
-                continue;
-            }
-            self.cuts += 1;
-            let mounted = self.checked(&w, s.way, &label);
-            if w.img != mounted && (matches!(call, Call::Sweep(_)) || here % 16 == 0) {
-                self.every_mount_cut(&w, s.way, &label, &mounted);
-            }
-            let next = World { img: mounted, ledger: w.ledger };
-            if self.seen.len() < self.most && self.seen.insert(key(&next)) {
-                self.ways.push((s.way, label));
-                self.queue.push_back(State { world: next, way: self.ways.len() - 1 });
+            let inside = cut::next(&s.world.img, &call).map_or(vec![], |next| next.values(&mut self.r));
+            for held in [None].into_iter().chain(inside.into_iter().map(Some)) {
+                self.one_cut(s, &Made { call: call.clone(), held });
             }
         }
     }
 
-    /// A mount after a cut mount leaves the image that a whole one leaves.
-    fn every_mount_cut(&mut self, w: &World, way: usize, label: &str, mounted: &[u8]) {
-        for k in 1..Call::Mount(0).need(&w.img) {
-            let mut cut = w.clone();
-            let label = format!("{label}, mount cut at {k}");
-            if let Err(e) = cut.step(&Model, &Call::Mount(k)) {
-                self.fail(way, &label, &e);
-            }
-            self.mount_cuts += 1;
-            if self.checked(&cut, way, &label) != mounted {
-                self.fail(way, &label, "another final image");
+    fn one_cut(&mut self, s: &State, made: &Made) {
+        let label = format!("{made:02x?}");
+        let mut w = s.world.clone();
+        if let Err(e) = w.step(&Model, made) {
+            self.fail(s.way, &label, &e);
+        }
+        let here = key(&w.img, &w);
+        if self.seen.contains(&here) {
+            return;
+        }
+        self.cuts += 1;
+        self.inside += made.held.is_some() as u64;
+        let mounted = self.checked(&w, s.way, &label);
+        if w.img != mounted && (matches!(made.call, Call::Sweep(_)) || here % 16 == 0) {
+            self.every_mount_cut(&w, s.way, &label);
+        }
+        let next = World { img: mounted, ledger: w.ledger };
+        if self.seen.len() < self.most && self.seen.insert(key(&plain(&next.img), &next)) {
+            self.ways.push((s.way, label));
+            self.queue.push_back(State { world: next, way: self.ways.len() - 1 });
+        }
+    }
+
+    /// A mount after a cut mount keeps demand 3. (Since a byte may be cut inside, it need
+    /// not leave the bytes that a whole one leaves.)
+    fn every_mount_cut(&mut self, w: &World, way: usize, label: &str) {
+        for k in 0..Call::Mount(0).need(&w.img) {
+            let call = Call::Mount(k);
+            let inside = cut::next(&w.img, &call).and_then(|next| next.value(&mut self.r));
+            for held in [None].into_iter().chain(inside.map(Some)) {
+                let mut cut = w.clone();
+                let label = format!("{label}, mount cut at {k}, held {held:02x?}");
+                if let Err(e) = cut.step(&Model, &Made { call: call.clone(), held }) {
+                    self.fail(way, &label, &e);
+                }
+                self.mount_cuts += 1;
+                self.checked(&cut, way, &label);
             }
         }
     }
@@ -119,18 +163,19 @@ fn main() {
     }
     let first = State { world: World::new(n), way: 0 };
     let mut search = Search {
-        seen: HashSet::from([key(&first.world)]),
+        seen: HashSet::from([key(&plain(&first.world.img), &first.world)]),
         queue: VecDeque::from([first]),
         ways: vec![(0, "format".into())],
         facts: Facts::default(),
         most: argument(2, 100_000) as usize,
+        r: Rng::new(1),
         cuts: 0,
+        inside: 0,
         mount_cuts: 0,
     };
-    let mut r = Rng::new(1);
     let mut states = 0u64;
     while !search.queue.is_empty() {
-        let i = if deep { r.below(search.queue.len() as u64) as usize } else { 0 };
+        let i = if deep { search.r.below(search.queue.len() as u64) as usize } else { 0 };
         // breadth first takes the oldest; deep takes any
         let state = if deep { search.queue.swap_remove_back(i) } else { search.queue.pop_front() };
         let state = state.expect("the queue has one");
@@ -141,8 +186,8 @@ fn main() {
     }
     let whole = if search.seen.len() >= search.most { "stopped at the limit" } else { "whole" };
     println!(
-        "N {n}: {states} settled states ({whole}), {} cuts, {} cut mounts: no violation",
-        search.cuts, search.mount_cuts
+        "N {n}: {states} settled states ({whole}), {} cuts, {} of them inside a byte, {} cut mounts: no violation",
+        search.cuts, search.inside, search.mount_cuts
     );
     println!("facts broken (not demand 3): {:?}", search.facts.broken);
 }

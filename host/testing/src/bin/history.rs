@@ -2,7 +2,7 @@
 //!   history SEED CALLS [N|0] [exhaust]
 //! With KINDS in the environment, the table of the kinds of image seen.
 use testing::call::Model;
-use testing::history::{Seen, Tester};
+use testing::history::{Seen, Tester, LONGEST};
 use testing::maker::Maker;
 use testing::{argument, rng::Rng};
 
@@ -10,7 +10,8 @@ fn main() {
     let (seed, total, only) = (argument(1, 1), argument(2, 100_000), argument(3, 0) as usize);
     let exhaust = std::env::args().nth(4).is_some_and(|x| x == "exhaust");
     let mut r = Rng::new(seed);
-    let mut tester = Tester { store: &Model, exhaust: if exhaust { 6 } else { 0 }, seen: Seen::default() };
+    let exhaust = if exhaust { 60 } else { 0 };
+    let mut tester = Tester { store: &Model, exhaust, longest: LONGEST, seen: Seen::default() };
     let lengths = if only > 0 { vec![only] } else { vec![8192, 12288, 16384, 20480] };
     if let Err(v) = tester.until(&mut r, total, &lengths, Maker::rich) {
         print!("{}", v.show(&Model));
