@@ -48,6 +48,9 @@ impl Collection {
     /// This call on this image, unless there are enough of its kind.
     fn try_call(&mut self, img: &[u8], told: &Told, source: &'static str) {
         let call = &told.made.call;
+        // a format is no call of a history: it is told no byte
+        let whole = plain(call.clone());
+        let told = if let Call::Format(_) = call { &whole } else { told };
         let mut after = img.to_vec();
         let reply = told.run(&mut after);
         if call.need(img) > 2 * MOST_STEPS || reply.steps > MOST_STEPS {
