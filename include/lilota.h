@@ -49,7 +49,11 @@ extern "C" {
 #define LILOTA_UNSETTLED 16u
 /* No such file (get, remove), or no file with that index (list). */
 #define LILOTA_NO_FILE 2u
-/* No room for the file (put), or for the first move (sweep). */
+/*
+ * Put: no room for the file, then for one more copy of each file that begins in
+ * the head's sector, then for two of the largest size. Sweep: no room for the
+ * first move.
+ */
 #define LILOTA_NO_ROOM 28u
 /* The allowance was used up before the last step; the steps before are done. */
 #define LILOTA_CUT 4u
@@ -80,7 +84,8 @@ uint32_t lilota_mount(uint8_t *image, size_t length, size_t allowance,
  * Writes a whole file, in place of an older one of its name. One step is the
  * commit, and clears a single bit: cut before it the old file stands, after it
  * the new one does, inside it one of the two. Gives back the steps done.
- * Steps: from name_length + content_length + 10 to 15, no erase.
+ * Done, it has left room for sweeps, as said there.
+ * Steps: name_length + content_length + 10 to 15, no erase.
  * Answers: 22, 5, 6, 16, 28, 4, 0.
  */
 uint32_t lilota_put(uint8_t *image, size_t length,
@@ -117,6 +122,15 @@ uint32_t lilota_remove(uint8_t *image, size_t length,
  * Makes room: moves the head on by up to 5 records, copies the live ones to the
  * tail and erases what is left behind. Gives back the finished moves and the
  * steps done, if cut too.
+ *
+ * Where a whole format came first and only these calls wrote since, sweeps do
+ * not get stuck after a put that is done: with r records, of files or not, that
+ * then begin in the head's sector, r / 5 sweeps (rounded up, 52 at most) that
+ * run to their end, with nothing between them, each answer 0 and together make
+ * at least r moves, which is past all of these records. Nothing is promised of
+ * sweeps that are cut: what is left of their copies takes room, and cut often
+ * enough a sweep answers 28 until a file is removed.
+ *
  * Steps: at most 5 (length + length/8 + 8 + length/4,096).
  * Answers: 22, 5, 6, 16, 28, 4, 0.
  */

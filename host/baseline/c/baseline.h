@@ -1,7 +1,7 @@
 /*
- * Document 01, with K14 of document 02, as plain C, to measure the library
- * against: what a C programmer would write, with no heap. The calls have the
- * signatures of include/lilota.h.
+ * Document 01, with K14 and K6 of document 02, as plain C, to measure the
+ * library against: what a C programmer would write, with no heap. The calls
+ * have the signatures of include/lilota.h.
  */
 #ifndef BASELINE_H
 #define BASELINE_H

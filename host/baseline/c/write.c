@@ -46,29 +46,39 @@ uint32_t baseline_format(uint8_t *m, size_t n, size_t allowance, size_t *steps)
     return bl_answer(&f, steps);
 }
 
-/* The size of the largest live file of another name, or `size` if that is more. */
-static size_t largest(const Survey *s, const Content *content, size_t size)
+/* A further size fits; the place is then the one behind it. */
+static bool fits_next(Place *p, size_t size)
 {
-    Cursor c = bl_cursor(s->n, s->head);
-    Record r;
-    while (bl_next(s->m, s->n, &c, &r) == A_RECORD)
-        if (bl_is_file(&r) && r.size > size && !bl_same_name(s->m, &r, content->name, content->name_length))
-            size = r.size;
-    return size;
+    size_t at, marker;
+    return bl_fit(p, size, &at, &marker);
 }
 
-/* Room for the file, and for two more records of the largest size behind it. */
+/*
+ * Room for the file; then for the files that begin in the head's sector, this one too if it does, which sweeps will
+ * copy; then for two more of the largest size. The file that is replaced isn't counted.
+ */
 static bool has_room(const Survey *s, const Content *content, size_t *at, size_t *marker)
 {
     Place p = {s->head, s->tail, s->n, s->turned};
-    size_t size, most, other_at, other_marker;
+    Cursor c = bl_cursor(s->n, s->head);
+    Record r;
+    size_t size, largest, sector = floor_of(s->head);
     if (content->data_length > s->n)
         return false;
-    size = size_of(content->name_length, content->data_length);
+    size = largest = size_of(content->name_length, content->data_length);
     if (!bl_fit(&p, size, at, marker))
         return false;
-    most = largest(s, content, size);
-    return bl_fit(&p, most, &other_at, &other_marker) && bl_fit(&p, most, &other_at, &other_marker);
+    while (bl_next(s->m, s->n, &c, &r) == A_RECORD) {
+        if (!bl_is_file(&r) || bl_same_name(s->m, &r, content->name, content->name_length))
+            continue;
+        if (r.size > largest)
+            largest = r.size;
+        if (floor_of(r.at) == sector && !fits_next(&p, r.size))
+            return false;
+    }
+    if (floor_of(*at) == sector && !fits_next(&p, size))
+        return false;
+    return fits_next(&p, largest) && fits_next(&p, largest);
 }
 
 uint32_t baseline_put(uint8_t *m, size_t n, const uint8_t *name, size_t name_length, const uint8_t *data,

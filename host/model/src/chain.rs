@@ -56,6 +56,11 @@ pub struct Chain {
 }
 
 impl Chain {
+    /// Whether what begins at this address begins "in the head's sector".
+    pub fn in_head_sector(&self, at: u64) -> bool {
+        floor(at) == floor(self.head)
+    }
+
     pub fn place(&self, n: u64) -> Place {
         Place { head: self.head, tail: self.tail, turned: self.turned, length: n }
     }

@@ -1,5 +1,6 @@
 //! Wrong models, one error at a time, to show that the testers notice them: those of
-//! document 01's "Errors that look right", and K14's clauses, each left out or turned.
+//! document 01's "Errors that look right", K14's clauses, each left out or turned, and
+//! K6's room rule with a part left out.
 //! None is seeded by default.
 use std::cell::Cell;
 
@@ -57,6 +58,12 @@ pub enum Fault {
     MarkerOpenAtFfOnly,
     /// K14: dead statuses are 00 and E0 alone.
     OtherStatusRefused,
+    /// K6: 01's room rule, two of the largest alone.
+    RoomAsIn01,
+    /// K6: of the head's sector only the new record is counted.
+    OthersNotCounted,
+    /// K6: the new record is never counted in the head's sector.
+    NewNotCounted,
     /// K14: a cut reaches inside the program step behind an undone erase. No fault of a
     /// library: the other reading of "its next program step".
     CutPastErase,
@@ -64,7 +71,7 @@ pub enum Fault {
 
 impl Fault {
     /// The faults that a library can have.
-    pub const ALL: [Fault; 26] = [
+    pub const ALL: [Fault; 29] = [
         Fault::NotCleaned,
         Fault::CleanedLate,
         Fault::StartBeforeErase,
@@ -91,6 +98,9 @@ impl Fault {
         Fault::TornByte8Judged,
         Fault::MarkerOpenAtFfOnly,
         Fault::OtherStatusRefused,
+        Fault::RoomAsIn01,
+        Fault::OthersNotCounted,
+        Fault::NewNotCounted,
     ];
 }
 
@@ -103,14 +113,13 @@ pub fn seeded(fault: Fault) -> bool {
 
 /// Run `f` with this fault seeded in this thread.
 pub fn with<T>(fault: Fault, f: impl FnOnce() -> T) -> T {
-    /// Takes the fault out again, also if `f` panics.
-    struct Restore;
+    /// Puts back what was seeded before, also if `f` panics.
+    struct Restore(Option<Fault>);
     impl Drop for Restore {
         fn drop(&mut self) {
-            SEEDED.with(|s| s.set(None));
+            SEEDED.with(|s| s.set(self.0));
         }
     }
-    SEEDED.with(|s| s.set(Some(fault)));
-    let _restore = Restore;
+    let _restore = Restore(SEEDED.with(|s| s.replace(Some(fault))));
     f()
 }

@@ -1,8 +1,8 @@
-//! Document 01 with request K14 of document 02, read literally, as a program: what
-//! each call answers and leaves.
+//! Document 01 with requests K14 and K6 of document 02, read literally, as a program:
+//! what each call answers and leaves.
 //!
-//! One module for each section of 01; quoted text is the documents' own, K14's where
-//! it is named.
+//! One module for each section of 01; quoted text is the documents' own, a request's
+//! where it is named.
 //! Where the document leaves a choice, the number of the entry in docs/DECISIONS.md
 //! stands in brackets, as in (decision 6).
 //!
@@ -31,6 +31,6 @@ pub use chain::{read_chain, Chain, Record};
 pub use flash::{carry_out, cut_inside, Step};
 pub use geometry::*;
 pub use head::{find_head, walk};
-pub use place::{put_room, Place, Placed};
+pub use place::{put_room, sizes_behind, Place, Placed};
 pub use plan::{planned, Ask, Plan};
 pub use rules::{read_image, settled};

@@ -1,5 +1,5 @@
 //! "Placing": whether and where a size fits, and the room that a put is given.
-use crate::chain::Chain;
+use crate::chain::{Chain, Record};
 use crate::faults::{self, Fault};
 use crate::geometry::*;
 
@@ -35,16 +35,31 @@ impl Place {
         let marker = (self.tail < self.length).then_some(self.tail);
         Some(Placed { at: 0, marker, next: Place { tail: s, turned: true, ..self } })
     }
+
+    /// Whether these sizes fit "one after another".
+    pub fn fit_all(self, sizes: &[u64]) -> bool {
+        sizes.iter().try_fold(self, |place, &s| Some(place.fit(s)?.next)).is_some()
+    }
 }
 
-/// "Put is given room exactly if s fits and, after that, two more records of the
-/// largest size among the live files (the new one in, the replaced one out) fit
-/// one after the other." (decision 24)
+/// K6: "New rule for put: the new record fits; then all live records that begin in the
+/// head's sector (the replaced one out, the new one in if it begins there) fit one after
+/// another in chain order; then two of the largest."
 pub fn put_room(img: &[u8], c: &Chain, name: &[u8], data_len: u64) -> Option<Placed> {
     let s = size_of(name.len() as u64, data_len);
     let placed = c.place(img.len() as u64).fit(s)?;
-    let others = c.live().filter(|r| r.name(img) != name).map(|r| r.size);
-    let largest = others.fold(s, u64::max);
-    placed.next.fit(largest)?.next.fit(largest)?;
-    Some(placed)
+    placed.next.fit_all(&sizes_behind(img, c, name, s, placed.at)).then_some(placed)
+}
+
+/// The sizes that have to fit behind a new record of this name and size at this address.
+/// It is the chain's last (decision 54). "the largest size among the live files (the new
+/// one in, the replaced one out)" is 01's (decision 24).
+pub fn sizes_behind(img: &[u8], c: &Chain, name: &[u8], s: u64, at: u64) -> Vec<u64> {
+    let [as_in_01, no_others, no_new] =
+        [Fault::RoomAsIn01, Fault::OthersNotCounted, Fault::NewNotCounted].map(faults::seeded);
+    let others: Vec<&Record> = c.live().filter(|r| r.name(img) != name).collect();
+    let largest = others.iter().map(|r| r.size).fold(s, u64::max);
+    let standing = others.iter().filter(|r| c.in_head_sector(r.at) && !as_in_01 && !no_others).map(|r| r.size);
+    let joining = (c.in_head_sector(at) && !as_in_01 && !no_new).then_some(s);
+    standing.chain(joining).chain([largest, largest]).collect()
 }

@@ -9,7 +9,7 @@ use crate::head::find_head;
 pub fn marks_legal(c: &Chain) -> bool {
     let mut later = c.records.iter().skip(1);
     let second = later.next().filter(|r| r.marked());
-    let second_legal = second.is_none_or(|r| !c.records[0].live && (r.magic == CLEAN || floor(r.at) == floor(c.head)));
+    let second_legal = second.is_none_or(|r| !c.records[0].live && (r.magic == CLEAN || c.in_head_sector(r.at)));
     second_legal && !later.any(Record::marked)
 }
 

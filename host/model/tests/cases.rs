@@ -203,13 +203,14 @@ fn replacing() {
 
 #[test]
 fn room_of_the_first_put() {
-    // 16 + 3 * (8 + 8 + 2704) = 8176; with 2705 bytes it would be 8200
+    // K6: "01's 2,704 and 2,705 become 2,024 and 2,025". The new record begins in the head's
+    // sector and is counted again: 16 + 4 * (8 + 8 + 2024) = 8176; with 2025 bytes it would be 8208
     let mut img = fresh();
-    let steps = 4 + 2704 + 10;
-    assert_eq!(put(&mut img, b"dose", &[7; 2704], ALL), Reply { steps, ..Reply::default() });
-    mounts(&mut img, 0, 2736, 1, 0);
+    let steps = 4 + 2024 + 10;
+    assert_eq!(put(&mut img, b"dose", &[7; 2024], ALL), Reply { steps, ..Reply::default() });
+    mounts(&mut img, 0, 2056, 1, 0);
     let mut img = fresh();
-    assert_eq!(put(&mut img, b"dose", &[7; 2705], ALL), Reply::refusal(28));
+    assert_eq!(put(&mut img, b"dose", &[7; 2025], ALL), Reply::refusal(28));
     assert_eq!(img, image(&[&FIRST]));
 }
 

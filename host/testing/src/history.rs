@@ -4,6 +4,7 @@ use crate::cut::{self, Made};
 use crate::facts::Facts;
 use crate::ledger::{replay, shrink, World};
 use crate::maker::Maker;
+use crate::progress::Progress;
 use crate::rng::Rng;
 use crate::tags;
 use model::{blank, floor, read_image, SECTOR};
@@ -50,6 +51,8 @@ pub struct Seen {
     /// images by the bytes that such a cut leaves (testing::tags)
     pub bytes: BTreeMap<&'static str, u64>,
     pub facts: Facts,
+    /// puts, each followed by its sweeps
+    pub progress: Progress,
 }
 
 impl Seen {
@@ -70,6 +73,9 @@ pub struct Tester<'s, S: Store> {
     pub exhaust: u64,
     /// a history has 20 calls at least, and fewer than this
     pub longest: u64,
+    /// one of so many calls is followed by a mount, list and get: each, unless many files
+    /// would make that slow
+    pub one_of: u64,
     pub seen: Seen,
 }
 
@@ -113,10 +119,11 @@ impl<S: Store> Tester<'_, S> {
     /// One call and the check after it.
     fn step(&mut self, w: &mut World, calls: &mut Vec<Made>, made: Made) -> Result<(), Violation> {
         let kind = made.call.kind();
-        let checked = w.step(self.store, &made).and_then(|(reply, inside)| {
+        let due = self.seen.checked % self.one_of == 0;
+        let checked = w.step_with_sweeps(self.store, &made, &mut self.seen.progress).and_then(|(reply, inside)| {
             *self.seen.answers.entry(format!("{kind} {}", reply.answer)).or_default() += 1;
             *self.seen.inside.entry(kind).or_default() += inside as u64;
-            w.check(self.store)
+            due.then(|| w.check(self.store)).transpose()
         });
         calls.push(made);
         self.seen.look(&w.img);

@@ -2,6 +2,7 @@
 use crate::bounds;
 use crate::call::{Call, Store};
 use crate::cut::{self, Made};
+use crate::progress::Progress;
 use crate::ALL;
 use model::*;
 use std::collections::BTreeSet;
@@ -113,6 +114,18 @@ impl World {
         Ok((reply, holds != found))
     }
 
+    /// `step`, and after a put its sweeps, on a copy.
+    pub fn step_with_sweeps(
+        &mut self,
+        store: &impl Store,
+        made: &Made,
+        progress: &mut Progress,
+    ) -> Result<(Reply, bool), String> {
+        let (reply, inside) = self.step(store, made)?;
+        progress.look(store, &made.call, &reply, &self.img)?;
+        Ok((reply, inside))
+    }
+
     /// "each program step in it .. stands in one of the step lists above": the call has
     /// done so many steps, and left the image that these make of the one it got.
     fn listed_steps(&self, mut before: Vec<u8>, done: &[Step], reply: &Reply) -> Result<(), String> {
@@ -191,7 +204,7 @@ impl World {
 pub fn replay(store: &impl Store, n: usize, calls: &[Made]) -> Option<String> {
     let mut w = World::new(n);
     calls.iter().enumerate().find_map(|(i, made)| {
-        let violation = w.step(store, made).and_then(|_| w.check(store)).err()?;
+        let violation = w.step_with_sweeps(store, made, &mut Progress::default()).and_then(|_| w.check(store)).err()?;
         Some(format!("call {i}: {violation}"))
     })
 }

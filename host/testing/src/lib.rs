@@ -1,5 +1,6 @@
 //! What all testers share: random numbers, calls and images, the ledger of
-//! document 01 and the check of demand 3, the facts expected of histories.
+//! document 01 and the check of demand 3, K6's promise, the facts expected of
+//! histories.
 
 pub mod aimed;
 pub mod bounds;
@@ -14,7 +15,9 @@ pub mod images;
 pub mod ledger;
 pub mod maker;
 pub mod odd;
+pub mod progress;
 pub mod rng;
+pub mod stuck;
 pub mod tags;
 pub mod worst;
 

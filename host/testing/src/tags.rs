@@ -1,5 +1,6 @@
 //! What a call on an image shows, so that a tester can tell what it covered.
 use crate::call::Call;
+use model::faults::{self, Fault};
 use model::*;
 
 fn add(t: &mut Vec<&'static str>, found: &[(&'static str, bool)]) {
@@ -117,25 +118,51 @@ fn of_put(img: &[u8], name: &[u8], data: &[u8], t: &mut Vec<&'static str>) {
         None => {}
     }
     let s = size_of(name.len() as u64, d);
-    let largest = c.live().filter(|r| r.name(img) != name).map(|r| r.size).fold(s, u64::max);
-    let every = c.live().map(|r| r.size).fold(s, u64::max);
-    let fits_every = c.place(n).fit(s).and_then(|p| p.next.fit(every)?.next.fit(every)).is_some();
-    if put_room(img, &c, name, d).is_some() && !fits_every {
-        t.push("room, the replaced one out");
-    }
     let room = |d| put_room(img, &c, name, d);
     let found = [
         ("put with marker", room(d).is_some_and(|p| p.marker.is_some())),
         ("put ends at N", room(d).is_some_and(|p| p.at + s == n)),
         ("put fills its room", room(d).is_some() && room(d + 1).is_none()),
         ("put one byte too long", room(d).is_none() && d > 0 && room(d - 1).is_some()),
-        (
-            "room for one more, not two",
-            room(d).is_none() && c.place(n).fit(s).and_then(|p| p.next.fit(largest)).is_some(),
-        ),
     ];
     add(t, &found);
+    t.extend(of_room(img, &c, name, d));
 }
+
+/// Which part of the room rule decides about a file of so many bytes.
+pub fn of_room(img: &[u8], c: &Chain, name: &[u8], d: u64) -> Vec<&'static str> {
+    let s = size_of(name.len() as u64, d);
+    let Some(placed) = c.place(img.len() as u64).fit(s) else { return vec![] };
+    let sizes = sizes_behind(img, c, name, s, placed.at);
+    let fit = |sizes: &[u64]| placed.next.fit_all(sizes);
+    let room = fit(&sizes);
+    let without = |fault| faults::with(fault, || put_room(img, c, name, d).is_some());
+    let (there, most) = sizes.split_at(sizes.len() - 2);
+    let replaced = c.find_live(img, name);
+    let as_largest = replaced.map(|x| [there, &[x.size.max(most[0]); 2]].concat());
+    let joining = c.in_head_sector(placed.at).then_some(s);
+    let with_replaced: Vec<u64> =
+        c.live().filter(|x| c.in_head_sector(x.at)).map(|x| x.size).chain(joining).chain([most[0]; 2]).collect();
+    let found = [
+        !room && fit(&sizes[..sizes.len() - 1]),
+        room && as_largest.is_some_and(|sizes| !fit(&sizes)),
+        room && !fit(&with_replaced),
+        !room && without(Fault::RoomAsIn01),
+        !room && without(Fault::OthersNotCounted),
+        !room && without(Fault::NewNotCounted),
+    ];
+    ROOM_TAGS.into_iter().zip(found).filter(|t| t.1).map(|t| t.0).collect()
+}
+
+/// The tags of `of_room`, in its order.
+pub const ROOM_TAGS: [&str; 6] = [
+    "room for one more, not two",
+    "room, the replaced one out",
+    "room, the replaced one out of the head's sector",
+    "no room, but by 01's rule",
+    "no room, but without the others there",
+    "no room, but without the new one there",
+];
 
 pub fn of(img: &[u8], call: &Call, reply: &Reply, after: &[u8]) -> Vec<&'static str> {
     let mut t = Vec::new();

@@ -4,7 +4,7 @@ use model::faults::Fault;
 use model::Reply;
 use testing::call::{Call, Model, Store, Wrong, ANSWERS};
 use testing::compare::{Comparison, Tally};
-use testing::tags::BYTE_TAGS;
+use testing::tags::{BYTE_TAGS, ROOM_TAGS};
 
 fn compared(store: &impl Store, images: u64) -> Tally {
     let mut comparison = Comparison::new(store);
@@ -13,7 +13,7 @@ fn compared(store: &impl Store, images: u64) -> Tally {
 }
 
 /// Places that random images come to seldom (testing::tags).
-const PLACES: [&str; 22] = [
+const PLACES: [&str; 21] = [
     "T = N",
     "T = 0 after the turn",
     "T = floor(h)",
@@ -33,7 +33,6 @@ const PLACES: [&str; 22] = [
     "put fills its room",
     "put one byte too long",
     "put replaces F8",
-    "room, the replaced one out",
     "sweep erases several",
     "sweep erases to N",
 ];
@@ -47,7 +46,7 @@ fn the_model_equals_itself() {
             assert!(tally.answered(kind, answer) >= 20, "{kind} {answer}\n{}", tally.report());
         }
     }
-    for place in PLACES.into_iter().chain(BYTE_TAGS) {
+    for place in PLACES.into_iter().chain(BYTE_TAGS).chain(ROOM_TAGS) {
         assert!(tally.tagged(place) >= 10, "{place}\n{}", tally.report());
     }
 }

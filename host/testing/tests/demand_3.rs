@@ -9,25 +9,25 @@ use testing::maker::{Contents, Lengths, Maker};
 use testing::rng::Rng;
 use testing::tags::BYTE_TAGS;
 
-/// Histories up to this many checked calls; what was seen, and the first violation.
-fn histories(calls: u64, exhaust: u64, longest: u64, maker: fn(&mut Rng) -> Maker) -> (Seen, Option<String>) {
-    let mut r = Rng::new(8);
-    let mut tester = Tester { store: &Model, exhaust, longest, seen: Seen::default() };
-    let violation = tester.until(&mut r, calls, &[8192, 8192, 12288, 16384, 20480], maker).err();
-    (tester.seen, violation.map(|v| v.what))
+const LENGTHS: [usize; 5] = [8192, 8192, 12288, 16384, 20480];
+
+/// Histories up to this many checked calls, and their first violation.
+fn histories(calls: u64, longest: u64, maker: fn(&mut Rng) -> Maker) -> Option<String> {
+    let mut tester = Tester { store: &Model, exhaust: 0, longest, one_of: 1, seen: Seen::default() };
+    tester.until(&mut Rng::new(8), calls, &LENGTHS, maker).err().map(|v| v.what)
 }
 
 fn any_maker(r: &mut Rng) -> Maker {
-    if r.chance(50) {
-        Maker::full_sectors(r)
-    } else {
-        Maker::rich(r)
+    match r.below(4) {
+        0 => Maker::full_sectors(r),
+        1 => Maker::cut_sweeps(r),
+        _ => Maker::rich(r),
     }
 }
 
 /// Old data full of false records.
 fn record_marks(r: &mut Rng) -> Maker {
-    Maker { contents: Contents::RecordMarks, ..Maker::full_sectors(r) }
+    Maker { contents: Contents::RecordMarks, ..Maker::cut_sweeps(r) }
 }
 
 /// The longest names, whose end is the last byte of their 64, and many cuts.
@@ -69,8 +69,17 @@ fn histories_for(fault: Fault) -> (fn(&mut Rng) -> Maker, u64) {
 /// with cuts; and that these histories come to the places that matter.
 #[test]
 fn histories_keep_demand_3() {
-    let (seen, violation) = histories(100_000, 5, LONGEST, mixed);
-    assert_eq!(violation, None);
+    let mut r = Rng::new(8);
+    let mut tester = Tester { store: &Model, exhaust: 5, longest: LONGEST, one_of: 1, seen: Seen::default() };
+    let mut run = |tester: &mut Tester<Model>, calls, maker: fn(&mut Rng) -> Maker| {
+        let violation = tester.until(&mut r, calls, &LENGTHS, maker).err();
+        assert_eq!(violation.map(|v| v.what), None);
+    };
+    run(&mut tester, 85_000, mixed);
+    // a store is full only after many of these calls
+    tester.exhaust = 0;
+    run(&mut tester, 100_000, Maker::cut_sweeps);
+    let seen = tester.seen;
     assert_eq!(seen.facts.broken.len(), 0, "{:?}", seen.facts.broken);
     for answer in ["put 0", "put 4", "put 28", "put 22", "sweep 0", "sweep 4", "mount 0", "mount 4", "remove 0"] {
         assert!(seen.answers.contains_key(answer), "no {answer}");
@@ -84,6 +93,7 @@ fn histories_keep_demand_3() {
         assert!(seen.inside[kind] > 0, "no {kind} cut inside a byte");
     }
     assert_eq!(seen.bytes.len(), BYTE_TAGS.len(), "{:?}", seen.bytes);
+    assert!(seen.progress.puts >= 1_000 && seen.progress.refused > 0);
 }
 
 /// The count that the ledger goes by is the commit's place in the step list.
@@ -113,7 +123,7 @@ fn commit_places() {
 fn faults_are_noticed() {
     for fault in Fault::ALL.into_iter().chain([Fault::CutPastErase]) {
         let (maker, longest) = histories_for(fault);
-        let run = || faults::with(fault, || histories(400_000, 0, longest, maker).1);
+        let run = || faults::with(fault, || histories(400_000, longest, maker));
         let unnoticed = matches!(catch_unwind(AssertUnwindSafe(run)), Ok(None));
         assert!(!unnoticed, "{fault:?} is not noticed");
     }

@@ -1,8 +1,9 @@
 //! Which runs of the model become vectors.
-use crate::emit::{equation, place_equation, Vector};
+use crate::emit::{equation, Vector};
 use crate::held::{plain, told, Told};
 use crate::histories;
-use crate::required::REQUIRED;
+use crate::required::{REQUIRED, SOURCES};
+use crate::rooms::{self, ROOM_STATES};
 use model::*;
 use std::collections::BTreeMap;
 use std::fmt::Write as _;
@@ -11,11 +12,9 @@ use testing::call::{Call, ANSWERS};
 use testing::images::{built, damage, of_history};
 use testing::maker::{Contents, Lengths, Maker};
 use testing::rng::Rng;
-use testing::tags::BYTE_TAGS;
+use testing::tags::{BYTE_TAGS, ROOM_TAGS};
 use testing::{tags, ALL};
 
-const SOURCES: [&str; 9] =
-    ["history", "whole history", "built", "damaged", "dirty", "tight", "reserved byte", "behind torn", "bad length"];
 /// How many vectors each of these needs at least.
 pub const EACH: u64 = 3;
 /// Below this many vectors a tag is rare.
@@ -90,7 +89,7 @@ impl Collection {
     /// What has too few vectors.
     pub fn missing(&self) -> Vec<String> {
         let answers = ANSWERS.iter().flat_map(|(kind, all)| all.iter().map(move |a| format!("{kind} {a}")));
-        let tags = REQUIRED.iter().chain(&BYTE_TAGS).map(|t| format!("tag {t}"));
+        let tags = REQUIRED.iter().chain(&BYTE_TAGS).chain(&ROOM_TAGS).chain(&ROOM_STATES).map(|t| format!("tag {t}"));
         let sources = SOURCES.iter().map(|s| format!("source {s}"));
         answers.chain(tags).chain(sources).filter(|w| self.count(w) < EACH).collect()
     }
@@ -226,25 +225,6 @@ fn from_other(r: &mut Rng, c: &mut Collection) {
     repairs(r, c, &img, source);
 }
 
-/// The place functions by themselves: a reading never gives some places, as T = N
-/// before the turn with floor(h) > 0, that the room rule passes through.
-fn places(r: &mut Rng, c: &mut Collection) {
-    for _ in 0..60 {
-        let length = r.of(&[8192, 12288]);
-        let head = r.below(length / 8) * 8;
-        let turned = r.chance(40) && floor(head) > 0;
-        let end = if turned { floor(head) } else { length };
-        let tail = if r.chance(30) { end } else { r.below(end / 8) * 8 };
-        let size = r.of(&[16, 24, end - tail, end - tail + 8, floor(head), floor(head) + 8]).max(16);
-        let mut tags = vec![if turned { "place, turned" } else { "place, not turned" }];
-        if !turned && tail == length {
-            tags.push("place, T = N before the turn");
-        }
-        let text = place_equation(Place { head, tail, turned, length }, size);
-        c.add(Vector { function: "check-place", text, kind: "place", answer: 0, tags, source: "built" });
-    }
-}
-
 /// Makes a legal image break one rule; false if it can't.
 type Break = fn(&mut Rng, &mut [u8]) -> bool;
 
@@ -296,7 +276,8 @@ pub fn collect() -> Collection {
         }
     }
     broken(&mut c);
-    places(&mut r, &mut c);
+    rooms::places(&mut r, &mut c);
+    rooms::add(&mut r, &mut c);
     histories::add(&mut r, &mut c, HISTORIES);
     c
 }

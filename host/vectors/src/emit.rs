@@ -1,5 +1,5 @@
 //! Vectors as antt text.
-use model::{Place, Reply};
+use model::{put_room, Chain, Place, Record, Reply};
 use std::fmt::Write as _;
 use testing::call::Call;
 
@@ -119,6 +119,14 @@ pub fn place_equation(p: Place, size: u64) -> String {
     }
 }
 
+/// Whether the room rule takes a file of this name and so many bytes.
+pub fn room_equation(img: &[u8], c: &Chain, name: &[u8], d: u64) -> String {
+    let entry = |x: &Record| format!("entry {} {} {} {} ∷ ", x.at, x.status, bytes(x.name(img)), x.data_len);
+    let entries: String = c.records.iter().map(entry).collect();
+    let taken = put_room(img, c, name, d).is_some();
+    format!("check-room {} {} {} {} ({entries}[]) {} {d} {taken}", c.head, c.tail, c.turned, img.len(), bytes(name))
+}
+
 /// A file of vectors, named v followed by their numbers.
 pub fn file(vectors: &[(usize, &Vector)]) -> String {
     let mut s = String::from(
@@ -126,7 +134,8 @@ pub fn file(vectors: &[(usize, &Vector)]) -> String {
          use mathlib.Core.Bool.{Bool, true, false}\n\
          use mathlib.Core.List.{List, [], _∷_}\n\
          use Rattle.spec.specs.History.{Request, put, remove, sweep, mount, get, list}\n\
-         use Rattle.spec.specs.Run.{fill, lit, build, call, file, check, check-format, check-part, check-place, check-history}\n",
+         use Rattle.spec.specs.Run.{fill, lit, build, call, file, entry}\n\
+         use Rattle.spec.specs.Run.{check, check-format, check-part, check-place, check-room, check-history}\n",
     );
     for (i, v) in vectors {
         write!(s, "\nv{i} : {} ≡ true\nunfolding {}\nv{i} = refl\n", v.text, v.function).unwrap();

@@ -2,6 +2,7 @@
 use crate::computed::{check_edited, shared, Edit};
 use crate::emit::Vector;
 use crate::inside_faults::INSIDE_FAULTS;
+use crate::room_faults::ROOM_FAULTS;
 use std::path::Path;
 
 pub struct Fault {
@@ -146,20 +147,6 @@ const FAULTS: &[Fault] = &[
         "min 6 (length (r .entries))",
     ),
     fault(
-        "room for one more record is enough",
-        &["room for one more, not two"],
-        "Place.antt",
-        "(s ∷ l ∷ l ∷ [])",
-        "(s ∷ l ∷ [])",
-    ),
-    fault(
-        "the replaced file counts for the largest size",
-        &["room, the replaced one out"],
-        "Place.antt",
-        "largest s (keep (other-name name) (files es))",
-        "largest s (files es)",
-    ),
-    fault(
         "the tail may enter the head's sector",
         &["place", "put 28", "sweep 28"],
         "Reading.antt",
@@ -234,8 +221,12 @@ fn aimed<'v>(vectors: &'v [Vector], aim: &[&str]) -> Vec<(usize, &'v Vector)> {
 
 /// The table of the faults; false if one is not noticed or its edit doesn't apply.
 pub fn run(spec: &Path, vectors: &[Vector], jobs: usize, only: Option<&str>) -> Result<bool, String> {
-    let faults: Vec<&Fault> =
-        FAULTS.iter().chain(INSIDE_FAULTS).filter(|f| only.is_none_or(|what| f.what == what)).collect();
+    let faults: Vec<&Fault> = FAULTS
+        .iter()
+        .chain(INSIDE_FAULTS)
+        .chain(ROOM_FAULTS)
+        .filter(|f| only.is_none_or(|what| f.what == what))
+        .collect();
     let results = shared(&faults, jobs, |job, fault| {
         let chosen = aimed(vectors, fault.aim);
         let verdict = match check_edited(spec, &[fault.edit], &chosen, job) {

@@ -14,6 +14,7 @@ use Rattle.spec.specs.Answers.{Numbers, Outcome, format, part-of}
 use Rattle.spec.specs.History.{Request, put, remove, sweep, mount, get, list, Call, outcome, replay, steps-done, steps-of, File, Ledger, ledger}
 use Rattle.spec.specs.Step.{Step, program, erase, apply}
 use Rattle.spec.specs.declared.Place.{Place}
+use Rattle.spec.specs.Record.{Rec, Entry, size-of}
 ";
 
 const BODY: &str = "
@@ -80,6 +81,15 @@ unfolding NAMES
 check-place h t turned n s fit at marker tail turned-after =
     let p = place h t turned n in
     elim (Place.fits p s) [ true ↦ fit && place-right p s at marker tail turned-after | false ↦ not fit ]
+
+-- a record of a chain, with d data bytes
+abbrev pub entry : ℕ → ℕ → List ℕ → ℕ → Entry
+entry a st name d = record { at = a; it = record { low = 0; status = st; name = name; content = filled d 7 [] } }
+
+-- whether the room rule takes a file of d data bytes behind these records
+unfoldable pub check-room : ℕ → ℕ → Bool → ℕ → List Entry → List ℕ → ℕ → Bool → Bool
+unfolding NAMES
+check-room h t turned n es name d taken = agree (Place.room (place h t turned n) name (size-of (length name) d) es) taken
 
 -- demand 3's clauses as tests
 bits-ok : List ℕ → List Step → Bool

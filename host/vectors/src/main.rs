@@ -13,6 +13,8 @@ mod helper;
 mod histories;
 mod inside_faults;
 mod required;
+mod room_faults;
+mod rooms;
 
 use collect::Collection;
 use emit::Vector;

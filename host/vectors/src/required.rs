@@ -1,7 +1,8 @@
 //! What the vectors must cover (testing::tags).
 
-/// Tags that must have vectors, besides those of testing::tags::BYTE_TAGS.
-pub const REQUIRED: [&str; 52] = [
+/// Tags that must have vectors, besides BYTE_TAGS and ROOM_TAGS of testing::tags and those
+/// of rooms.rs.
+pub const REQUIRED: [&str; 50] = [
     "N 8192",
     "N 12288",
     "bad length",
@@ -37,8 +38,6 @@ pub const REQUIRED: [&str; 52] = [
     "put replaces FC",
     "put replaces F8",
     "put with marker",
-    "room for one more, not two",
-    "room, the replaced one out",
     "wear record",
     "reserved after the turn",
     "allowance is the need",
@@ -54,4 +53,18 @@ pub const REQUIRED: [&str; 52] = [
     "history: put done inside its commit",
     "history: remove cut inside",
     "history: remove inside at F8",
+];
+
+/// Sources that must have vectors.
+pub const SOURCES: [&str; 10] = [
+    "history",
+    "whole history",
+    "built",
+    "damaged",
+    "dirty",
+    "tight",
+    "reserved byte",
+    "behind torn",
+    "bad length",
+    "room",
 ];

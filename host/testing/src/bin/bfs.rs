@@ -3,8 +3,9 @@
 //! CONTENTS: digits that choose from the contents below. In every settled state
 //! every put, remove and sweep at every cut, between two steps and inside the next byte
 //! (every subset of up to four bits, else a sample), and after it the mount, at every
-//! cut too (of puts by sampling). Demand 3 is checked on each. Settled images that
-//! differ in dead bytes alone, but FF and marks, count as one state.
+//! cut too (of puts by sampling). Demand 3 is checked on each, and K6's promise after
+//! each put. Settled images that differ in dead bytes alone, but FF and marks, count as
+//! one state.
 use model::{byte, floor, mark, read_image, SECTOR};
 use std::collections::{HashSet, VecDeque};
 use std::hash::{DefaultHasher, Hash, Hasher};
@@ -12,6 +13,7 @@ use testing::call::{Call, Model};
 use testing::cut::{self, Made};
 use testing::facts::Facts;
 use testing::ledger::World;
+use testing::progress::Progress;
 use testing::{argument, rng::Rng, ALL};
 
 /// A settled state and the way to it.
@@ -26,6 +28,7 @@ struct Search {
     /// the calls that led to each state: the one before it, and the last call
     ways: Vec<(usize, String)>,
     facts: Facts,
+    progress: Progress,
     most: usize,
     r: Rng,
     cuts: u64,
@@ -110,7 +113,7 @@ impl Search {
     fn one_cut(&mut self, s: &State, made: &Made) {
         let label = format!("{made:02x?}");
         let mut w = s.world.clone();
-        if let Err(e) = w.step(&Model, made) {
+        if let Err(e) = w.step_with_sweeps(&Model, made, &mut self.progress) {
             self.fail(s.way, &label, &e);
         }
         let here = key(&w.img, &w);
@@ -167,6 +170,7 @@ fn main() {
         queue: VecDeque::from([first]),
         ways: vec![(0, "format".into())],
         facts: Facts::default(),
+        progress: Progress::default(),
         most: argument(2, 100_000) as usize,
         r: Rng::new(1),
         cuts: 0,
@@ -189,5 +193,6 @@ fn main() {
         "N {n}: {states} settled states ({whole}), {} cuts, {} of them inside a byte, {} cut mounts: no violation",
         search.cuts, search.inside, search.mount_cuts
     );
+    println!("{}", search.progress);
     println!("facts broken (not demand 3): {:?}", search.facts.broken);
 }

@@ -1,4 +1,4 @@
-//! Random histories of the model against the ledger.
+//! Random histories of the model against the ledger, with the sweeps after each put.
 //!   history SEED CALLS [N|0] [exhaust]
 //! With KINDS in the environment, the table of the kinds of image seen.
 use testing::call::Model;
@@ -11,7 +11,7 @@ fn main() {
     let exhaust = std::env::args().nth(4).is_some_and(|x| x == "exhaust");
     let mut r = Rng::new(seed);
     let exhaust = if exhaust { 60 } else { 0 };
-    let mut tester = Tester { store: &Model, exhaust, longest: LONGEST, seen: Seen::default() };
+    let mut tester = Tester { store: &Model, exhaust, longest: LONGEST, one_of: 1, seen: Seen::default() };
     let lengths = if only > 0 { vec![only] } else { vec![8192, 12288, 16384, 20480] };
     if let Err(v) = tester.until(&mut r, total, &lengths, Maker::rich) {
         print!("{}", v.show(&Model));
@@ -22,6 +22,7 @@ fn main() {
     println!("answers: {:?}", seen.answers);
     println!("calls cut inside a byte: {:?}", seen.inside);
     println!("images by the bytes that such cuts leave: {:?}", seen.bytes);
+    println!("{}", seen.progress);
     println!("most live F8 at once: {}", seen.facts.most_f8);
     println!("facts broken (not demand 3): {:?}", seen.facts.broken);
     println!("{} kinds of image seen", seen.facts.kinds.len());

@@ -10,6 +10,7 @@ use crate::cut::{self, Made};
 use crate::rng::Rng;
 use model::Reply;
 pub use tally::Tally;
+pub use writing::name_for;
 
 /// A run is given up when so many calls differ.
 const ENOUGH: u64 = 20;
