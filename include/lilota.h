@@ -13,6 +13,8 @@
  * Flash steps. To program one byte or to erase one sector of 4,096 bytes is a
  * step. A writing call takes an allowance, the most steps that it may do, and
  * gives back the steps that it did. SIZE_MAX allows all that a call needs.
+ * The comment of each call says how many steps that can be, divisions rounded
+ * down; docs/WATCHDOG.md has the cases and the times.
  *
  * Power cuts. A cut after k steps leaves what the same call with allowance k
  * leaves. If the next step programs a byte, the cut may also fall inside it:
@@ -60,6 +62,7 @@ extern "C" {
 
 /*
  * Erases all and leaves an empty store. Gives back the steps done.
+ * Steps: length/4,096 + 8, of which 8 program a byte.
  * Answers: 22, 4, 0.
  */
 uint32_t lilota_format(uint8_t *image, size_t length, size_t allowance,
@@ -70,6 +73,7 @@ uint32_t lilota_format(uint8_t *image, size_t length, size_t allowance,
  * other calls take the image. Done, it gives back the head's and the tail's
  * address, the number of files and the steps done; cut, the steps alone: then
  * mount again. An image with nothing to repair is done in 0 steps.
+ * Steps: at most length/8 + length/4,096 + 8 after any cuts (see above).
  * Answers: 22, 5, 6, 4, 0.
  */
 uint32_t lilota_mount(uint8_t *image, size_t length, size_t allowance,
@@ -81,6 +85,7 @@ uint32_t lilota_mount(uint8_t *image, size_t length, size_t allowance,
  * commit, and clears a single bit: cut before it the old file stands, after it
  * the new one does, inside it one of the two. Gives back the steps done.
  * Done, it has left room for sweeps, as said there.
+ * Steps: name_length + content_length + 10 to 15, no erase.
  * Answers: 22, 5, 6, 16, 28, 4, 0.
  */
 uint32_t lilota_put(uint8_t *image, size_t length,
@@ -106,7 +111,8 @@ uint32_t lilota_list(const uint8_t *image, size_t length, size_t index,
 
 /*
  * Removes a file, in one step: cut inside it, the file is whole or gone. Gives
- * back the steps done. Answers: 22, 5, 6, 16, 2, 4, 0.
+ * back the steps done. Steps: 1, no erase.
+ * Answers: 22, 5, 6, 16, 2, 4, 0.
  */
 uint32_t lilota_remove(uint8_t *image, size_t length,
                        const uint8_t *name, size_t name_length,
@@ -124,6 +130,8 @@ uint32_t lilota_remove(uint8_t *image, size_t length,
  * at least r moves, which is past all of these records. Nothing is promised of
  * sweeps that are cut: what is left of their copies takes room, and cut often
  * enough a sweep answers 28 until a file is removed.
+ *
+ * Steps: at most 5 (length + length/8 + 8 + length/4,096).
  * Answers: 22, 5, 6, 16, 28, 4, 0.
  */
 uint32_t lilota_sweep(uint8_t *image, size_t length, size_t allowance,

@@ -1,19 +1,26 @@
 -- What mount does on an image of the invariant (Mends). On each kind one repair at most has steps, so mount is that repair, if it leaves
 -- a rested image, on which the others have nothing to do.
-use Prim.Native.Nat.{ℕ}
+use Prim.Native.Nat.{ℕ, _+_, _/_}
+use native.Mathlib.Omega.{arith}
 use mathlib.Core.Path.{_≡_, sym, ap, _∙_, subst}
+use mathlib.Core.Bool.{true}
 use mathlib.Core.List.{List, []}
+use lib.ListN.{length}
 use Rattle.spec.specs.Step.{Image, Step, run}
 use Rattle.spec.specs.Basics.{give}
+use Rattle.spec.specs.Geometry.{good-length}
 use Rattle.spec.specs.Chain.{Reading}
 use Rattle.spec.specs.Reading.{reading}
 use Rattle.spec.specs.Move.{Work, begin, reread, after}
 use Rattle.spec.specs.Mount.{repair-1, repair-2-on, repair-3, repair-4, mended}
 use Rattle.spec.specs.History.{Ledger}
+use Rattle.spec.specs.Bounds.{At-most, head-most, head-data}
 use Rattle.history.specs.Safe.{Safe}
+use Rattle.history.specs.Erase.{good-is}
 use Rattle.history.specs.Kinds.{Inv, Rested}
 use Rattle.history.specs.Settled.{rested-idle, idle-2, idle-3, idle-4, after-some}
 use Rattle.history.specs.Closes.{Rests}
+use Rattle.history.specs.StepCounts.{most-none, most-more}
 
 -- ---- mount
 
@@ -22,13 +29,27 @@ pub data Needs (l : Ledger) (im : Image) (r : Reading) : Type 0 where
   needs-none : Rested l im r → Needs l im r
   needs-some : (mended im r .steps ≡ [] → ⊥) → Needs l im r
 
--- what mount does: the image is read, cut anywhere the files stay, and at the end it is rested
+-- mount's bounds, by the length of the image and by the data of its head
+pub record Few (im : Image) (r : Reading) (ss : List Step) : Type 0 where
+  pub by-length : At-most (length im / 8 + 8) (length im / 4096) ss
+  pub by-head : At-most (head-most (head-data (r .entries))) (length im / 4096) ss
+
+-- nine bytes are few in an image of a good length
+pub nine-few : {im : Image} {r : Reading} (ss : List Step) → good-length (length im) ≡ true → At-most 9 0 ss → Few im r ss
+nine-few {im} ss g h =
+    record {
+      by-length = most-more h (omega (arith, good-is (length im) g .1)) (omega arith);
+      by-head = most-more h (omega arith) (omega arith);
+    }
+
+-- what mount does: the image is read, cut anywhere the files stay, at the end it is rested, and the steps are few
 pub record Mends (l : Ledger) (im : Image) : Type 0 where
   pub r : Reading
   pub reads : reading im ≡ give r
   pub needs : Needs l im r
   pub safe : Safe (Inv l) im (mended im r .steps)
   pub rested : Rested l (run im (mended im r .steps)) (mended im r .reading)
+  pub few : Few im r (mended im r .steps)
 
 module _ {l : Ledger} {im : Image} {r : Reading} (reads : reading im ≡ give r) where
   -- nothing to do
@@ -41,9 +62,10 @@ module _ {l : Ledger} {im : Image} {r : Reading} (reads : reading im ≡ give r)
         needs = needs-none q;
         safe = subst (λ (v : Work). Safe (Inv l) im (v .steps)) (sym m) i;
         rested = subst (λ (v : Work). Rested l (run im (v .steps)) (v .reading)) (sym m) q;
+        few = subst (λ (v : Work). Few im r (v .steps)) (sym m) (nine-few [] (q .good) (most-more most-none (omega arith) (omega arith)));
       }
 
-  module _ {ss : List Step} {h : ℕ} (q : Rests l im ss h) (some : ss ≡ [] → ⊥) where
+  module _ {ss : List Step} {h : ℕ} (q : Rests l im ss h) (some : ss ≡ [] → ⊥) (few : Few im r ss) where
     -- the image that these steps leave, as it is read
     left : Work
     left = reread (begin im r) ss (run im ss) h
@@ -57,6 +79,7 @@ module _ {l : Ledger} {im : Image} {r : Reading} (reads : reading im ≡ give r)
           needs = needs-some (λ e. some (sym (ap (λ (v : Work). v .steps) m) ∙ e));
           safe = subst (λ (v : Work). Safe (Inv l) im (v .steps)) (sym m) (q .safe);
           rested = subst (λ (v : Work). Rested l (run im (v .steps)) (v .reading)) (sym m) (q .rested);
+          few = subst (λ (v : Work). Few im r (v .steps)) (sym m) few;
         }
 
     then-3 : repair-3 left ≡ left

@@ -89,6 +89,11 @@ programs-left (program i b ∷ ss) ts p = programs-left ss ts p
 programs-left (erase i ∷ ss) ts p = p
 
 -- programming keeps the length
+pub programs-append : (ss ts : List Step) → Programs ss → Programs ts → Programs (ss ++ ts)
+programs-append [] ts p q = q
+programs-append (program i b ∷ ss) ts p q = programs-append ss ts p q
+programs-append (erase i ∷ ss) ts p q = absurd p
+
 pub length-run : (im : Image) (ss : List Step) → Programs ss → length (run im ss) ≡ length im
 length-run im [] p = refl
 length-run im (program a b ∷ ss) p = length-run (set im a b) ss p ∙ length-set im a b

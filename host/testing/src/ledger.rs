@@ -1,4 +1,5 @@
 //! "History and ledger": the ledger, and the check of what demand 3 says.
+use crate::bounds;
 use crate::call::{Call, Store};
 use crate::cut::{self, Made};
 use crate::progress::Progress;
@@ -91,12 +92,15 @@ impl World {
         let commit = commit_place(&before, call);
         let plan = call.plan(&before);
         let reply = store.call(&mut self.img, call)?;
+        bounds::check(&before, call, commit, &reply)?;
         if !matches!(reply.answer, 0 | 4) && (self.img != before || reply.steps != 0) {
             return Err(format!("refusal {} changed the image", reply.answer));
         }
         let steps = plan.map_or(vec![], |p| p.steps);
         let undone = cut::left(&steps, &reply);
-        self.listed_steps(before, &steps[..steps.len() - undone.len()], &reply)?;
+        let done = &steps[..steps.len() - undone.len()];
+        bounds::check_each(before.len(), call, done)?;
+        self.listed_steps(before, done, &reply)?;
         let next = match undone.first() {
             Some(&Step::Program(a, _)) => Some(a as usize),
             _ => None,
@@ -141,6 +145,7 @@ impl World {
         if reply.answer != 0 {
             return Err(format!("mount answers {}", reply.answer));
         }
+        bounds::check(&self.img, &Call::Mount(ALL), None, &reply)?;
         if reply.third != self.ledger.files.len() as u64 {
             return Err(format!("mount counts {} files, the ledger {}", reply.third, self.ledger.files.len()));
         }

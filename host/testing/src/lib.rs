@@ -3,6 +3,7 @@
 //! histories.
 
 pub mod aimed;
+pub mod bounds;
 pub mod c_calls;
 pub mod call;
 pub mod cc;
@@ -18,6 +19,7 @@ pub mod progress;
 pub mod rng;
 pub mod stuck;
 pub mod tags;
+pub mod worst;
 
 /// An allowance that no call uses up.
 pub const ALL: u64 = u64::MAX;

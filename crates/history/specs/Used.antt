@@ -1,0 +1,45 @@
+-- The steps that a call does and reports, whatever its allowance: the first of its plan's.
+use Prim.Native.Nat.{ℕ, _≤_, _<_}
+use native.Mathlib.Omega.{arith}
+use mathlib.Core.Path.{_≡_, refl, ap}
+use mathlib.Core.Bool.{Bool, true, false}
+use mathlib.Core.List.{[]}
+use lib.ListN.{length, take}
+use lib.Dec.{leb}
+use borrow.Author.Tests.{leb-true, leb-false}
+use Rattle.spec.specs.Step.{Image}
+use Rattle.spec.specs.Basics.{Answer, refuse, give}
+use Rattle.spec.specs.Answers.{Plan, Outcome, carry-out}
+use Rattle.spec.specs.History.{steps-of}
+use Rattle.spec.specs.Bounds.{At-most}
+use Rattle.history.specs.StepCounts.{most-none, most-more, most-take}
+use Rattle.history.specs.Induction.{carried-done, carried-cut}
+
+-- a plan whose own count is the length of its list
+pub used-most : (im : Image) (k : ℕ) (p : Plan) → p .done .steps ≡ length (p .steps)
+    → carry-out im k (give p) .numbers .steps ≤ length (p .steps)
+used-most im k p d = go (leb (length (p .steps)) k) refl
+  where
+    go : (b : Bool) → leb (length (p .steps)) k ≡ b → carry-out im k (give p) .numbers .steps ≤ length (p .steps)
+    go true e =
+        omega (arith, ap (λ (o : Outcome). o .numbers .steps) (carried-done im k p (leb-true (length (p .steps)) k e)), d)
+    go false e =
+        let less : k < length (p .steps) = leb-false (length (p .steps)) k e in
+        omega (arith, ap (λ (o : Outcome). o .numbers .steps) (carried-cut im k p less))
+
+-- a refusal
+used-none : (im : Image) (k n : ℕ) → carry-out im k (refuse n) .numbers .steps ≡ 0
+unfolding carry-out
+used-none im k n = refl
+
+-- what bounds each plan that is carried out bounds the steps used
+pub used-bound : (im : Image) (k b : ℕ) (a : Answer Plan)
+    → ((p : Plan) → a ≡ give p → (p .done .steps ≡ length (p .steps)) × (length (p .steps) ≤ b)) → carry-out im k a .numbers .steps ≤ b
+used-bound im k b (refuse n) h = omega (arith, used-none im k n)
+used-bound im k b (give p) h = omega (arith, used-most im k p (h p refl .0), h p refl .1)
+
+-- and what bounds its two kinds of step bounds those done
+pub used-kinds : {p e : ℕ} (m : ℕ) (a : Answer Plan) → ((q : Plan) → a ≡ give q → At-most p e (q .steps))
+    → At-most p e (take m (steps-of a))
+used-kinds m (refuse n) h = most-take m [] (most-more most-none (omega arith) (omega arith))
+used-kinds m (give q) h = most-take m (q .steps) (h q refl)
