@@ -1,7 +1,7 @@
--- What step lists do to bytes: cut anywhere, moved to the address of a record, and runs of bytes programmed one after another.
+-- What step lists do to bytes: run in two parts, moved to the address of a record, and runs of bytes programmed one after another.
 use Prim.Native.Nat.{ℕ, zero, suc, _+_, _≤_}
 use native.Mathlib.Omega.{arith}
-use native.Mathlib.Nat.{zero-add, suc-add, add-zero}
+use native.Mathlib.Nat.{zero-add, suc-add}
 use mathlib.Core.Path.{_≡_, refl, sym, ap, _∙_}
 use mathlib.Core.List.{List, [], _∷_, _++_, append-assoc}
 use lib.ListN.{length, take, set, length-append, length-replicate, length-set}
@@ -9,22 +9,7 @@ use lib.Seq.{set-at, append-snoc, length-take-le}
 use Rattle.spec.specs.Step.{Step, program, erase, apply, run, bytes-at, moved, Image}
 use Rattle.history.specs.Blanks.{blanks, blank-split}
 
--- ---- a property of every cut, phase by phase
-
--- one step, then others
-pub cut-one : (P : List ℕ → Type 0) (s : List ℕ) (x : Step) (b : List Step) → P s → ((j : ℕ) → j ≤ length b → P (run (apply s x) (take j b)))
-    → (k : ℕ) → k ≤ suc (length b) →
-    P (run s (take k (x ∷ b)))
-cut-one P s x b p q zero h = p
-cut-one P s x b p q (suc k) h = q k (omega arith)
-
--- some steps, then others
-pub cut-append : (P : List ℕ → Type 0) (s : List ℕ) (a b : List Step) → ((j : ℕ) → j ≤ length a → P (run s (take j a)))
-    → ((j : ℕ) → j ≤ length b → P (run (run s a) (take j b)))
-    → (k : ℕ) → k ≤ length a + length b → P (run s (take k (a ++ b)))
-cut-append P s [] b p q k h = q k (omega arith)
-cut-append P s (x ∷ a) b p q zero h = p zero (omega arith)
-cut-append P s (x ∷ a) b p q (suc k) h = cut-append P (apply s x) a b (λ j l. p (suc j) (omega arith)) q k (omega arith)
+-- ---- one list after another
 
 -- run in two parts
 pub run-append : (s : List ℕ) (a b : List Step) → run s (a ++ b) ≡ run (run s a) b
@@ -50,13 +35,6 @@ take-moved zero a ss = refl
 take-moved (suc k) a [] = refl
 take-moved (suc k) a (program i b ∷ ss) = ap (λ (l : List Step). program (a + i) b ∷ l) (take-moved k a ss)
 take-moved (suc k) a (erase i ∷ ss) = ap (λ (l : List Step). erase (a + i) ∷ l) (take-moved k a ss)
-
--- the first of steps that only program
-pub take-programs : (k : ℕ) (ss : List Step) → Programs ss → Programs (take k ss)
-take-programs zero ss p = tt
-take-programs (suc k) [] p = tt
-take-programs (suc k) (program i b ∷ ss) p = take-programs k ss p
-take-programs (suc k) (erase i ∷ ss) p = absurd p
 
 -- steps behind p
 pub run-past : (p q : List ℕ) (ss : List Step) (a : ℕ) → length p ≡ a → Programs ss → run (p ++ q) (moved a ss) ≡ p ++ run q ss
@@ -127,13 +105,6 @@ pub write-blank : (p w s : List ℕ) (a j m k : ℕ) → length p ≡ a → j �
 write-blank p w s a j m k e h l =
     rw (take-bytes j a w, blank-split j m k l, append-assoc (blanks j) (blanks m) s)
     (write-over p (blanks j) (take j w) (blanks m ++ s) a e (length-replicate j 0xFF ∙ sym (length-take-le j w h)))
-
--- two runs of bytes, one behind the other
-pub bytes-append : (a : ℕ) (v w : List ℕ) → bytes-at a (v ++ w) ≡ bytes-at a v ++ bytes-at (a + length v) w
-bytes-append a [] w = rw (add-zero a)
-bytes-append a (x ∷ v) w =
-    let e : a + 1 + length v ≡ a + suc (length v) = omega arith in
-    ap (λ (l : List Step). program a x ∷ l) (bytes-append (a + 1) v w ∙ ap (λ (i : ℕ). bytes-at (a + 1) v ++ bytes-at i w) e)
 
 -- a run of bytes only programs
 pub programs-bytes : (a : ℕ) (w : List ℕ) (ss : List Step) → Programs ss → Programs (bytes-at a w ++ ss)
