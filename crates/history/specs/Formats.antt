@@ -9,12 +9,13 @@ use lib.Seq.{drop-length}
 use lib.Dec.{leb}
 use borrow.Author.Tests.{leb-true, leb-false}
 use Rattle.spec.specs.Step.{Image, erase, run}
-use Rattle.spec.specs.Basics.{Answer, refuse, give, checked}
+use Rattle.spec.specs.Basics.{Answer, refuse, give, checked, numbered}
 use Rattle.spec.specs.Geometry.{good-length, sectors}
 use Rattle.spec.specs.Record.{Rec, Entry}
 use Rattle.spec.specs.Files.{named}
 use Rattle.spec.specs.Write.{first-steps, format-steps}
-use Rattle.spec.specs.Answers.{Plan, Outcome, doing, carry-out, format-plan, format}
+use Rattle.spec.specs.Answers.{Plan, doing, carry-out, format-plan, format}
+use Rattle.spec.specs.Numbers.{Outcome}
 use Rattle.history.specs.Blanks.{blanks, blank-split}
 use Rattle.history.specs.Store.{alive}
 use Rattle.history.specs.Lay.{onto, lay, length-lay, low-start, st-00}
@@ -117,13 +118,13 @@ done-image raw k p e = go (leb (length (p .steps)) k) refl
     go true h = ap (λ (x : Outcome). x .image) (carried-done raw k p (leb-true (length (p .steps)) k h))
     go false h = absurd (let z : _≡_ {A = ℕ} 4 0 = answer-of (carried-cut raw k p (leb-false (length (p .steps)) k h)) e in omega arith)
 
-refused : (raw : Image) (k n : ℕ) → carry-out raw k (refuse n) .numbers .answer ≡ n
+refused : (raw : Image) (k n : ℕ) → carry-out raw k (refuse (numbered n)) .numbers .answer ≡ n
 unfolding carry-out
 refused raw k n = refl
 
-plan-is : (raw : Image) (b : Bool) → good-length (length raw) ≡ b → format-plan raw ≡ checked b 22 (give (doing (format-steps (length raw)) 0 0 0))
+plan-is : (raw : Image) (b : Bool) → good-length (length raw) ≡ b → format-plan raw ≡ checked b (numbered 22) (give (doing (format-steps (length raw))))
 unfolding format-plan
-plan-is raw b e = ap (λ (c : Bool). checked c 22 (give (doing (format-steps (length raw)) 0 0 0))) e
+plan-is raw b e = ap (λ (c : Bool). checked c (numbered 22) (give (doing (format-steps (length raw))))) e
 
 -- the start of every history
 pub formatted : (raw : Image) (k : ℕ) → format raw k .numbers .answer ≡ 0 → Inv [] (format raw k .image)
@@ -134,7 +135,7 @@ formatted raw k e = go (good-length (length raw)) refl
 
     go : (b : Bool) → good-length (length raw) ≡ b → Inv [] (format raw k .image)
     go true g =
-        let P : Plan = doing (format-steps (length raw)) 0 0 0 in
+        let P : Plan = doing (format-steps (length raw)) in
         let i : format-plan raw ≡ give P = plan-is raw true g in
         subst (Inv []) (sym (ap (λ (x : Answer Plan). carry-out raw k x .image) i ∙ done-image raw k P (at (give P) i))) (whole-inv raw g)
-    go false g = absurd (let z : _≡_ {A = ℕ} 22 0 = sym (refused raw k 22) ∙ at (refuse 22) (plan-is raw false g) in omega arith)
+    go false g = absurd (let z : _≡_ {A = ℕ} 22 0 = sym (refused raw k 22) ∙ at (refuse (numbered 22)) (plan-is raw false g) in omega arith)

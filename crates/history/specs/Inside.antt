@@ -9,20 +9,21 @@ use lib.Dec.{eqb, ltb}
 use Rattle.spec.specs.declared.Kind.{Kind}
 use Rattle.spec.specs.declared.Next.{Next}
 use Rattle.spec.specs.Step.{Image, Step, program, erase, apply, run}
-use Rattle.spec.specs.Basics.{Answer, refuse, give, checked, onward, Each, long, blank}
+use Rattle.spec.specs.Basics.{refuse, give, checked, Each, long, blank, numbered}
 use Rattle.spec.specs.Bytes.{is-unfinished}
 use Rattle.spec.specs.Geometry.{floor, up8}
 use Rattle.spec.specs.Record.{size-of, name-length, data-len-of, low-of, high-of, status-of, spare-of, rec-of, Entry, size}
 use Rattle.spec.specs.Next.{next, next-at, kind, sized, torn-at, torn-wrap-at, clear-at}
-use Rattle.spec.specs.Chain.{Chain, add, stop, allowed, chain, from-head, from-zero}
-use Rattle.spec.specs.Chain.{Reading, unturned, turned, turn-torn, joined, read-on, reading-from}
+use Rattle.spec.specs.Chain.{Chain, add, stop, allowed, chain, from-head, from-zero, Reading, unturned, turned, turn-torn, joined, read-on, reading-from}
 use Rattle.spec.specs.Head.{head}
 use Rattle.spec.specs.Reading.{legal, judged, read-at, reading}
 use Rattle.spec.specs.Mount.{settled}
-use Rattle.spec.specs.Answers.{if-settled, settled-reading}
+use Rattle.spec.specs.Door.{settled-reading}
 use Rattle.history.specs.Lists.{each-append}
 use Rattle.history.specs.Steps.{Programs}
 use Rattle.history.specs.Erase.{erases-length}
+use Rattle.laws.specs.Answer.{gave, passed}
+use Rattle.laws.specs.Door.{settled-gives}
 
 -- ---- what stands at the front of a list of l bytes
 
@@ -182,26 +183,17 @@ module _ (im : Image) (h : ℕ) where
       go false = joined-seen (from-head im h) (from-zero im h (from-head im h .held)) high-within (low-within (from-head im h .held))
 
 -- what a check lets pass is what was checked
-passed : {A : Type 0} (b : Bool) (n : ℕ) (x y : A) → checked b n (give x) ≡ give y → x ≡ y
-passed true n x y e = cc
-passed false n x y e = absurd (let z : _≡_ {A = ℕ} 0 1 = cc in omega arith)
-
 -- so of every image that mount does not refuse
-reading-seen : (im : Image) (r : Reading) (a : Answer ℕ) → onward a (read-at im) ≡ give r → Seen (length im) im r
-unfolding judged
-reading-seen im r (refuse n) e = absurd (let z : _≡_ {A = ℕ} 0 1 = cc in omega arith)
-reading-seen im r (give h) e =
-    subst (Seen (length im) im) (passed (legal im (reading-from im h)) 5 (reading-from im h) r e) (seen-from im h)
-
-settled-by : (im : Image) (r : Reading) (a : Answer Reading) → reading im ≡ a → onward a (if-settled im) ≡ give r → Seen (length im) im r
-unfolding if-settled reading
-settled-by im r (refuse n) f e = absurd (let z : _≡_ {A = ℕ} 0 1 = cc in omega arith)
-settled-by im r (give q) f e = subst (Seen (length im) im) (passed (settled im q) 16 q r e) (reading-seen im q (head im) f)
+reading-seen : (im : Image) (r : Reading) → reading im ≡ give r → Seen (length im) im r
+unfolding reading judged
+reading-seen im r e =
+    let g = gave (head im) (read-at im) r e in
+    let h = g .value in
+    subst (Seen (length im) im) (passed (legal im (reading-from im h)) (numbered 5) (reading-from im h) r (g .on) .1) (seen-from im h)
 
 -- and of every settled one
 pub settled-seen : (im : Image) (r : Reading) → settled-reading im ≡ give r → Seen (length im) im r
-unfolding settled-reading
-settled-seen im r e = settled-by im r (reading im) refl e
+settled-seen im r e = reading-seen im r (settled-gives im r e .0)
 
 -- ---- steps keep the length
 

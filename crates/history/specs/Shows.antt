@@ -9,13 +9,13 @@ use mathlib.Core.List.{List, [], _∷_, _++_, map, append-assoc, Permᴰ·symm}
 use lib.ListN.{length, take, drop, getElem?}
 use lib.Seq.{drop-drop}
 use Rattle.spec.specs.Step.{Image}
-use Rattle.spec.specs.Basics.{Answer, refuse, give, same, any, keep, first-such, Each}
+use Rattle.spec.specs.Basics.{Answer, refuse, give, same, any, keep, first-such, Each, numbered}
 use Rattle.spec.specs.Geometry.{up8}
 use Rattle.spec.specs.Record.{name-ok, rec-of, Rec, Entry, name-of, content-of, data-at}
 use Rattle.spec.specs.Chain.{Reading}
 use Rattle.spec.specs.Files.{files, has-name, file-named}
-use Rattle.spec.specs.Answers.{Numbers, Plan, success, numbers-of, carry-out, doing, found, file-plan, getting, get-plan, listing, list-plan, get}
-use Rattle.spec.specs.Answers.{list, part-of}
+use Rattle.spec.specs.Numbers.{Numbers, part-of}
+use Rattle.spec.specs.Answers.{Plan, numbers-of, carry-out, doing, found, file-plan, getting, get-plan, listing, list-plan, get, list, looking}
 use Rattle.spec.specs.History.{File, Ledger, is-named, has}
 use Rattle.spec.specs.Demand.{Listed, Got, Shows}
 use Rattle.history.specs.Lists.{Pairwise, keep-yes, keep-no, each-map, first-yes, first-no, not-both, each-keep}
@@ -27,6 +27,7 @@ use Rattle.history.specs.LaidEdit.{inside-of}
 use Rattle.history.specs.Kinds.{Rested}
 use Rattle.history.specs.OkLaws.{same-refl, Old, old-none, old-some, old-file}
 use Rattle.history.specs.Settled.{rested-settled}
+use Rattle.laws.specs.Door.{named-good, admitted-good}
 
 -- ---- elements by their index
 
@@ -180,31 +181,31 @@ module _ {l : Ledger} {im : Image} {r : Reading} (q : Rested l im r) where
 
   plan-get : (n : List ℕ) → name-ok n ≡ true → get-plan n im ≡ found getting (file-named n (r .entries))
   unfolding get-plan file-plan
-  plan-get n ok = rw (get-plan, file-plan, q .good, ok, rested-settled q)
+  plan-get n ok = rw (get-plan, file-plan, named-good im (q .good) n ok, rested-settled q)
 
   plan-list : (i : ℕ) → list-plan i im ≡ found listing (getElem? (files (r .entries)) i)
   unfolding list-plan
-  plan-list i = rw (list-plan, q .good, rested-settled q)
+  plan-list i = rw (list-plan, admitted-good im (q .good), rested-settled q)
 
-  carried : (a b c : ℕ) → carry-out im 0 (give (doing [] a b c)) .numbers ≡ success a b c []
+  carried : (n : Numbers) → carry-out im 0 (give (looking n)) .numbers ≡ n
   unfolding carry-out numbers-of
-  carried a b c = refl
+  carried n = refl
 
-  refused : (n : ℕ) → carry-out im 0 (refuse n) .numbers .answer ≡ n
+  refused : (n : ℕ) → carry-out im 0 (refuse (numbered n)) .numbers .answer ≡ n
   unfolding carry-out
   refused n = refl
 
   get-some : (n : List ℕ) (e : Entry) → name-ok n ≡ true → file-named n (r .entries) ≡ some e
-      → get im n .numbers ≡ success (data-at e) (length (content-of e)) 0 []
+      → get im n .numbers ≡ getting e .done
   get-some n e ok f =
       ap (λ (p : Answer Plan). carry-out im 0 p .numbers) (plan-get n ok ∙ ap (found getting) f)
-      ∙ carried (data-at e) (length (content-of e)) 0
+      ∙ carried (getting e .done)
 
-  list-some : (i : ℕ) (e : Entry) → getElem? fs i ≡ some e → list im i .numbers ≡ success (e .at + 8) (length (name-of e)) (length (content-of e)) []
+  list-some : (i : ℕ) (e : Entry) → getElem? fs i ≡ some e → list im i .numbers ≡ listing e .done
   list-some i e f =
       ap (λ (p : Answer Plan). carry-out im 0 p .numbers)
       (plan-list i ∙ ap (λ (x : List Entry). found listing (getElem? x i)) files-are ∙ ap (found listing) f)
-      ∙ carried (e .at + 8) (length (name-of e)) (length (content-of e))
+      ∙ carried (listing e .done)
 
   list-name : (i : ℕ) (e : Entry) → getElem? fs i ≡ some e → part-of im (list im i .numbers) ≡ name-of e
   list-name i e f = ap (part-of im) (list-some i e f) ∙ index-each (Stands im) fs i e f files-stand .name
@@ -215,7 +216,7 @@ module _ {l : Ledger} {im : Image} {r : Reading} (q : Rested l im r) where
         index = i;
         below = index-below fs i e f;
         there = (ap (λ (n : Numbers). n .answer) (list-some i e f), list-name i e f);
-        size = ap (λ (n : Numbers). n .third) (list-some i e f);
+        size = ap (λ (n : Numbers). n .size) (list-some i e f);
         once = λ j h p.
             let x = at-index fs j h in
             same-index fs j i (x .0) e apart (x .1) f (sym (list-name j (x .0) (x .1)) ∙ p .1);

@@ -9,9 +9,11 @@ use lib.Dec.{leb}
 use borrow.Author.Tests.{leb-true, leb-false}
 use Rattle.spec.specs.Step.{Image}
 use Rattle.spec.specs.Basics.{Answer, refuse, give}
-use Rattle.spec.specs.Answers.{Plan, Outcome, carry-out}
+use Rattle.spec.specs.Answers.{Plan, carry-out}
+use Rattle.spec.specs.Numbers.{Outcome}
 use Rattle.spec.specs.History.{steps-of}
 use Rattle.spec.specs.Bounds.{At-most}
+use Rattle.spec.specs.declared.Refusal.{Refusal}
 use Rattle.history.specs.StepCounts.{most-none, most-more, most-take}
 use Rattle.history.specs.Induction.{carried-done, carried-cut}
 
@@ -28,9 +30,9 @@ used-most im k p d = go (leb (length (p .steps)) k) refl
         omega (arith, ap (λ (o : Outcome). o .numbers .steps) (carried-cut im k p less))
 
 -- a refusal
-used-none : (im : Image) (k n : ℕ) → carry-out im k (refuse n) .numbers .steps ≡ 0
+used-none : (im : Image) (k : ℕ) (x : Refusal) → carry-out im k (refuse x) .numbers .steps ≡ 0
 unfolding carry-out
-used-none im k n = refl
+used-none im k x = refl
 
 -- what bounds each plan that is carried out bounds the steps used
 pub used-bound : (im : Image) (k b : ℕ) (a : Answer Plan)

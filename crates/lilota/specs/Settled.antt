@@ -18,7 +18,7 @@ use Rattle.spec.specs.Chain.{Reading, reading-from}
 use Rattle.spec.specs.Reading.{whole, names-ok, single, marks-ok, free-ok, legal, judged, reading}
 use Rattle.spec.specs.Mount.{settled}
 use Rattle.spec.specs.Placed.{Sound}
-use Rattle.spec.specs.Answers.{if-settled, settled-reading}
+use Rattle.spec.specs.Door.{if-settled, settled-reading}
 use Rattle.reading.specs.declared.Survey.{Survey}
 use Rattle.reading.specs.Read.{reading-of, Surveyed}
 use Rattle.lilota.specs.Length.{good}

@@ -18,7 +18,7 @@ ghost use Prim.Native.Nat.{_≤_, _^_};
 ghost use lib.ListN.{length};
 ghost use Rattle.spec.specs.Chain.{reading-from};
 ghost use Rattle.spec.specs.Reading.{judged, reading};
-ghost use Rattle.spec.specs.Answers.{settled-reading};
+ghost use Rattle.spec.specs.Door.{settled-reading};
 ghost use Rattle.reading.specs.Read.{first-cursor, answered, Told, Quiet};
 ghost use Rattle.reading.specs.Survey.{Seen, told, survey-of};
 

@@ -4,7 +4,8 @@ use lib.Bits.{bitAnd}
 use Rattle.spec.specs.Step.{Image, Step, program, erase, apply}
 use Rattle.spec.specs.Basics.{Each}
 use Rattle.spec.specs.Record.{name-ok}
-use Rattle.spec.specs.Answers.{format, mount, get, list, part-of, mount-plan}
+use Rattle.spec.specs.Answers.{format, mount, get, list, mount-plan}
+use Rattle.spec.specs.Numbers.{part-of}
 use Rattle.spec.specs.History.{Request, Call, outcome, replay, steps-of, steps-done, File, Ledger, has, ledger}
 
 -- ---- bytes only lose bits
@@ -39,7 +40,7 @@ pub record Listed (image : Image) (count : ℕ) (f : File) : Type 0 where
   pub index : ℕ
   pub below : index < count
   pub there : Lists image index (f .name)
-  pub size : list image index .numbers .third ≡ length (f .content)
+  pub size : list image index .numbers .size ≡ length (f .content)
   pub once : (i : ℕ) → i < count → Lists image i (f .name) → i ≡ index
 
 -- "get gives each its content"
@@ -58,7 +59,7 @@ pub record Shows (image : Image) (count : ℕ) (l : Ledger) : Type 0 where
 -- "That mount, with an allowance of at least its need, answers 0. Its count of live files is the number of names in the ledger. On the image that it leaves, .."
 pub record Mounted (image : Image) (k : ℕ) (l : Ledger) : Type 0 where
   pub answer : mount image k .numbers .answer ≡ 0
-  pub shows : Shows (mount image k .image) (mount image k .numbers .third) l
+  pub shows : Shows (mount image k .image) (mount image k .numbers .report .files) l
 
 -- all of it, for a history, cut inside bytes too (`held` in Call), that begins at `start`, leaves `image` and has the ledger `l`;
 -- a mount with a smaller allowance does the first of the same steps

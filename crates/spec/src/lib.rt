@@ -101,6 +101,24 @@ impl Place {
     }
 }
 
+// What a refusal gives back: document 01's number.
+pub struct Refusal {
+    pub number: u32,
+}
+
+// What mount reports of the image it leaves: head, tail, the number of live files.
+pub struct Report {
+    pub head: usize,
+    pub tail: usize,
+    pub files: usize,
+}
+
+// A stretch of the image.
+pub struct Extent {
+    pub offset: usize,
+    pub length: usize,
+}
+
 // A record's status byte.
 pub struct Status {
     pub byte: u8,
