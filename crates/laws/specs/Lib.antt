@@ -1,2 +1,3 @@
 pub mod Answer
 pub mod Door
+pub mod Refusing

@@ -27,7 +27,7 @@ reading-of image s = record { place = s .place; entries = rest image (first-curs
 
 abbrev pub answered : List ℕ → Read → Answer Reading
 answered image (Read.Good s) = give (reading-of image s)
-answered image (Read.Refused n) = refuse n
+answered image (Read.Refused x) = refuse x
 
 -- ---- what holds of a survey besides
 
@@ -43,9 +43,9 @@ pub record Surveyed (image : List ℕ) (s : Survey) : Type 0 where
 
 abbrev pub Told : List ℕ → Read → Type 0
 Told image (Read.Good s) = Surveyed image s
-Told image (Read.Refused n) = Unit {0}
+Told image (Read.Refused x) = Unit {0}
 
 -- no F8 record has an FC record of its name
 abbrev pub Quiet : List ℕ → Read → Type 0
 Quiet image (Read.Good s) = any (superseded (reading-of image s .entries)) (reading-of image s .entries) ≡ false
-Quiet image (Read.Refused n) = Unit {0}
+Quiet image (Read.Refused x) = Unit {0}

@@ -7,7 +7,7 @@ use mathlib.Core.Bool.{Bool, true, false, _&&_, not}
 use mathlib.Core.List.{List, [], _∷_}
 use lib.ListN.{length}
 use lib.Dec.{eqb}
-use Rattle.spec.specs.Basics.{Answer, refuse, give, checked, onward, any, Each}
+use Rattle.spec.specs.Basics.{Answer, refuse, give, checked, onward, any, Each, numbered}
 use Rattle.spec.specs.Geometry.{floor}
 use Rattle.spec.specs.Bytes.{is-clean}
 use Rattle.spec.specs.Record.{Entry}
@@ -17,6 +17,7 @@ use Rattle.spec.specs.Files.{live, superseded}
 use Rattle.spec.specs.Reading.{head-clean, free-ok, whole, marked, second-ok, marks-ok, names-ok, single, legal, judged, reading}
 use Rattle.spec.specs.Mount.{head-low, settled}
 use Rattle.spec.specs.Door.{if-settled, settled-reading}
+use Rattle.spec.specs.declared.Refusal.{Refusal}
 use Rattle.reading.specs.declared.Cursor.{Cursor}
 use Rattle.reading.specs.declared.Spot.{Spot}
 use Rattle.reading.specs.declared.Tally.{Tally}
@@ -182,15 +183,15 @@ pub reading-by : (image : List ℕ) (h : ℕ) → give h ≡ head image → judg
 unfolding reading
 reading-by image h e = ap (λ (a : Answer ℕ). onward a (λ (h : ℕ). judged image (reading-from image h))) e
 
-pub reading-refused : (image : List ℕ) (n : ℕ) → refuse n ≡ head image → refuse n ≡ reading image
+pub reading-refused : (image : List ℕ) (n : ℕ) → refuse (numbered n) ≡ head image → refuse (numbered n) ≡ reading image
 unfolding reading
 reading-refused image n e = ap (λ (a : Answer ℕ). onward a (λ (h : ℕ). judged image (reading-from image h))) e
 
-pub settled-none : (image : List ℕ) (n : ℕ) → refuse n ≡ reading image → refuse n ≡ settled-reading image
+pub settled-none : (image : List ℕ) (x : Refusal) → refuse x ≡ reading image → refuse x ≡ settled-reading image
 unfolding settled-reading
-settled-none image n e = ap (λ (a : Answer Reading). onward a (if-settled image)) e
+settled-none image x e = ap (λ (a : Answer Reading). onward a (if-settled image)) e
 
 pub settled-by : (image : List ℕ) (r : Reading) (t : Bool) → give r ≡ reading image → settled image r ≡ t
-    → checked t 16 (give r) ≡ settled-reading image
+    → checked t (numbered 16) (give r) ≡ settled-reading image
 unfolding settled-reading if-settled
-settled-by image r t e s = ap (λ (b : Bool). checked b 16 (give r)) (sym s) ∙ ap (λ (a : Answer Reading). onward a (if-settled image)) e
+settled-by image r t e s = ap (λ (b : Bool). checked b (numbered 16) (give r)) (sym s) ∙ ap (λ (a : Answer Reading). onward a (if-settled image)) e

@@ -12,6 +12,7 @@ use crate::rules::settled;
 use crate::scan::pass;
 use spec::Ending;
 use spec::Place;
+use spec::Refusal;
 use spec::floor;
 ghost use mathlib.Core.Path.{_≡_};
 ghost use Prim.Native.Nat.{_≤_, _^_};
@@ -76,7 +77,7 @@ pub fn read_from(image: &[u8], h: usize) -> Read
     if legal(image, first_cursor(image, h), s) {
         return Read::Good(s);
     }
-    Read::Refused(5)
+    Read::Refused(Refusal { number: 5 })
 }
 
 // What an image reads as.
@@ -87,7 +88,7 @@ pub fn read(image: &[u8]) -> Read
     let x = head(image);
     match x {
         Headed::At(h) => read_from(image, h),
-        Headed::Refused(n) => Read::Refused(n),
+        Headed::Refused(n) => Read::Refused(Refusal { number: n }),
     }
 }
 
@@ -104,5 +105,5 @@ pub fn read_settled(image: &[u8]) -> Read
     if settled(image, first_cursor(image, place.head), s) {
         return x;
     }
-    Read::Refused(16)
+    Read::Refused(Refusal { number: 16 })
 }

@@ -1,5 +1,5 @@
 // Reading an image: its head, its chain, its files, whether it breaks a rule, whether it is settled, whether a put has room.
-// Everything here only looks, and nothing passes over data bytes but the check of the free run.
+// Everything here only looks. Nothing passes over data bytes but the search for the head and the check of the free run.
 pub mod chain;
 pub mod files;
 pub mod free;
@@ -11,6 +11,7 @@ pub mod scan;
 
 use spec::Ending;
 use spec::Place;
+use spec::Refusal;
 
 // The head's address, or the refusal's number.
 pub enum Headed {
@@ -75,8 +76,8 @@ pub struct Survey {
     pub tally: Tally,
 }
 
-// What an image reads as, or the refusal's number.
+// What an image reads as, or the refusal.
 pub enum Read {
     Good(Survey),
-    Refused(u32),
+    Refused(Refusal),
 }

@@ -1,5 +1,5 @@
 -- "Numbers given back": what each call answers, in numbers with names. What a call does not speak of is zero.
-use Rattle.spec.specs.Prelude.{ℕ, List, take, drop}
+use Rattle.spec.specs.Prelude.{ℕ, Bool, _||_, List, take, drop, eqb}
 use Rattle.spec.specs.declared.Refusal.{Refusal}
 use Rattle.spec.specs.declared.Report.{Report}
 use Rattle.spec.specs.declared.Extent.{Extent}
@@ -54,6 +54,10 @@ of-list answer extent size = record { answer = answer; report = no-report; moves
 -- a refusal: "zeros, image same"
 abbrev pub refusal : Refusal → Numbers
 refusal x = of-write (x .number) 0
+
+-- the numbers that a refusal may have
+unfoldable pub is-refusal : ℕ → Bool
+is-refusal n = eqb n 2 || eqb n 5 || eqb n 6 || eqb n 16 || eqb n 22 || eqb n 28
 
 -- ---- parts of the image
 
