@@ -1,3 +1,5 @@
+pub mod Length
+pub mod Head
 pub mod Answer
 pub mod Door
 pub mod Refusing

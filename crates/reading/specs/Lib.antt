@@ -19,3 +19,7 @@ pub mod Stows
 pub mod Room
 pub mod Survey
 pub mod RuleLaws
+pub mod Way
+pub mod FirstRecord
+pub mod Standing
+pub mod Accepted

@@ -23,6 +23,9 @@ pub record Outcome : Type 0 where
   pub numbers : Numbers
   pub image : Image
 
+abbrev pub outcome-of : Numbers → Image → Outcome
+outcome-of n image = record { numbers = n; image = image }
+
 -- ---- the numbers of each call
 
 abbrev pub no-report : Report

@@ -26,10 +26,10 @@ use Rattle.reading.specs.Read.{first-cursor}
 use Rattle.writing.specs.Kept.{kept}
 use Rattle.recovery.specs.Close.{end-before, leave-steps, close-is}
 use Rattle.sweeping.specs.declared.Moved.{Moved}
-use Rattle.sweeping.specs.Way.{reached}
-use Rattle.sweeping.specs.First.{apart, second-even}
+use Rattle.reading.specs.Way.{reached}
+use Rattle.reading.specs.FirstRecord.{apart, second-even}
 use Rattle.sweeping.specs.Steps.{hand-steps, hand-head, handing, heading}
-use Rattle.sweeping.specs.Standing.{Led, Found, entries-are, stands}
+use Rattle.reading.specs.Standing.{Led, Found, entries-are, stands}
 
 pub record Handed (s : Image) (h : ℕ) (m : Meter) (t : Image) (r : Moved) : Type 0 where
   pub did : Did s m (handing s h) t (r .meter)

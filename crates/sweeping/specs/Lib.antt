@@ -1,9 +1,6 @@
 pub mod Moves
-pub mod Way
-pub mod First
 pub mod Steps
 pub mod Copy
-pub mod Standing
 pub mod Stuck
 pub mod Planned
 pub mod Handed

@@ -31,7 +31,7 @@ use Rattle.sweeping.specs.declared.Plan.{Plan}
 use Rattle.sweeping.specs.Steps.{copying}
 use Rattle.sweeping.specs.Stuck.{stuck-empty, room-empty, room-on, room-live, room-dead, stuck-live, stuck-last, stuck-not, copy-live, copy-dead}
 use Rattle.sweeping.specs.Copy.{copy-few, copy-keeps-low}
-use Rattle.sweeping.specs.Standing.{Led, Found, Standing, entries-are, stands, head-at, stands-past}
+use Rattle.reading.specs.Standing.{Led, Found, Standing, entries-are, stands, head-at, stands-past}
 
 -- the place of the reading from its head on
 pub record Headed (s : Image) (p : Place) : Type 0 where

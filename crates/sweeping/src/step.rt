@@ -20,7 +20,7 @@ ghost use Rattle.spec.specs.Chain.{reading-from};
 ghost use Rattle.spec.specs.Sweep.{no-room};
 ghost use Rattle.flash.specs.Did.{Did};
 ghost use Rattle.sweeping.specs.Steps.{copying};
-ghost use Rattle.sweeping.specs.Standing.{Led};
+ghost use Rattle.reading.specs.Standing.{Led};
 ghost use Rattle.sweeping.specs.Planned.{Headed, Planned, Going};
 ghost use Rattle.sweeping.specs.Handed.{Handed};
 ghost use Rattle.sweeping.specs.Moving.{Moved-as};

@@ -1,32 +1,31 @@
--- Where the head search leads: to an 8-byte boundary with a START or CLEAN byte.
+-- Where the head search leads: inside the image, to an 8-byte boundary with a START or CLEAN byte.
 use Prim.Native.Nat.{ℕ, zero, suc, _+_, _%_, _<_}
 use native.Mathlib.Omega.{arith}
 use native.Mathlib.Nat.{add-zero}
 use mathlib.Core.Path.{_≡_, refl, sym, ap, _∙_}
-use mathlib.Core.Bool.{Bool, true, false, _||_, and-eq-true-iff}
+use mathlib.Core.Bool.{Bool, true, false, _&&_, _||_, and-eq-true-iff}
 use mathlib.Core.Logic.{_⊎_, inl, inr}
 use mathlib.Core.List.{List}
-use lib.ListN.{length, drop, getD}
+use lib.ListN.{length, drop, getD, List·getD-eq-default}
 use lib.Seq.{getD-drop}
-use lib.Dec.{eqb}
-use borrow.Author.Tests.{eqb-true}
+use lib.Dec.{ltb, eqb}
+use borrow.Author.Tests.{ltb-true, ltb-false, eqb-true}
 use Rattle.spec.specs.declared.Next.{Next}
 use Rattle.spec.specs.Step.{Image}
 use Rattle.spec.specs.Basics.{Answer, refuse, give, long}
-use Rattle.spec.specs.Geometry.{good-length}
 use Rattle.spec.specs.Bytes.{is-start, is-clean, is-high}
 use Rattle.spec.specs.Record.{low-of, high-of, start-here, clean-here, wrap-here, size-of}
 use Rattle.spec.specs.Head.{torn-here, walk-next, walk, search, sought, chosen, head}
-use Rattle.spec.specs.Chain.{Reading, reading-from}
-use Rattle.spec.specs.Reading.{legal, judged, reading}
-use Rattle.spec.specs.Mount.{settled}
-use Rattle.spec.specs.Door.{if-settled, settled-reading}
-use Rattle.sweeping.specs.First.{Low}
-use Rattle.sweeping.specs.Standing.{Led, stands}
-use Rattle.sweeping.specs.Planned.{Headed}
-use Rattle.lilota.specs.Length.{good}
-use Rattle.lilota.specs.Ground.{head-below}
-use Rattle.lilota.specs.Settled.{gave, passed}
+
+-- the first byte of a head: START or CLEAN, with 80 as A0
+abbrev pub Low : ℕ → Type 0
+Low b = (b ≡ 0x00) ⊎ ((b ≡ 0xA0) ⊎ (b ≡ 0x80))
+
+-- a head may stand at h
+pub record Begins (image : Image) (h : ℕ) : Type 0 where
+  pub inside : h < length image
+  pub even : h % 8 ≡ 0
+  pub low : Low (getD image h 0)
 
 -- ---- the boundary
 
@@ -54,7 +53,7 @@ search-even (suc k) at s e = go (start-here s || clean-here s) (long 1 s) refl r
   go false true h f ih = rw (h, f, search) ih
   go false false h f ih = rw (h, f, search) e
 
--- ---- the byte
+-- ---- the bytes
 
 -- CLEAN, with 80 as A0
 clean-two : (b : ℕ) → is-clean b ≡ true → (b ≡ 0xA0) ⊎ (b ≡ 0x80)
@@ -65,6 +64,20 @@ clean-two b h = go _ refl where
   go false e = inr (eqb-true b 0x80 (sym (ap (λ (t : Bool). t || eqb b 0x80) e) ∙ h))
 
 module _ (image : Image) where
+  -- a magic stands inside
+  high-inside : (a : ℕ) → is-high (high-of (drop a image)) ≡ true → a < length image
+  unfolding is-high
+  high-inside a e = go (ltb a (length image)) refl where
+    go : (t : Bool) → ltb a (length image) ≡ t → a < length image
+    go true h = ltb-true a (length image) h
+    go false h =
+        let q : getD (drop a image) 1 0 ≡ 0x5A = eqb-true (getD (drop a image) 1 0) 0x5A e in
+        let d : getD (drop a image) 1 0 ≡ 0 = getD-drop a image 1 0 ∙ List·getD-eq-default image 0 (omega (arith, ltb-false a (length image) h)) in
+        absurd (omega arith)
+
+  magic-inside : (a : ℕ) (low : Bool) → (low && is-high (high-of (drop a image))) ≡ true → a < length image
+  magic-inside a low e = high-inside a (and-eq-true-iff low (is-high (high-of (drop a image))) .0 e .1)
+
   low-start : (a : ℕ) → start-here (drop a image) ≡ true → Low (getD image a 0)
   unfolding is-start
   low-start a e =
@@ -78,58 +91,36 @@ module _ (image : Image) where
       and-eq-true-iff (is-clean (low-of (drop a image))) (is-high (high-of (drop a image))) .0 e .0 in
       inr (clean-two (getD image a 0) (sym (ap is-clean (getD-drop a image 0 0 ∙ ap (λ (i : ℕ). getD image i 0) (add-zero a))) ∙ q))
 
-  abbrev Begins : Answer ℕ → Type 0
-  Begins (give h) = (h % 8 ≡ 0) × Low (getD image h 0)
-  Begins (refuse n) = Unit {0}
+  abbrev Begun : Answer ℕ → Type 0
+  Begun (give h) = Begins image h
+  Begun (refuse x) = Unit {0}
 
-  chosen-begins : (a : ℕ) → a % 8 ≡ 0 → Begins (chosen image a)
+  begin-start : (a : ℕ) → a % 8 ≡ 0 → start-here (drop a image) ≡ true → Begins image a
+  begin-start a e p = record { inside = magic-inside a (is-start (low-of (drop a image))) p; even = e; low = low-start a p }
+
+  begin-clean : (a : ℕ) → a % 8 ≡ 0 → clean-here (drop a image) ≡ true → Begins image a
+  begin-clean a e p = record { inside = magic-inside a (is-clean (low-of (drop a image))) p; even = e; low = low-clean a p }
+
+  chosen-begins : (a : ℕ) → a % 8 ≡ 0 → Begun (chosen image a)
   unfolding chosen
   chosen-begins a e = go (start-here (drop a image)) (clean-here (drop a image)) (clean-here image) refl refl refl where
-    go : (t u v : Bool) → start-here (drop a image) ≡ t → clean-here (drop a image) ≡ u → clean-here image ≡ v → Begins (chosen image a)
-    go true u v p q r = rw (chosen, p) (e, low-start a p)
+    go : (t u v : Bool) → start-here (drop a image) ≡ t → clean-here (drop a image) ≡ u → clean-here image ≡ v → Begun (chosen image a)
+    go true u v p q r = rw (chosen, p) (begin-start a e p)
     go false true true p q r = rw (chosen, p, q, r) tt
-    go false true false p q r = rw (chosen, p, q, r) (e, low-clean a q)
-    go false false true p q r = rw (chosen, p, q, r) (refl, low-clean 0 r)
+    go false true false p q r = rw (chosen, p, q, r) (begin-clean a e q)
+    go false false true p q r = rw (chosen, p, q, r) (begin-clean 0 refl r)
     go false false false p q r = rw (chosen, p, q, r) tt
 
-  head-begins : Begins (head image)
+  head-begun : Begun (head image)
   unfolding head
-  head-begins = go (start-here image) (wrap-here image) refl refl where
-    go : (t u : Bool) → start-here image ≡ t → wrap-here image ≡ u → Begins (head image)
-    go true u p q = rw (head, p) (refl, low-start 0 p)
+  head-begun = go (start-here image) (wrap-here image) refl refl where
+    go : (t u : Bool) → start-here image ≡ t → wrap-here image ≡ u → Begun (head image)
+    go true u p q = rw (head, p) (begin-start 0 refl p)
     go false true p q = rw (head, p, q) tt
     go false false p q =
         let from : ℕ = walk (suc (length image)) 0 image in
         rw (head, p, q) (chosen-begins (sought image from)
         (search-even (length image) from (drop from image) (walk-even (suc (length image)) 0 image refl)))
 
-  -- ---- the reading of a settled image is the one from its head on
-
-  module _ (r : Reading) (n : good-length (length image) ≡ true) where
-    read-headed : reading image ≡ give r → Headed image (r .place) × (r ≡ reading-from image (r .place .head))
-    unfolding reading judged
-    read-headed e =
-        let size = good (length image) n in
-        let g = gave (head image) _ r e in
-        let h = g .value in
-        let below : h < length image = rw (g .from) at (head-below image (omega (arith, size .two))) in
-        let begins : (h % 8 ≡ 0) × Low (getD image h 0) = rw (g .from) at head-begins in
-        let p = passed (legal image (reading-from image h)) 5 (reading-from image h) r (g .on) in
-        let led : Led image h = record {
-          even = begins .0;
-          inside = below;
-          low = begins .1;
-          eights = omega (arith, size .sectors);
-          long = omega (arith, size .two);
-          small = size .most;
-        } in
-        let same : r .place .head ≡ h = ap (λ (x : Reading). x .place .head) (sym (p .1)) ∙ stands image h led .head in
-        let again : r ≡ reading-from image (r .place .head) = sym (p .1) ∙ ap (reading-from image) (sym same) in
-        (record { led = rw same led; same = ap (λ (x : Reading). x .place) again }, again)
-
-    pub settled-headed : give r ≡ settled-reading image → Headed image (r .place) × (r ≡ reading-from image (r .place .head))
-    unfolding settled-reading if-settled
-    settled-headed e =
-        let g = gave (reading image) (if-settled image) r (sym e) in
-        let p = passed (settled image (g .value)) 16 (g .value) r (g .on) in
-        read-headed (g .from ∙ ap give (p .1))
+  pub head-begins : (h : ℕ) → head image ≡ give h → Begins image h
+  head-begins h e = rw e at head-begun

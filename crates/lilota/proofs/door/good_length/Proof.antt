@@ -1,8 +1,8 @@
 -- By the two tests that the definition makes.
 use borrow.Author.Tests.{eq-eqb, ne-eqb, le-leb, lt-leb}
 use Rattle.spec.specs.Geometry.{good-length}
-use Rattle.lilota.proofs.good_length.Statement.{statement}
-use Rattle.lilota.proofs.good_length.Tie as tie
+use Rattle.lilota.proofs.door.good_length.Statement.{statement}
+use Rattle.lilota.proofs.door.good_length.Tie as tie
 
 returns : tie.Need-returns
 unfolding good-length

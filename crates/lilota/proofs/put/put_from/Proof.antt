@@ -4,16 +4,18 @@ use mathlib.Core.Bool.{true, false}
 use lib.ListN.{length}
 use Rattle.record.specs.Suffix.{flag}
 use Rattle.reading.specs.Read.{reading-of}
-use Rattle.lilota.specs.Carry.{carried, refused}
+use Rattle.spec.specs.Basics.{numbered}
+use Rattle.lilota.specs.Numbers.{no-room}
+use Rattle.lilota.specs.Carry.{carried, refused, spent-told}
 use Rattle.lilota.specs.Put.{room-fits, put-room}
 use borrow.Author.Needs.{needs}
-use Rattle.lilota.proofs.put.put_into.Statement.{statement}
-use Rattle.lilota.proofs.put.put_into.Tie as tie
+use Rattle.lilota.proofs.put.put_from.Statement.{statement}
+use Rattle.lilota.proofs.put.put_from.Tie as tie
 
 has-room-requires : tie.Need-has-room-requires
 has-room-requires c κs =
     let p = c .before .before .before .before .pre in
-    (record { surveyed = p .0 .surveyed; quiet = p .0 .quiet }, p .1)
+    (record { surveyed = p .0 .accepted .surveyed; quiet = p .0 .quiet }, p .1)
 
 replace-requires : tie.Need-replace-requires
 replace-requires c κs =
@@ -33,8 +35,11 @@ returns c =
     let c5 = c .before .before .before .before .before in let c6 = c5 .before in
     let a = c6 .before .before .before .before .before .args in
     let roomy = sym (flag (c6 .has-room .ensures) (c5 .if1 .taken)) in
-    rw (c .ended .ensures) (carried (a .allowance) refl refl (c .before .before .before .replace .ensures)
-    ∙ put-room (a .image .now) (a .allowance) (a .name .now) (a .content .now) (reading-of (a .image .now) (a .s)) true roomy)
+    rw (c .ended .ensures) (
+      carried (a .allowance) refl refl (c .before .before .before .replace .ensures)
+          ∙ put-room (a .image .now) (a .allowance) (a .name .now) (a .content .now) (reading-of (a .image .now) (a .s)) true roomy,
+      spent-told (c .before .before .before .replace .result),
+    )
 
 same-length-2 : tie.Need-same-length-2
 same-length-2 c = search needs
@@ -42,12 +47,14 @@ same-length-2 c = search needs
 returns-2 : tie.Need-returns-2
 returns-2 c =
     let a = c .before .before .before .before .before .before .args in
-    let full = sym (flag (c .before .has-room .ensures) (c .if1 .left)) in
-    refused (a .image .now) (a .allowance) 28
-    ∙ put-room (a .image .now) (a .allowance) (a .name .now) (a .content .now) (reading-of (a .image .now) (a .s)) false full
+    let full = sym (flag (c .before .has-room .ensures) (c .if1 .left)) in (
+      refused (a .image .now) (a .allowance) (numbered 28)
+          ∙ put-room (a .image .now) (a .allowance) (a .name .now) (a .content .now) (reading-of (a .image .now) (a .s)) false full,
+      no-room,
+    )
 
-pub put-into-spec : {M : Type 1} → statement M
-put-into-spec =
+pub put-from-spec : {M : Type 1} → statement M
+put-from-spec =
     tie.close
     (tie.spec
     has-room-requires

@@ -10,17 +10,18 @@ use Rattle.spec.specs.Step.{Image}
 use Rattle.spec.specs.Record.{size-of, Entry}
 use Rattle.spec.specs.Chain.{Reading, reading-from}
 use Rattle.spec.specs.Reading.{limit}
+use Rattle.laws.specs.Head.{Low}
 use Rattle.reading.specs.declared.Cursor.{Cursor}
 use Rattle.reading.specs.declared.Spot.{Spot}
 use Rattle.reading.specs.declared.Step.{Step}
 use Rattle.reading.specs.Cursor.{advance, Inside, Sound}
 use Rattle.reading.specs.Rest.{Run, rest}
 use Rattle.reading.specs.Bridge.{shown, reading-is}
 use Rattle.reading.specs.Fold.{Turned, turned}
 use Rattle.reading.specs.Read.{first-cursor}
 use Rattle.reading.specs.Survey.{first-sound}
-use Rattle.sweeping.specs.Way.{On, Lands, Ends-on, never, ends-on, reached}
-use Rattle.sweeping.specs.First.{Low, first-at, past-on-way}
+use Rattle.reading.specs.Way.{On, Lands, Ends-on, never, ends-on, reached}
+use Rattle.reading.specs.FirstRecord.{first-at, past-on-way}
 
 -- a head stands at h, in an image of whole eights
 pub record Led (s : Image) (h : ℕ) : Type 0 where
