@@ -5,11 +5,12 @@ use mathlib.Core.Bool.{Bool, true, false, not}
 use mathlib.Core.List.{List, [], _∷_}
 use Rattle.spec.specs.Step.{Image}
 use Rattle.spec.specs.Basics.{Each}
-use Rattle.spec.specs.Answers.{Numbers}
+use Rattle.spec.specs.Answers.{Numbers, Outcome}
 use Rattle.spec.specs.History.{Request, Call, outcome, steps-left, next-byte, File, Ledger, is-named, has, not-named, without, with-file}
 use Rattle.spec.specs.History.{put-done, remove-done, fed, ledger}
 use Rattle.spec.specs.Demand.{Distinct, Maps}
-use Rattle.history.specs.Lists.{any-none, any-none-each, keep-yes, keep-no, each-keep, each-all, each-map, each-both, first-yes, first-no}
+use Rattle.history.specs.Lists.{any-none, any-none-each, keep-yes, keep-no, each-keep, each-all, each-map, each-both}
+use Rattle.history.specs.Lists.{first-yes, first-no}
 use Rattle.history.specs.Store.{same-sym}
 use Rattle.history.specs.OkLaws.{same-refl}
 
@@ -32,6 +33,7 @@ still-without m n l h =
     any-none (is-named m) (without n l)
     (each-keep (λ f. is-named m f ≡ false) (not-named n) l (each-map l (λ f e k. e) (any-none-each (is-named m) l h)))
 
+-- the others' names are still distinct
 without-distinct : (n : List ℕ) (l : Ledger) → Distinct l → Distinct (without n l)
 without-distinct n [] d = tt
 without-distinct n (f ∷ l) d = go (not-named n f) refl (without-distinct n l (d .1))
@@ -42,6 +44,7 @@ without-distinct n (f ∷ l) d = go (not-named n f) refl (without-distinct n l (
 
 -- ---- a call, and all calls
 
+-- one ledger or another
 either : (b : Bool) (l m : Ledger) → Distinct l → Distinct m → Distinct (elim b as (λ b. Ledger) [ true ↦ l | false ↦ m ])
 either true l m d e = d
 either false l m d e = e
@@ -56,12 +59,13 @@ fed-distinct im Request.mount n v l d = d
 fed-distinct im (Request.get name) n v l d = d
 fed-distinct im (Request.list index) n v l d = d
 
--- the ledger behind all calls has no name twice, if the one before them has none
+-- the names of the ledger behind all calls are distinct, if those before them are
 pub ledger-distinct : (im : Image) (cs : List Call) (l : Ledger) → Distinct l → Distinct (ledger im cs l)
 ledger-distinct im [] l d = d
 ledger-distinct im (c ∷ cs) l d =
-    ledger-distinct (outcome im c .image) cs (fed im (c .request) (outcome im c .numbers) (next-byte (steps-left im c) (outcome im c .image)) l)
-    (fed-distinct im (c .request) (outcome im c .numbers) (next-byte (steps-left im c) (outcome im c .image)) l d)
+    let o : Outcome = outcome im c in
+    let v : ℕ = next-byte (steps-left im c) (o .image) in
+    ledger-distinct (o .image) cs (fed im (c .request) (o .numbers) v l) (fed-distinct im (c .request) (o .numbers) v l d)
 
 -- ---- names to files
 

@@ -1,15 +1,15 @@
--- On a rested image list and get give the ledger's files: each entry's bytes are read where it stands, and no two live entries have one name.
+-- On a rested image list and get give the ledger's files and no others: each entry's bytes are read where it stands, and no two live
+-- entries have one name.
 use Prim.Native.Nat.{ℕ, zero, suc, _+_, _≤_, _<_}
 use native.Mathlib.Omega.{arith}
-use native.Mathlib.Nat.{not-suc-le-zero}
 use mathlib.Core.Path.{_≡_, refl, sym, ap, _∙_, subst}
 use mathlib.Core.Bool.{Bool, true, false}
 use mathlib.Core.Option.{Option, none, some}
-use mathlib.Core.List.{List, [], _∷_, _++_, map, append-assoc, Permᴰ·symm}
+use mathlib.Core.List.{List, [], _∷_, _++_, map, Permᴰ·symm}
 use lib.ListN.{length, take, drop, getElem?}
 use lib.Seq.{drop-drop}
 use Rattle.spec.specs.Step.{Image}
-use Rattle.spec.specs.Basics.{Answer, refuse, give, same, any, keep, first-such, Each}
+use Rattle.spec.specs.Basics.{Answer, refuse, give, same, keep, first-such, Each}
 use Rattle.spec.specs.Geometry.{up8}
 use Rattle.spec.specs.Record.{name-ok, rec-of, Rec, Entry, name-of, content-of, data-at}
 use Rattle.spec.specs.Chain.{Reading}
@@ -19,6 +19,7 @@ use Rattle.spec.specs.Answers.{list, part-of}
 use Rattle.spec.specs.History.{File, Ledger, is-named, has}
 use Rattle.spec.specs.Demand.{Distinct, Maps, Lists, Listed, Indexed, Got, Shows}
 use Rattle.history.specs.Lists.{Pairwise, keep-yes, keep-no, each-map, first-yes, first-no, not-both, each-keep, any-none-each}
+use Rattle.history.specs.Indexes.{each-index, index-each, each-split, index-below, at-index, past-end}
 use Rattle.history.specs.Store.{alive, Unique, files-alive}
 use Rattle.history.specs.Ledger.{as-file, perm-each, perm-length}
 use Rattle.history.specs.Lay.{onto, rec-of-onto, drop-past}
@@ -29,42 +30,7 @@ use Rattle.history.specs.OkLaws.{same-refl, Old, old-none, old-some, old
 use Rattle.history.specs.DistinctNames.{maps-each}
 use Rattle.history.specs.Settled.{rested-settled}
 
--- ---- elements by their index
-
-module _ {A : Type 0} where
-  -- what holds of each element at its index
-  each-index : (P : A → Type 0) (xs : List A) → ((i : ℕ) (x : A) → getElem? xs i ≡ some x → P x) → Each P xs
-  each-index P [] f = tt
-  each-index P (x ∷ xs) f = (f 0 x refl, each-index P xs (λ i y e. f (suc i) y e))
-
-  index-each : (P : A → Type 0) (xs : List A) (i : ℕ) (x : A) → getElem? xs i ≡ some x → Each P xs → P x
-  index-each P [] i x e h = absurd (let z : _≡_ {A = ℕ} 0 1 = cc in omega arith)
-  index-each P (y ∷ xs) zero x e h = subst P (some-is y x e) (h .0)
-    where
-      some-is : (a b : A) → some a ≡ some b → a ≡ b
-      some-is a b e = cc
-  index-each P (y ∷ xs) (suc i) x e h = index-each P xs i x e (h .1)
-
-  -- what holds of each element among the others
-  each-split : (P : A → Type 0) (zs xs : List A) → ((before behind : List A) (x : A) → zs ++ xs ≡ before ++ (x ∷ behind) → P x) → Each P xs
-  each-split P zs [] f = tt
-  each-split P zs (x ∷ xs) f =
-      (f zs xs x refl, each-split P (zs ++ (x ∷ [])) xs (λ before behind y e. f before behind y (sym (append-assoc zs (x ∷ []) xs) ∙ e)))
-
-  index-below : (xs : List A) (i : ℕ) (x : A) → getElem? xs i ≡ some x → i < length xs
-  index-below [] i x e = absurd (let z : _≡_ {A = ℕ} 0 1 = cc in omega arith)
-  index-below (y ∷ xs) zero x e = omega arith
-  index-below (y ∷ xs) (suc i) x e = let h = index-below xs i x e in omega arith
-
-  at-index : (xs : List A) (i : ℕ) → i < length xs → (x : A) × (getElem? xs i ≡ some x)
-  at-index [] i h = absurd (not-suc-le-zero h)
-  at-index (y ∷ xs) zero h = (y, refl)
-  at-index (y ∷ xs) (suc i) h = at-index xs i (omega arith)
-
-  past-end : (xs : List A) (i : ℕ) → length xs ≤ i → getElem? xs i ≡ none
-  past-end [] i h = refl
-  past-end (x ∷ xs) zero h = absurd (not-suc-le-zero h)
-  past-end (x ∷ xs) (suc i) h = past-end xs i (omega arith)
+-- ---- entries as files
 
 length-map : (es : List Entry) → length (map as-file es) ≡ length es
 length-map [] = refl
@@ -88,15 +54,19 @@ live-names [] u = tt
 live-names (e ∷ es) u = go (alive e) refl (live-names es (u .1))
   where
     go : (b : Bool) → alive e ≡ b → Pairwise Names-differ (keep alive es) → Pairwise Names-differ (keep alive (e ∷ es))
-    go true k i = subst (Pairwise Names-differ) (sym (keep-yes alive e es k)) (each-keep (Names-differ e) alive es (each-map es (λ f h q. h k q) (u .0)), i)
+    go true k i =
+        subst (Pairwise Names-differ) (sym (keep-yes alive e es k))
+        (each-keep (Names-differ e) alive es (each-map es (λ f h q. h k q) (u .0)), i)
     go false k i = subst (Pairwise Names-differ) (sym (keep-no alive e es k)) i
 
-first-at : (fs : List Entry) (i : ℕ) (e : Entry) → Pairwise Names-differ fs → getElem? fs i ≡ some e → first-such (has-name (name-of e)) fs ≡ some e
+first-at : (fs : List Entry) (i : ℕ) (e : Entry) → Pairwise Names-differ fs → getElem? fs i ≡ some e
+    → first-such (has-name (name-of e)) fs ≡ some e
 first-at [] i e d h = absurd (let z : _≡_ {A = ℕ} 0 1 = cc in omega arith)
 first-at (x ∷ fs) zero e d h =
     let p : x ≡ e = cc in
     first-yes (has-name (name-of e)) x fs (ap (λ (y : Entry). same (name-of y) (name-of e)) p ∙ same-refl (name-of e)) ∙ ap some p
-first-at (x ∷ fs) (suc i) e d h = first-no (has-name (name-of e)) x fs (index-each (Names-differ x) fs i e h (d .0)) ∙ first-at fs i e (d .1) h
+first-at (x ∷ fs) (suc i) e d h =
+    first-no (has-name (name-of e)) x fs (index-each (Names-differ x) fs i e h (d .0)) ∙ first-at fs i e (d .1) h
 
 same-index : (fs : List Entry) (i j : ℕ) (e f : Entry) → Pairwise Names-differ fs → getElem? fs i ≡ some e → getElem? fs j ≡ some f
     → name-of e ≡ name-of f → i ≡ j
@@ -252,12 +222,14 @@ module _ {l : Ledger} {im : Image} {r : Reading} (q : Rested l im r) where
   unfolding fs
   over P h = perm-each P (q .ok .matches) (each-map-file P (keep alive (q .es)) h)
 
+  -- the ledger maps each entry's name to its content
   maps-at : Distinct l → (i : ℕ) (e : Entry) → getElem? fs i ≡ some e → Maps l (as-file e)
   unfolding fs
   maps-at d i e f =
       index-each (λ e. Maps l (as-file e)) fs i e f
       (map-each-file (Maps l) (keep alive (q .es)) (perm-each (Maps l) (Permᴰ·symm (q .ok .matches)) (maps-each l d)))
 
+  -- an index below the count has a file of the ledger
   indexed-at : Distinct l → (i : ℕ) → i < length fs → Indexed im l i
   indexed-at d i h =
       let x = at-index fs i h in
@@ -268,6 +240,7 @@ module _ {l : Ledger} {im : Image} {r : Reading} (q : Rested l im r) where
         size = size-at i (x .0) (x .1);
       }
 
+  -- one that is not below it has none
   list-beyond : (i : ℕ) → length fs ≤ i → list im i .numbers .answer ≡ 2
   list-beyond i h =
       ap (λ (p : Answer Plan). carry-out im 0 p .numbers .answer)

@@ -14,7 +14,8 @@ use Rattle.spec.specs.History.{File, Ledger, is-named, has, ledger}
 abbrev pub Clears : ℕ → ℕ → Type 0
 Clears found listed = bitAnd listed found ≡ listed
 
--- what may be asked of the step of a list: the byte that a program step finds is there, and loses bits only; an erase takes a sector of the image
+-- what may be asked of the step of a list: the byte that a program step finds is there, and loses bits only; an erase takes a sector of
+-- the image
 abbrev pub Sound : Image → Step → Type 0
 Sound image (program a b) = (a < length image) × Clears (getD image a 0) b
 Sound image (erase a) = (a % 4096 ≡ 0) × (a + 4096 ≤ length image)
@@ -36,13 +37,13 @@ only-looks (Request.get name) = true
 only-looks (Request.list index) = true
 
 -- a call, on the image that it gets. "each program step in it .. stands in one of the step lists above" by definition: the steps done are
--- the first of its plan's. It leaves the "image as after those steps", but for the byte of the next one, which a cut inside it may have
--- programmed in part; it reports these steps as "steps used"
+-- the first of its plan's. These and no others: it leaves the "image as after those steps", where a cut inside the next one may have
+-- programmed its byte in part, and reports as many "steps used"
 pub record Call-done (image : Image) (c : Call) : Type 0 where
   pub sound : Steps-sound image (steps-done image c)
   pub leaves : outcome image c .image ≡ partly (c .held) (steps-left image c) (run image (steps-done image c))
   pub reports : outcome image c .numbers .steps ≡ length (steps-done image c)
-  pub looks : only-looks (c .request) ≡ true → outcome image c .image ≡ image
+  pub unchanged : only-looks (c .request) ≡ true → outcome image c .image ≡ image
 
 -- so of each call of a history
 abbrev pub Calls-done : Image → List Call → Type 0
@@ -51,7 +52,7 @@ Calls-done image (c ∷ cs) = Call-done image c × Calls-done (outcome image c .
 
 -- ---- the names of the ledger
 
--- no name twice
+-- no name stands twice, so a ledger's length is "the number of names in the ledger"
 abbrev pub Distinct : Ledger → Type 0
 Distinct [] = Unit {0}
 Distinct (f ∷ l) = (has (f .name) l ≡ false) × Distinct l
@@ -74,7 +75,7 @@ pub record Listed (image : Image) (count : ℕ) (f : File) : Type 0 where
   pub size : list image index .numbers .third ≡ length (f .content)
   pub once : (i : ℕ) → i < count → Lists image i (f .name) → i ≡ index
 
--- and no other name: what list gives at this index is a file of the ledger
+-- and no other name "at the indexes below that count": what list gives at this one is a file of the ledger
 pub record Indexed (image : Image) (l : Ledger) (i : ℕ) : Type 0 where
   pub file : File
   pub mapped : Maps l file
@@ -96,7 +97,8 @@ pub record Shows (image : Image) (count : ℕ) (l : Ledger) : Type 0 where
   pub got : Each (Got image) l
   pub others : (name : List ℕ) → name-ok name ≡ true → has name l ≡ false → get image name .numbers .answer ≡ 2
 
--- "That mount, with an allowance of at least its need, answers 0. Its count of live files is the number of names in the ledger. On the image that it leaves, .."
+-- "That mount, with an allowance of at least its need, answers 0. Its count of live files is the number of names in the ledger. On the
+-- image that it leaves, ..": the image after all its steps
 pub record Mounted (image : Image) (k : ℕ) (l : Ledger) : Type 0 where
   pub answer : mount image k .numbers .answer ≡ 0
   pub leaves : mount image k .image ≡ run image (steps-of (mount-plan image))
@@ -121,7 +123,8 @@ Bytes-put Request.mount = Unit {0}
 Bytes-put (Request.get name) = Unit {0}
 Bytes-put (Request.list index) = Unit {0}
 
--- Demand 3, "a single claim about the whole history": "it starts from the image that a format with answer 0 left"; the ledger "starts empty"
+-- Demand 3, "a single claim about the whole history": "it starts from the image that a format with answer 0 left"; the ledger
+-- "starts empty"
 abbrev pub Demand-3 : Type 0
 Demand-3 =
     (raw : Image) (k : ℕ) (calls : List Call) → format raw k .numbers .answer ≡ 0 → Each (λ c. Bytes-put (c .request)) calls →
