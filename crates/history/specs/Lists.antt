@@ -67,6 +67,16 @@ module _ {A : Type 0} where
   any-none p [] h = refl
   any-none p (x ∷ xs) h = any-no p x xs (h .0) ∙ any-none p xs (h .1)
 
+  -- none passes, so each does not
+  pub any-none-each : (p : A → Bool) (xs : List A) → any p xs ≡ false → Each (λ x. p x ≡ false) xs
+  any-none-each p [] h = tt
+  any-none-each p (x ∷ xs) h = go (p x) refl h (any-none-each p xs)
+    where
+      go : (b : Bool) → p x ≡ b → elim b as (λ b. Bool) [ true ↦ true | false ↦ any p xs ] ≡ false
+          → (any p xs ≡ false → Each (λ x. p x ≡ false) xs) → Each (λ x. p x ≡ false) (x ∷ xs)
+      go true k e f = absurd (let z : _≡_ {A = ℕ} 0 1 = cc in omega arith)
+      go false k e f = (k, f e)
+
   -- from one fact to another, on each
   pub each-map : {P Q : A → Type 0} (xs : List A) → ((x : A) → P x → Q x) → Each P xs → Each Q xs
   each-map [] f h = tt
