@@ -37,7 +37,7 @@ pub call-done : (im : Image) (c : Call) → Steps-sound im (steps-done im c) →
 call-done im c s =
     record {
       sound = s;
-      leaves = ap (partly (c .held) (steps-left im c)) (carried-image im (c .allowance) (plan im (c .request)));
+      leaves = ap (partly (c .cut-byte) (steps-left im c)) (carried-image im (c .allowance) (plan im (c .request)));
       reports = used-exact im (c .allowance) (plan im (c .request)) (plan-counts im (c .request));
-      unchanged = λ h. none-left im (c .allowance) (c .held) (plan im (c .request)) (looks-none im (c .request) h);
+      unchanged = λ h. none-left im (c .allowance) (c .cut-byte) (plan im (c .request)) (looks-none im (c .request) h);
     }

@@ -26,7 +26,7 @@ ghost use Rattle.spec.specs.Write.{put-steps};
 ghost use Rattle.spec.specs.Numbers.{outcome-of};
 ghost use Rattle.spec.specs.Answers.{carry-out, put-into, put};
 ghost use Rattle.flash.specs.Did.{Did};
-ghost use Rattle.reading.specs.Cursor.{Sound};
+ghost use Rattle.reading.specs.Cursor.{Cursor-sound};
 ghost use Rattle.reading.specs.Rest.{rest};
 ghost use Rattle.reading.specs.FileLaws.{is-file};
 ghost use Rattle.reading.specs.Read.{reading-of};
@@ -36,7 +36,7 @@ ghost use Rattle.lilota.specs.Numbers.{written, Written-told};
 
 // The file that a put of this name replaces.
 fn old_file(image: &[u8], start: Cursor, name: &[u8]) -> Old
-    requires { ⌜ Sound (now image) start ⌝ }
+    requires { ⌜ Cursor-sound (now image) start ⌝ }
     ensures { λ r. ⌜ (r ≡ old-of (first-such (has-name (now (name .entry))) (keep is-file (rest (now (image .entry)) start .entries))))
         × Lies r (length (now (image .entry))) ⌝ }
 {

@@ -11,7 +11,7 @@ use Rattle.spec.specs.Head.{head}
 use Rattle.spec.specs.Chain.{Reading, reading-from}
 use Rattle.spec.specs.Files.{superseded}
 use Rattle.spec.specs.Reading.{legal, judged, read-at, reading}
-use Rattle.spec.specs.Placed.{Sound}
+use Rattle.spec.specs.Placed.{Place-sound}
 use Rattle.laws.specs.Answer.{gave, passed}
 use Rattle.laws.specs.Length.{good}
 use Rattle.laws.specs.Head.{head-begins}
@@ -57,7 +57,7 @@ module _ (image : Image) (s : Survey) (n : good-length (length image) ≡ true) 
 -- ---- the place
 
 module _ (image : Image) (s : Survey) (w : Accepted image s) where
-  pub place-sound : Sound (s .place)
+  pub place-sound : Place-sound (s .place)
   place-sound =
       record {
         inside = omega (arith, w .led .inside, w .surveyed .place .whole);

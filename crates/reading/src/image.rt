@@ -1,8 +1,8 @@
 // The whole reading of an image: the survey from a head on, which repairs and moves go by, and the judgement of its rules.
 use crate::Cursor;
 use crate::Headed;
+use crate::Item;
 use crate::Read;
-use crate::Step;
 use crate::Survey;
 use crate::Tally;
 use crate::chain::start_at;
@@ -46,14 +46,14 @@ fn told(n: usize, h: usize, tail: usize, turned: bool, ending: Ending, tally: Ta
 }
 
 // The chain from h on ends so.
-fn survey_of(n: usize, h: usize, end: Step, t: Tally) -> Survey
+fn survey_of(n: usize, h: usize, end: Item, t: Tally) -> Survey
     ensures { λ r. ⌜ r ≡ survey-of n h end t ⌝ }
 {
     match end {
-        Step::Record(_, _) => told(n, h, 0, false, Ending::Broken, t),
-        Step::End(tail, turned) => told(n, h, tail, turned, Ending::Tail, t),
-        Step::TornWrap(at) => told(n, h, 0, true, Ending::TornWrap(at), t),
-        Step::Broken(tail, turned) => told(n, h, tail, turned, Ending::Broken, t),
+        Item::Record(_, _) => told(n, h, 0, false, Ending::Broken, t),
+        Item::End(tail, turned) => told(n, h, tail, turned, Ending::Tail, t),
+        Item::TornWrap(at) => told(n, h, 0, true, Ending::TornWrap(at), t),
+        Item::Broken(tail, turned) => told(n, h, tail, turned, Ending::Broken, t),
     }
 }
 

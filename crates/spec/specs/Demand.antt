@@ -16,14 +16,14 @@ Clears found listed = bitAnd listed found ≡ listed
 
 -- what may be asked of the step of a list: the byte that a program step finds is there, and loses bits only; an erase takes a sector of
 -- the image
-abbrev pub Sound : Image → Step → Type 0
-Sound image (program a b) = (a < length image) × Clears (getD image a 0) b
-Sound image (erase a) = (a % 4096 ≡ 0) × (a + 4096 ≤ length image)
+abbrev pub Step-sound : Image → Step → Type 0
+Step-sound image (program a b) = (a < length image) × Clears (getD image a 0) b
+Step-sound image (erase a) = (a % 4096 ≡ 0) × (a + 4096 ≤ length image)
 
 -- so of each step of a list
 abbrev pub Steps-sound : Image → List Step → Type 0
 Steps-sound image [] = Unit {0}
-Steps-sound image (s ∷ ss) = Sound image s × Steps-sound (apply image s) ss
+Steps-sound image (s ∷ ss) = Step-sound image s × Steps-sound (apply image s) ss
 
 -- ---- what a call does
 
@@ -41,7 +41,7 @@ only-looks (Request.list index) = true
 -- programmed its byte in part, and reports as many "steps used"
 pub record Call-done (image : Image) (c : Call) : Type 0 where
   pub sound : Steps-sound image (steps-done image c)
-  pub leaves : outcome image c .image ≡ partly (c .held) (steps-left image c) (run image (steps-done image c))
+  pub leaves : outcome image c .image ≡ partly (c .cut-byte) (steps-left image c) (run image (steps-done image c))
   pub reports : outcome image c .numbers .steps ≡ length (steps-done image c)
   pub unchanged : only-looks (c .request) ≡ true → outcome image c .image ≡ image
 
@@ -104,7 +104,7 @@ pub record Mounted (image : Image) (k : ℕ) (l : Ledger) : Type 0 where
   pub leaves : mount image k .image ≡ run image (steps-of (mount-plan image))
   pub shows : Shows (mount image k .image) (mount image k .numbers .report .files) l
 
--- all of it, for a history, cut inside bytes too (`held` in Call), that begins at `start`, leaves `image` and has the ledger `l`;
+-- all of it, for a history, cut inside bytes too (`cut-byte` in Call), that begins at `start`, leaves `image` and has the ledger `l`;
 -- a mount with a smaller allowance does the first of the same steps
 pub record Kept (start : Image) (calls : List Call) (image : Image) (l : Ledger) : Type 0 where
   pub done : Calls-done start calls

@@ -11,7 +11,7 @@ use lib.ListN.{length, take, drop, getD, length-append}
 use lib.Seq.{getD-take, getD-drop}
 use Rattle.spec.specs.declared.Place.{Place}
 use Rattle.spec.specs.Geometry.{up8}
-use Rattle.spec.specs.Step.{Image, Step, program, bytes-at, moved}
+use Rattle.spec.specs.Step.{Image, Step, program, bytes-at, shifted}
 use Rattle.spec.specs.Bytes.{is-committed}
 use Rattle.spec.specs.Record.{four, size-of, size, Entry, name-of, content-of}
 use Rattle.spec.specs.Place.{fits, address, with-marker}
@@ -19,7 +19,7 @@ use Rattle.spec.specs.Write.{name-end-steps, marker-steps, header-steps, name-s
 use Rattle.flash.specs.declared.Meter.{Meter}
 use Rattle.flash.specs.Did.{Did}
 use Rattle.writing.specs.Steps.{record-count}
-use Rattle.writing.specs.Kept.{Off, Avoids, avoids-append, kept, Inside, inside-bytes, inside-append, inside-moved, inside-avoids}
+use Rattle.writing.specs.Kept.{Off, Avoids, avoids-append, kept, Inside, inside-bytes, inside-append, inside-shifted, inside-avoids}
 use Rattle.writing.specs.Room.{marker-before-turn}
 use Rattle.writing.specs.Head.{copy-of, HeadEnds, copy-apart}
 
@@ -33,7 +33,7 @@ migrate-few x = go (is-committed (x .it .status)) where
 
 turn-few : (p : Place) (z : ℕ) → length (turn-steps p z) ≤ 3
 turn-few p z = go (with-marker p z) where
-  go : (t : Bool) → length {A = Step} (elim t [ true ↦ moved (p .tail) marker-steps | false ↦ [] ]) ≤ 3
+  go : (t : Bool) → length {A = Step} (elim t [ true ↦ shifted (p .tail) marker-steps | false ↦ [] ]) ≤ 3
   go true = omega arith
   go false = omega arith
 
@@ -41,7 +41,7 @@ pub copy-few : (p : Place) (x : Entry) → length (copy-of p x) ≤ length (name
 unfolding put-steps
 copy-few p x =
     let z : ℕ = size x in
-    let written : List Step = moved (address p z) (record-steps (name-of x) (content-of x)) in
+    let written : List Step = shifted (address p z) (record-steps (name-of x) (content-of x)) in
     let end : List Step = delete-steps (some x) in
     omega (
       arith,
@@ -63,7 +63,7 @@ migrate-avoids x = go (is-committed (x .it .status)) where
 
 turn-avoids : (p : Place) (z h : ℕ) → (with-marker p z ≡ true → h + 1 ≤ p .tail) → Avoids h 1 (turn-steps p z)
 turn-avoids p z h l = go (with-marker p z) l where
-  go : (t : Bool) → (t ≡ true → h + 1 ≤ p .tail) → Avoids h 1 (elim t [ true ↦ moved (p .tail) marker-steps | false ↦ [] ])
+  go : (t : Bool) → (t ≡ true → h + 1 ≤ p .tail) → Avoids h 1 (elim t [ true ↦ shifted (p .tail) marker-steps | false ↦ [] ])
   go true l = let k = l refl in (inr (omega arith), (inr (omega arith), (inr (omega arith), tt)))
   go false l = tt
 
@@ -93,13 +93,13 @@ copy-avoids p x e h f =
     let a : ℕ = address p z in
     let off : Off (a + 0) (a + z) (x .at) 1 = ⊎-elim (λ (l : p .head + z ≤ a). inl (omega arith)) (λ (l : a + z ≤ p .head). inr (omega arith))
     (copy-apart p z h f) in
-    let written : List Step = moved a (record-steps (name-of x) (content-of x)) in
+    let written : List Step = shifted a (record-steps (name-of x) (content-of x)) in
     let marked : with-marker p z ≡ true → x .at + 1 ≤ p .tail = λ m. omega (arith, h .before (marker-before-turn p z f m .0)) in
     avoids-append (x .at) 1 (migrate-steps (some x)) (turn-steps p z ++ (written ++ delete-steps (some x))) (migrate-avoids x)
     (avoids-append (x .at) 1 (turn-steps p z) (written ++ delete-steps (some x)) (turn-avoids p z (x .at) marked)
     (avoids-append (x .at) 1 written (delete-steps (some x))
     (inside-avoids (a + 0) (a + z) (x .at) 1 written off
-    (inside-moved a 0 z (record-steps (name-of x) (content-of x)) (inside-record (name-of x) (content-of x) z refl)))
+    (inside-shifted a 0 z (record-steps (name-of x) (content-of x)) (inside-record (name-of x) (content-of x) z refl)))
     (inr (omega arith), tt)))
 
 one-kept : {s t : Image} {m r : Meter} {ss : List Step} (h : ℕ) → Did s m ss t r → Avoids h 1 ss → getD t h 0 ≡ getD s h 0
