@@ -53,6 +53,8 @@ pub next-short : (s : List ℕ) → (length s ≡ 0 → ⊥) → length s < 8 �
 unfolding next
 next-short s h l = rw (next, long-le 1 s (omega arith), long-lt 8 s l)
 
-pub next-arm : (s : List ℕ) (k t : Kind) → 8 ≤ length s → k ≡ kind (low-of s) (high-of s) (status-of s) (spare-of s) → k ≡ t → next-at t s ≡ next s
+-- what stands there is told by the kind; st: the status as the code holds it
+pub next-arm : (s : List ℕ) (st : ℕ) (k t : Kind) → 8 ≤ length s → st ≡ status-of s → k ≡ kind (low-of s) (high-of s) st (spare-of s) → k ≡ t
+    → next-at t s ≡ next s
 unfolding next
-next-arm s k t l e f = rw (next, long-le 1 s (omega arith), long-le 8 s l, sym e, f)
+next-arm s st k t l es e f = rw (next, long-le 1 s (omega arith), long-le 8 s l, sym es, sym e, f)
