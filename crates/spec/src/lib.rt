@@ -93,7 +93,7 @@ impl Place {
         Placed::Full
     }
 
-    // The same with another tail.
+    // The same place with another tail, turned or not.
     fn with_tail(self, tail: usize, turned: bool) -> Place
         ensures { λ r. ⌜ r ≡ with-tail self tail turned ⌝ }
     {

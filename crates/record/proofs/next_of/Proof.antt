@@ -79,13 +79,23 @@ enum-told-7 c = search needs
 -- the place where the kind is known
 abbrev Known : Type 0
 Known =
-    lts.After-kind-of
-    (
-      from-byte-reads.Asked, from-byte-reads.Learnt, kind-of-reads.Asked, kind-of-reads.Learnt, record-of-reads.Asked, record-of-reads.Learnt,
-      torn-of-reads.Asked, torn-of-reads.Learnt, torn-wrap-of-reads.Asked, torn-wrap-of-reads.Learnt, clear-of-reads.Asked, clear-of-reads.Learnt,
+    lts.After-kind-of (
+      from-byte-reads.Asked,
+      from-byte-reads.Learnt,
+      kind-of-reads.Asked,
+      kind-of-reads.Learnt,
+      record-of-reads.Asked,
+      record-of-reads.Learnt,
+      torn-of-reads.Asked,
+      torn-of-reads.Learnt,
+      torn-wrap-of-reads.Asked,
+      torn-wrap-of-reads.Learnt,
+      clear-of-reads.Asked,
+      clear-of-reads.Learnt,
     )
     reads.Pre reads.Post
 
+-- what stands there, by the arm of the kind
 arm : (k : Known) (t : Kind) → k .kind-of .result ≡ t
     → let s = k .before .before .before .before .before .before .before .before .before .args .part .now in next-at t s ≡ next s
 arm k t e =
@@ -94,15 +104,21 @@ arm k t e =
 
 returns-3 : tie.Need-returns-3
 unfolding next-at
-returns-3 c = (c .record-of .ensures .0 ∙ arm (c .before .before .before) Kind.Record (c .before .enum-told .given .1), c .record-of .ensures .1)
+returns-3 c =
+    let k = c .before .before .before in
+    (c .record-of .ensures .0 ∙ arm k Kind.Record (c .before .enum-told .given .1), c .record-of .ensures .1)
 
 returns-4 : tie.Need-returns-4
 unfolding next-at
-returns-4 c = (c .record-of2 .ensures .0 ∙ arm (c .before .before .before) Kind.Reserved (c .before .enum-told2 .given .1), c .record-of2 .ensures .1)
+returns-4 c =
+    let k = c .before .before .before in
+    (c .record-of2 .ensures .0 ∙ arm k Kind.Reserved (c .before .enum-told2 .given .1), c .record-of2 .ensures .1)
 
 returns-5 : tie.Need-returns-5
 unfolding next-at
-returns-5 c = (c .torn-of .ensures .0 ∙ arm (c .before .before .before) Kind.Torn (c .before .enum-told3 .given .1), c .torn-of .ensures .1)
+returns-5 c =
+    let k = c .before .before .before in
+    (c .torn-of .ensures .0 ∙ arm k Kind.Torn (c .before .enum-told3 .given .1), c .torn-of .ensures .1)
 
 returns-6 : tie.Need-returns-6
 unfolding next-at
@@ -110,11 +126,15 @@ returns-6 c = (arm (c .before .before) Kind.Marker (c .enum-told4 .given .1), tt
 
 returns-7 : tie.Need-returns-7
 unfolding next-at
-returns-7 c = (c .torn-wrap-of .ensures .0 ∙ arm (c .before .before .before) Kind.TornMarker (c .before .enum-told5 .given .1), c .torn-wrap-of .ensures .1)
+returns-7 c =
+    let k = c .before .before .before in
+    (c .torn-wrap-of .ensures .0 ∙ arm k Kind.TornMarker (c .before .enum-told5 .given .1), c .torn-wrap-of .ensures .1)
 
 returns-8 : tie.Need-returns-8
 unfolding next-at
-returns-8 c = (c .clear-of .ensures .0 ∙ arm (c .before .before .before) Kind.Clear (c .before .enum-told6 .given .1), c .clear-of .ensures .1)
+returns-8 c =
+    let k = c .before .before .before in
+    (c .clear-of .ensures .0 ∙ arm k Kind.Clear (c .before .enum-told6 .given .1), c .clear-of .ensures .1)
 
 returns-9 : tie.Need-returns-9
 unfolding next-at

@@ -21,15 +21,16 @@ all-printable-requires : tie.Need-all-printable-requires
 all-printable-requires c κs = search needs
 
 -- the flag behind the first two tests
-first-two : (j : lts.Joined1 (all-printable-reads.Asked, all-printable-reads.Learnt, last-is-slash-reads.Asked, last-is-slash-reads.Learnt)
-    reads.Pre reads.Post)
-    → j .if1 .if2 ≡ (leb 1 (length (j .before .before .args .name .now)) && leb (length (j .before .before .args .name .now)) 63)
+first-two : (j : lts.Joined1
+    (all-printable-reads.Asked, all-printable-reads.Learnt, last-is-slash-reads.Asked, last-is-slash-reads.Learnt) reads.Pre reads.Post)
+    → let n = j .before .before .args .name .now in j .if1 .if2 ≡ (leb 1 (length n) && leb (length n) 63)
 first-two j =
-    ⊎-elim (λ w. w .1 ∙ and-taken refl (le-leb _ _ (w .0 .taken)) refl) (λ w. w .1 ∙ and-left refl _ (lt-leb _ _ (w .0 .left))) (j .if1 .came)
+    ⊎-elim (λ w. w .1 ∙ and-taken refl (le-leb _ _ (w .0 .taken)) refl) (λ w. w .1 ∙ and-left refl _ (lt-leb _ _ (w .0 .left)))
+    (j .if1 .came)
 
 -- and behind the third
-first-three : (j : lts.Joined2 (all-printable-reads.Asked, all-printable-reads.Learnt, last-is-slash-reads.Asked, last-is-slash-reads.Learnt)
-    reads.Pre reads.Post)
+first-three : (j : lts.Joined2
+    (all-printable-reads.Asked, all-printable-reads.Learnt, last-is-slash-reads.Asked, last-is-slash-reads.Learnt) reads.Pre reads.Post)
     → let n = j .before .before .before .args .name .now in
     j .if2 .if3 ≡ (leb 1 (length n) && leb (length n) 63 && all is-printable n)
 first-three j =
