@@ -23,8 +23,8 @@ use Rattle.reading.specs.Cursor.{advance}
 use Rattle.reading.specs.Rest.{Run, entry-of, rest}
 use Rattle.reading.specs.Fold.{Not-record, rest-done}
 use Rattle.reading.specs.Read.{first-cursor}
-use Rattle.writing.specs.Kept.{kept}
-use Rattle.recovery.specs.Close.{end-before, leave-steps, close-is}
+use Rattle.moving.specs.Kept.{kept}
+use Rattle.moving.specs.Close.{end-before, leave-steps, close-is}
 use Rattle.sweeping.specs.declared.Moved.{Moved}
 use Rattle.sweeping.specs.Way.{reached}
 use Rattle.sweeping.specs.First.{apart, second-even}

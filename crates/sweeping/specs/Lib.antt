@@ -2,7 +2,6 @@ pub mod Moves
 pub mod Way
 pub mod First
 pub mod Steps
-pub mod Copy
 pub mod Standing
 pub mod Stuck
 pub mod Planned

@@ -45,8 +45,8 @@ returns-2 c =
     hand-one (c10 .pre .0) (c10 .args .m) t (c .before .advance2 .result) (c .before .advance2 .ensures .0)
     (other-step (c .before .advance2 .result) (c .match2 .keys2))
 
-program-requires : tie.Need-program-requires
-program-requires c κs =
+to-clean-requires : tie.Need-to-clean-requires
+to-clean-requires c κs =
     let c4 = c .before .before .before .before in let c13 = c4 .before .before .before .before .before .before .before .before .before in
     let u = found refl (c4 .advance2 .ensures .0) (c4 .advance2 .ensures .1) (c .before .before .y .given .1) in
     (omega (arith, u .turned .whole .fits), omega (arith, c13 .pre .1))
@@ -61,7 +61,7 @@ close-requires c κs =
       record { fits = omega (arith, u .turned .whole .fits) },
       omega
           (arith, c17 .pre .0 .small),
-      omega (arith, c17 .pre .1, c .before .before .before .program .ensures .count),
+      omega (arith, c17 .pre .1, c .before .before .before .to-clean .ensures .count),
     )
 
 same-length-3 : tie.Need-same-length-3
@@ -74,7 +74,7 @@ returns-3 c =
     let c20 = c17 .before .before .before in
     let t = found (c17 .first-cursor .ensures) (c16 .advance .ensures .0) (c16 .advance .ensures .1) (c14 .x .given .1) in
     let u = found refl (c11 .advance2 .ensures .0) (c11 .advance2 .ensures .1) (c9 .y .given .1) in
-    hand-two (c20 .pre .0) (c20 .args .m) t u (omega arith) (omega arith) (c6 .program .ensures) (c2 .close .ensures .0) (c2 .close .ensures .1)
+    hand-two (c20 .pre .0) (c20 .args .m) t u (omega arith) (omega arith) (c6 .to-clean .ensures) (c2 .close .ensures .0) (c2 .close .ensures .1)
 
 pub hand-over-spec : {M : Type 1} → statement M
 hand-over-spec =
@@ -89,7 +89,7 @@ hand-over-spec =
     enum-known-y
     same-length-2
     returns-2
-    program-requires
+    to-clean-requires
     close-requires
     same-length-3
     returns-3)
