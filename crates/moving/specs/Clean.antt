@@ -9,12 +9,17 @@ use mathlib.Core.List.{List, [], _∷_, _++_}
 use lib.ListN.{length, take, drop, getD, length-drop}
 use lib.Seq.{getD-drop, getD-take, length-take-le, drop-drop, drop-set-lt, take-nil}
 use Rattle.spec.specs.Step.{Image, Step, program, run}
+use Rattle.spec.specs.Geometry.{up8}
 use Rattle.spec.specs.Bytes.{is-record, is-start, is-clean, is-high}
+use Rattle.spec.specs.Record.{Entry, content-of, data-at}
+use Rattle.spec.specs.Move.{mark-here, mark-steps, clean-steps}
 use Rattle.flash.specs.declared.Meter.{Meter}
 use Rattle.flash.specs.Did.{Did, did-one}
 use Rattle.flash.specs.Toward.{Toward, toward-same, toward-more, toward-end}
+use Rattle.reading.specs.declared.Spot.{Spot}
+use Rattle.reading.specs.Rest.{entry-of}
+use Rattle.reading.specs.Fold.{Whole, name-length-is, content-length-is}
 use Rattle.moving.specs.Kept.{later-on}
-use Rattle.spec.specs.Move.{mark-here, mark-steps, clean-steps}
 
 -- ---- how many pairs may be looked at doesn't matter, if they are enough
 
@@ -131,3 +136,18 @@ module _ {s : Image} {at d : ℕ} {m : Meter} where
     cleaning-end h l =
         toward-end (w .left) (clean-none (at + i) (drop i (data-from at d s))
         (rw (length-drop, length-take-le d (drop at s) (rw length-drop (omega arith))) (omega arith)))
+
+-- ---- (c), of the whole record X
+
+abbrev pub cleaned-steps : Entry → List Step
+cleaned-steps x = clean-steps (length (content-of x)) (data-at x) (content-of x)
+
+-- the same by X's address and lengths
+module _ (s : Image) (x : Spot) (w : Whole s x) where
+  pub cleaned-is : {a : ℕ} → a ≡ up8 (x .n + 1)
+      → cleaned-steps (entry-of s x) ≡ clean-steps (x .d) (x .at + 8 + a) (take (x .d) (drop (x .at + 8 + a) s))
+  cleaned-is {a} e =
+      let b : ℕ = up8 (x .n + 1) in
+      let own : List ℕ = take (x .d) (drop b (drop 8 (drop (x .at) s))) in
+      ap₂ (λ (k n : ℕ). clean-steps k (x .at + (8 + up8 (n + 1))) own) (content-length-is s x w) (name-length-is s x w)
+      ∙ rw e (ap₂ (clean-steps (x .d)) (omega arith) (ap (take (x .d)) (ap (drop b) (drop-drop 8 (x .at) s) ∙ drop-drop b (x .at + 8) s)))

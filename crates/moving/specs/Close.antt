@@ -1,37 +1,38 @@
--- Steps (c) to (f) of a move, by addresses and lengths.
+-- Steps (c) to (f) of a move, of the records that the code names by where they stand.
 use Prim.Native.Nat.{ℕ, _+_, _≤_, _<_}
 use native.Mathlib.Omega.{arith}
 use mathlib.Core.Path.{_≡_, refl, ap, ap₂, _∙_}
-use mathlib.Core.Bool.{true, false}
-use mathlib.Core.List.{List, [], _∷_, _++_, map, append-nil}
-use lib.ListN.{length, take, drop}
-use lib.Seq.{drop-drop}
+use mathlib.Core.Bool.{Bool, true, false}
+use mathlib.Core.List.{List, [], _∷_, _++_, map}
+use lib.ListN.{length, getD, set, length-set}
+use lib.Seq.{getD-set-same, getD-set-other}
 use lib.Dec.{eqb}
-use borrow.Author.Tests.{eq-eqb, ne-eqb}
-use Rattle.spec.specs.Step.{Image, Step, program, erase}
-use Rattle.spec.specs.Geometry.{floor, sectors, up8}
+use borrow.Author.Tests.{eq-eqb, ne-eqb, eqb-true, eqb-false}
+use Rattle.spec.specs.Step.{Image, Step, program, erase, run}
+use Rattle.spec.specs.Geometry.{floor}
 use Rattle.spec.specs.Record.{Entry}
-use Rattle.spec.specs.Move.{clean-steps, vacated-end, start-steps, vacate-steps, close-steps}
+use Rattle.spec.specs.Move.{vacated-end, vacated, vacated-steps, start-steps, forget-steps, vacate-steps, close-steps}
 use Rattle.flash.specs.declared.Meter.{Meter}
 use Rattle.flash.specs.Did.{Did, did-both}
+use Rattle.flash.specs.Sectors.{sectors-none, sectors-more}
 use Rattle.reading.specs.declared.Spot.{Spot}
 use Rattle.reading.specs.Rest.{entry-of}
-use Rattle.reading.specs.Fold.{Whole, name-length-is, content-length-is}
-use Rattle.flash.specs.Sectors.{sectors-none, sectors-more}
+use Rattle.moving.specs.Clean.{cleaned-steps}
 
--- ---- Y's and X's address
+-- the sectors that X leaves behind, of the records that stand at x and y
+abbrev pub left-behind : Image → Spot → Spot → List ℕ
+left-behind s x y = vacated (length s) (entry-of s x) (entry-of s y)
 
--- vacated-end, of Y's address
-unfoldable pub end-before : ℕ → ℕ → ℕ
-end-before N y = elim (eqb y 0) [ true ↦ N | false ↦ floor y ]
+-- ---- (d) ends at N or before Y's sector
 
-pub end-at-zero : (N y : ℕ) → y ≡ 0 → N ≡ end-before N y
-unfolding end-before
-end-at-zero N y h = rw (eq-eqb y 0 h, end-before)
+module _ (N : ℕ) (y : Entry) where
+  pub end-at-zero : y .at ≡ 0 → N ≡ vacated-end N y
+  unfolding vacated-end
+  end-at-zero h = rw (eq-eqb (y .at) 0 h, vacated-end)
 
-pub end-at-floor : (N y : ℕ) → (y ≡ 0 → ⊥) → floor y ≡ end-before N y
-unfolding end-before
-end-at-floor N y h = rw (ne-eqb y 0 h, end-before)
+  pub end-at-floor : (y .at ≡ 0 → ⊥) → floor (y .at) ≡ vacated-end N y
+  unfolding vacated-end
+  end-at-floor h = rw (ne-eqb (y .at) 0 h, vacated-end)
 
 -- ---- (e), by Y's low byte
 
@@ -42,55 +43,82 @@ module _ (a low : ℕ) where
   pub start-once : (low ≡ 0xA0 → ⊥) → start-steps a low ≡ program a 0x00 ∷ []
   start-once h = rw (ne-eqb low 0xA0 h, start-steps)
 
--- ---- (d) to (f)
+-- ---- (f): X's sector is the first that is erased, if any is
 
--- forget-steps, of X's address
-abbrev pub forget : ℕ → List ℕ → List Step
-forget x [] = program (x + 1) 0x00 ∷ []
-forget x (a ∷ rest) = []
+module _ (N : ℕ) (x y : Entry) {from to : ℕ} (begin : from ≡ floor (x .at)) (end : to ≡ vacated-end N y) where
+  pub forget-none : from + 4096 ≤ to → forget-steps x (vacated N x y) ≡ []
+  forget-none h = rw (← begin, ← end) (ap (forget-steps x) (sectors-more from to h))
 
--- vacate-steps, of both addresses and Y's low byte
-abbrev pub leave-steps : ℕ → ℕ → ℕ → List ℕ → List Step
-leave-steps x y low starts = map erase starts ++ (start-steps y low ++ forget x starts)
+  pub forget-this : to < from + 4096 → forget-steps x (vacated N x y) ≡ program (x .at + 1) 0x00 ∷ []
+  forget-this h = rw (← begin, ← end) (ap (forget-steps x) (sectors-none from to h))
 
--- (d) to (f) are done: with X's sector erased, and without
-module _ {s t u : Image} {m q r : Meter} (x y low N : ℕ) {from to : ℕ} (begin : from ≡ floor x) (end : to ≡ end-before N y)
-    (erased : Did s m (map erase (sectors from to)) t q) (started : Did t q (start-steps y low) u r) where
-  pub left-erased : from + 4096 ≤ to → Did s m (leave-steps x y low (sectors (floor x) (end-before N y))) u r
-  left-erased h =
-      let none : forget x (sectors from to) ≡ [] = ap (forget x) (sectors-more from to h) in
-      rw (← begin, ← end, none, append-nil (start-steps y low)) (did-both erased started)
+-- ---- what (d) to (f) do depends on the addresses alone
 
-  pub left-there : {v : Image} {p : Meter} → to < from + 4096 → Did u r (program (x + 1) 0x00 ∷ []) v p
-      → Did s m (leave-steps x y low (sectors (floor x) (end-before N y))) v p
-  left-there h f =
-      let one : forget x (sectors from to) ≡ program (x + 1) 0x00 ∷ [] = ap (forget x) (sectors-none from to h) in
-      rw (← begin, ← end, one) (did-both erased (did-both started f))
+forget-same : (s t : Image) (x : Spot) (starts : List ℕ) → forget-steps (entry-of t x) starts ≡ forget-steps (entry-of s x) starts
+forget-same s t x [] = refl
+forget-same s t x (a ∷ rest) = refl
 
--- the definition's steps
-leave-is : (x y : Entry) (low : ℕ) (starts : List ℕ) → vacate-steps x y low starts ≡ leave-steps (x .at) (y .at) low starts
-leave-is x y low [] = refl
-leave-is x y low (a ∷ rest) = refl
+module _ (s t : Image) (x y : Spot) (e : length t ≡ length s) where
+  vacated-same : left-behind t x y ≡ left-behind s x y
+  unfolding vacated-end
+  vacated-same = ap (λ (N : ℕ). vacated N (entry-of s x) (entry-of s y)) e
 
-module _ (s : Image) (x y : Spot) (low : ℕ) (w : Whole s x) where
-  pub close-is : close-steps (length s) (entry-of s x) (entry-of s y) low
-      ≡ clean-steps (x .d) (x .at + 8 + up8 (x .n + 1)) (take (x .d) (drop (x .at + 8 + up8 (x .n + 1)) s))
-      ++ leave-steps (x .at) (y .at) low (sectors (floor (x .at)) (end-before (length s) (y .at)))
-  unfolding close-steps vacated-end end-before
-  close-is =
-      let e = entry-of s x in
-      let starts : List ℕ = sectors (floor (x .at)) (end-before (length s) (y .at)) in
-      let own : List ℕ = take (x .d) (drop (up8 (x .n + 1)) (drop 8 (drop (x .at) s))) in
-      ap₂ (λ (k n : ℕ). clean-steps k (x .at + (8 + up8 (n + 1))) own ++ vacate-steps e (entry-of s y) low starts) (content-length-is s x w)
-      (name-length-is s x w)
-      ∙ ap₂ (λ (l : List Step) (r : List Step). l ++ r)
-      (ap₂ (clean-steps (x .d)) (omega arith)
-      (ap (take (x .d)) (ap (drop (up8 (x .n + 1))) (drop-drop 8 (x .at) s) ∙ drop-drop (up8 (x .n + 1)) (x .at + 8) s)))
-      (leave-is e (entry-of s y) low starts)
+-- ---- one after another
 
-  -- (c), and then (d) to (f)
-  pub closed : {t u : Image} {m q r : Meter} (a : ℕ) → a ≡ up8 (x .n + 1) → length t ≡ length s
-      → Did s m (clean-steps (x .d) (x .at + 8 + a) (take (x .d) (drop (x .at + 8 + a) s))) t q
-      → Did t q (leave-steps (x .at) (y .at) low (sectors (floor (x .at)) (end-before (length t) (y .at)))) u r
-      → Did s m (close-steps (length s) (entry-of s x) (entry-of s y) low) u r
-  closed a e l f g = rw close-is (did-both (rw e at f) (rw l at g))
+module _ (s : Image) (x y : Spot) (low : ℕ) where
+  pub closed : {t u v w : Image} {m a b c d : Meter} → length t ≡ length s → length v ≡ length s
+      → Did s m (cleaned-steps (entry-of s x)) t a
+      → Did t a (vacated-steps (left-behind t x y)) u b
+      → Did u b (start-steps (y .at) low) v c
+      → Did v c (forget-steps (entry-of v x) (left-behind v x y)) w d
+      → Did s m (close-steps (length s) (entry-of s x) (entry-of s y) low) w d
+  unfolding close-steps
+  closed {t} {u} {v} l k cleaned erased started forgotten =
+      did-both cleaned (did-both (rw (vacated-same s t x y l) at erased)
+      (did-both started (rw (vacated-same s v x y k, forget-same s v x (left-behind s x y)) at forgotten)))
+
+  -- with the same bytes of X's data they are the same steps
+  pub close-same : (t : Image) → length t ≡ length s → cleaned-steps (entry-of t x) ≡ cleaned-steps (entry-of s x)
+      → close-steps (length t) (entry-of t x) (entry-of t y) low ≡ close-steps (length s) (entry-of s x) (entry-of s y) low
+  unfolding close-steps
+  close-same t l e =
+      let starts : List ℕ = left-behind s x y in
+      ap₂ (λ (a : List Step) (b : List ℕ). a ++ vacate-steps (entry-of t x) (entry-of t y) low b) e (vacated-same s t x y l)
+      ∙ ap (λ (f : List Step). cleaned-steps (entry-of s x) ++ (map erase starts ++ (start-steps (y .at) low ++ f))) (forget-same s t x starts)
+
+-- ---- Y's first byte is START then
+
+run-append : (s : Image) (a b : List Step) → run s (a ++ b) ≡ run (run s a) b
+run-append s [] b = refl
+run-append s (program i x ∷ a) b = run-append (run s (program i x ∷ [])) a b
+run-append s (erase i ∷ a) b = run-append (run s (erase i ∷ [])) a b
+
+zeroed : (s : Image) (y i : ℕ) → y < length s → getD (set (set s y 0) i 0) y 0 ≡ 0
+zeroed s y i h = go (eqb y i) refl where
+  go : (t : Bool) → eqb y i ≡ t → getD (set (set s y 0) i 0) y 0 ≡ 0
+  go true e = let q : y ≡ i = eqb-true y i e in rw (← q) (getD-set-same (set s y 0) y 0 0 (rw length-set h))
+  go false e = getD-set-other (set s y 0) i y 0 0 (eqb-false y i e) ∙ getD-set-same s y 0 0 h
+
+-- START, and what (f) does then
+abbrev started : Entry → ℕ → List ℕ → List Step
+started x y starts = program y 0x00 ∷ forget-steps x starts
+
+last-low : (s : Image) (x : Entry) (y : ℕ) (starts : List ℕ) → y < length s → getD (run s (started x y starts)) y 0 ≡ 0
+last-low s x y [] h = zeroed s y (x .at + 1) h
+last-low s x y (a ∷ rest) h = getD-set-same s y 0 0 h
+
+last-length : (s : Image) (x : Entry) (y : ℕ) (starts : List ℕ) → length (run s (started x y starts)) ≡ length s
+last-length s x y [] = length-set (set s y 0) (x .at + 1) 0 ∙ length-set s y 0
+last-length s x y (a ∷ rest) = length-set s y 0
+
+pub close-low : (s : Image) (N : ℕ) (x y : Entry) → y .at < length (run s (close-steps N x y 0xA0))
+    → getD (run s (close-steps N x y 0xA0)) (y .at) 0 ≡ 0
+unfolding close-steps
+close-low s N x y h =
+    let starts : List ℕ = vacated N x y in
+    let clean : List Step = cleaned-steps x in
+    let u : Image = set (run (run s clean) (map erase starts)) (y .at) 0x80 in
+    let e : run s (clean ++ vacate-steps x y 0xA0 starts) ≡ run u (started x (y .at) starts) =
+    run-append s clean (vacate-steps x y 0xA0 starts)
+    ∙ run-append (run s clean) (map erase starts) (program (y .at) 0x80 ∷ started x (y .at) starts) in
+    ap (λ (i : Image). getD i (y .at) 0) e ∙ last-low u x (y .at) starts (omega (arith, ap length e, last-length u x (y .at) starts))

@@ -1,8 +1,10 @@
 // Step (c) of a move: X's data is cleaned of what could be taken for a head or a record.
 use flash::Meter;
 use flash::program;
+use reading::Spot;
 use record::bytes::is_clean;
 use record::bytes::is_record;
+use record::up_8;
 use spec::HIGH;
 use spec::START;
 ghost use mathlib.Core.Path.{_≡_};
@@ -10,7 +12,10 @@ ghost use Prim.Native.Nat.{_+_, _≤_, _<_, _^_};
 ghost use lib.ListN.{length, take, drop};
 ghost use Rattle.spec.specs.Move.{mark-steps, clean-steps};
 ghost use Rattle.flash.specs.Did.{Did};
-ghost use Rattle.moving.specs.Clean.{is-mark};
+ghost use Rattle.reading.specs.Rest.{entry-of};
+ghost use Rattle.reading.specs.Fold.{Whole};
+ghost use Rattle.writing.specs.Counts.{Counts};
+ghost use Rattle.moving.specs.Clean.{is-mark, cleaned-steps};
 
 // Two bytes that could be taken for a head's magic, or for a record's.
 fn is_mark(b: u8, c: u8) -> bool
@@ -30,8 +35,10 @@ fn is_mark(b: u8, c: u8) -> bool
 
 // The pair at this address, if it is such a one, gets 00 as its second byte.
 fn clean_pair(image: &mut [u8], at: usize, m: Meter) -> Meter
-    requires { ⌜ (at + 1 < length (now image)) × (m .asked < 2 ^ 32) ⌝ }
-    ensures { λ r. ⌜ Did (now (image .entry)) m (mark-steps at (drop at (now (image .entry)))) (now (image .exit)) r × (r .asked ≤ m .asked + 1) ⌝ }
+    requires { ⌜ at + 1 < length (now image) ⌝ }
+    requires { ⌜ Counts m 1 ⌝ }
+    ensures { λ r. ⌜ (let s = now (image .entry) in Did s m (mark-steps at (drop at s)) (now (image .exit)) r) ⌝ }
+    ensures { λ r. ⌜ r .asked ≤ m .asked + 1 ⌝ }
 {
     if is_mark(image[at], image[at + 1]) {
         return program(image, at + 1, 0x00, m);
@@ -39,10 +46,13 @@ fn clean_pair(image: &mut [u8], at: usize, m: Meter) -> Meter
     m
 }
 
-// Step (c): the pairs at the 8-byte boundaries of the d bytes from `at` on.
-pub fn clean_data(image: &mut [u8], at: usize, d: usize, m: Meter) -> Meter
-    requires { ⌜ (at + d ≤ length (now image)) × (length (now image) ≤ 2 ^ 24) × (m .asked + d ≤ 2 ^ 32) ⌝ }
-    ensures { λ r. ⌜ Did (now (image .entry)) m (clean-steps d at (take d (drop at (now (image .entry))))) (now (image .exit)) r × (r .asked ≤ m .asked + d) ⌝ }
+// The pairs at the 8-byte boundaries of the d bytes from `at` on.
+fn clean_bytes(image: &mut [u8], at: usize, d: usize, m: Meter) -> Meter
+    requires { ⌜ at + d ≤ length (now image) ⌝ }
+    requires { ⌜ length (now image) ≤ 2 ^ 24 ⌝ }
+    requires { ⌜ Counts m d ⌝ }
+    ensures { λ r. ⌜ (let s = now (image .entry) in Did s m (clean-steps d at (take d (drop at s))) (now (image .exit)) r) ⌝ }
+    ensures { λ r. ⌜ r .asked ≤ m .asked + d ⌝ }
 {
     let mut q = m;
     let mut i = 0;
@@ -51,4 +61,15 @@ pub fn clean_data(image: &mut [u8], at: usize, d: usize, m: Meter) -> Meter
         i += 8;
     }
     q
+}
+
+// (c) X's data is cleaned.
+pub fn clean_data(image: &mut [u8], x: Spot, m: Meter) -> Meter
+    requires { ⌜ Whole (now image) x ⌝ }
+    requires { ⌜ length (now image) ≤ 2 ^ 24 ⌝ }
+    requires { ⌜ Counts m (x .d) ⌝ }
+    ensures { λ r. ⌜ (let s = now (image .entry) in Did s m (cleaned-steps (entry-of s x)) (now (image .exit)) r) ⌝ }
+    ensures { λ r. ⌜ r .asked ≤ m .asked + x .d ⌝ }
+{
+    clean_bytes(image, x.at + 8 + up_8(x.n + 1), x.d, m)
 }

@@ -88,7 +88,7 @@ fn hand_over(image: &mut [u8], head: usize, m: Meter) -> Moved
             meter: m,
         };
     };
-    let a = to_clean(image, y.at, m);
+    let a = to_clean(image, y, m);
     let b = close(image, x, y, CLEAN, a);
     Moved {
         head: y.at,

@@ -1,67 +1,44 @@
--- The invariant: what cleans the bytes that are left cleans all, and no byte that is left has changed.
-use borrow.Author.Needs.{needs}
+-- X's data by its address and length.
 use native.Mathlib.Omega.{arith}
-use Prim.Native.Nat.{_+_, _-_, _≤_}
-use mathlib.Core.Path.{_≡_, refl}
-use lib.ListN.{length}
-use Rattle.moving.specs.Clean.{Cleaning, cleaning-start, cleaning-more, cleaning-end}
+use Rattle.moving.specs.Clean.{cleaned-is}
+use borrow.Author.Needs.{needs}
 use Rattle.moving.proofs.clean.clean_data.Statement.{statement}
 use Rattle.moving.proofs.clean.clean_data.Tie as tie
 
-abbrev Inv-loop : tie.InvT-loop
-Inv-loop image₀ at d q₀ i₀ image q i =
-    (length image ≡ length image₀) × (i ≤ d + 8) × (q .asked ≤ q₀ .asked + d) × (q .asked ≤ q₀ .asked + i) × Cleaning image₀ at d q₀ image q i
+add-clean-bytes : tie.Need-add-clean-bytes
+add-clean-bytes c = search needs
 
-abbrev μ-loop : tie.MeasureT-loop
-μ-loop image₀ at d q₀ i₀ image q i = d - i
+add-up-8 : tie.Need-add-up-8
+add-up-8 c = search needs
 
-loop-holds : tie.Need-loop-holds Inv-loop μ-loop
-loop-holds c = (refl, omega arith, omega arith, omega arith, cleaning-start (c .before .pre .0))
+up-8-requires : tie.Need-up-8-requires
+up-8-requires c κs = search needs
 
-add-loop : tie.Need-add-loop Inv-loop μ-loop
-add-loop c = search needs
+add-clean-bytes-2 : tie.Need-add-clean-bytes-2
+add-clean-bytes-2 c = search needs
 
-add-clean-pair : tie.Need-add-clean-pair Inv-loop μ-loop
-add-clean-pair c = search needs
+clean-bytes-requires : tie.Need-clean-bytes-requires
+clean-bytes-requires c κs = search needs
 
-clean-pair-requires : tie.Need-clean-pair-requires Inv-loop μ-loop
-clean-pair-requires c κs = search needs
-
-add-i : tie.Need-add-i Inv-loop μ-loop
-add-i c = search needs
-
-loop-less : tie.Need-loop-less Inv-loop μ-loop
-loop-less c = search needs
-
-loop-again : tie.Need-loop-again Inv-loop μ-loop
-loop-again c =
-    let inv = c .before .before .before .before .before .loop .inv in (
-      omega arith,
-      omega arith,
-      omega arith,
-      omega arith,
-      cleaning-more (inv .4) (omega arith) (omega arith)
-          (c .before .before .clean-pair .ensures .0),
-    )
-
-same-length : tie.Need-same-length Inv-loop μ-loop
+same-length : tie.Need-same-length
 same-length c = search needs
 
-returns : tie.Need-returns Inv-loop μ-loop
-returns c = (cleaning-end (c .before .loop .inv .4) (omega arith) (omega arith), omega arith)
+returns : tie.Need-returns
+returns c =
+    let c3 = c .before .before .before in let c8 = c3 .before .before .before .before .before in (
+      rw (cleaned-is (c8 .args .image .now) (c8 .args .x) (c8 .pre .0) (c3 .up-8 .ensures))
+          (c .before .before .clean-bytes .ensures .0),
+      omega arith,
+    )
 
 pub clean-data-spec : {M : Type 1} → statement M
 clean-data-spec =
     tie.close
     (tie.spec
-    Inv-loop
-    μ-loop
-    loop-holds
-    add-loop
-    add-clean-pair
-    clean-pair-requires
-    add-i
-    loop-less
-    loop-again
+    add-clean-bytes
+    add-up-8
+    up-8-requires
+    add-clean-bytes-2
+    clean-bytes-requires
     same-length
     returns)

@@ -49,7 +49,7 @@ to-clean-requires : tie.Need-to-clean-requires
 to-clean-requires c κs =
     let c4 = c .before .before .before .before in let c13 = c4 .before .before .before .before .before .before .before .before .before in
     let u = found refl (c4 .advance2 .ensures .0) (c4 .advance2 .ensures .1) (c .before .before .y .given .1) in
-    (omega (arith, u .turned .whole .fits), omega (arith, c13 .pre .1))
+    (u .turned .whole, omega (arith, c13 .pre .1))
 
 close-requires : tie.Need-close-requires
 close-requires c κs =
@@ -57,11 +57,8 @@ close-requires c κs =
     let c13 = c11 .before .before in let c14 = c13 .before in let c17 = c14 .before .before .before in
     let t = found (c14 .first-cursor .ensures) (c13 .advance .ensures .0) (c13 .advance .ensures .1) (c11 .x .given .1) in
     let u = found refl (c8 .advance2 .ensures .0) (c8 .advance2 .ensures .1) (c6 .y .given .1) in (
-      record { fits = omega (arith, t .turned .whole .fits) },
-      record { fits = omega (arith, u .turned .whole .fits) },
-      omega
-          (arith, c17 .pre .0 .small),
-      omega (arith, c17 .pre .1, c .before .before .before .to-clean .ensures .count),
+      (record { fits = omega (arith, t .turned .whole .fits) }, record { fits = omega (arith, u .turned .whole .fits) }),
+      (omega (arith, c17 .pre .0 .small), omega (arith, c17 .pre .1, c .before .before .before .to-clean .ensures .count)),
     )
 
 same-length-3 : tie.Need-same-length-3
