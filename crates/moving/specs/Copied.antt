@@ -7,13 +7,30 @@ use lib.ListN.{length, take, drop, getD, length-drop}
 use lib.Seq.{length-take-le, take-take, drop-drop, getD-take, getD-drop}
 use Rattle.spec.specs.Geometry.{up8}
 use Rattle.spec.specs.Step.{Image, Step, program, bytes-at, moved}
-use Rattle.spec.specs.Record.{four, size-of, rec-of}
+use Rattle.spec.specs.Record.{four, size-of, Entry, name-of, content-of}
 use Rattle.spec.specs.Write.{name-end-steps, header-steps, name-steps, data-steps, commit-steps, record-steps}
 use Rattle.flash.specs.Did.{Did, did-both, length-moved}
 use Rattle.flash.specs.declared.Meter.{Meter}
 use Rattle.flash.specs.Bytes.{length-bytes, bytes-more}
+use Rattle.reading.specs.Rest.{entry-of}
+use Rattle.reading.specs.Fold.{name-length-is, content-length-is}
 use Rattle.writing.specs.Steps.{length-name, moved-append, moved-bytes}
 use Rattle.moving.specs.Kept.{Apart, off-part, take-drop, length-part, Avoids, kept, Inside, inside-bytes, inside-append, inside-moved, inside-avoids}
+
+-- the record at this address, with n name bytes and d data bytes, as it is read
+abbrev pub entry-at : Image → ℕ → ℕ → ℕ → Entry
+entry-at s a n d = entry-of s (record { at = a; n = n; d = d })
+
+module _ (s : Image) (a n d : ℕ) (h : a + size-of n d ≤ length s) where
+  pub name-long : length (name-of (entry-at s a n d)) ≡ n
+  name-long = name-length-is s (record { at = a; n = n; d = d }) (record { fits = h })
+
+  pub content-long : length (content-of (entry-at s a n d)) ≡ d
+  content-long = content-length-is s (record { at = a; n = n; d = d }) (record { fits = h })
+
+-- in an image of length N such a record at `from`, and as many bytes at `to` that have none in common with it
+abbrev pub Copyable : ℕ → ℕ → ℕ → ℕ → ℕ → Type 0
+Copyable N from to n d = (n ≤ 63) × (from + size-of n d ≤ N) × (to + size-of n d ≤ N) × Apart from to (size-of n d)
 
 -- ---- byte by byte
 
@@ -63,14 +80,8 @@ name-count s from to n h =
 pub data-count : (s : Image) (from to n d : ℕ) → from + size-of n d ≤ length s
     → length (moved to (data-steps n (take d (drop (up8 (n + 1)) (drop 8 (drop from s)))))) ≡ d
 data-count s from to n d h =
-    let w = take d (drop (up8 (n + 1)) (drop 8 (drop from s))) in
-    omega (
-      arith,
-      length-moved to (data-steps n w),
-      length-bytes (8 + up8 (n + 1)) w,
-      length-take-le d (drop (up8 (n + 1)) (drop 8 (drop from s)))
-          (simp length-drop (omega arith)),
-    )
+    let w = content-of (entry-at s from n d) in
+    omega (arith, length-moved to (data-steps n w), length-bytes (8 + up8 (n + 1)) w, content-long s from n d h)
 
 -- ---- what the steps on the copy leave of the record
 
@@ -99,15 +110,15 @@ same-body {s} {t} from n d e p = rw (drop-drop 8 from t, drop-drop 8 from s) (ke
 
 -- ---- the whole record
 
-inside-header : (d : ℕ) → Inside 0 8 (header-steps d)
-inside-header d = (
+inside-header : (b d : ℕ) → 8 ≤ b → Inside 0 b (header-steps d)
+inside-header b d h = (
   omega arith,
   omega arith,
   (
     omega arith,
     omega arith,
-    inside-append 0 8 (bytes-at 4 (four d)) (program 2 0xFE ∷ [])
-        (inside-bytes 0 8 4 (four d) (omega arith) (omega arith)) (omega arith, omega arith, tt),
+    inside-append 0 b (bytes-at 4 (four d)) (program 2 0xFE ∷ [])
+        (inside-bytes 0 b 4 (four d) (omega arith) (omega arith)) (omega arith, omega arith, tt),
   ),
 )
 
@@ -115,6 +126,14 @@ inside-name : (b : ℕ) (w : List ℕ) → 8 + length w < b → Inside 0 b (name
 inside-name b w h =
     inside-append 0 b (bytes-at 8 w) (name-end-steps (8 + length w)) (inside-bytes 0 b 8 w (omega arith) (omega arith))
     (omega arith, h, (omega arith, h, tt))
+
+pub inside-record : (name content : List ℕ) (z : ℕ) → z ≡ size-of (length name) (length content) → Inside 0 z (record-steps name content)
+inside-record name content z e =
+    let d : List Step = data-steps (length name) content in
+    inside-append 0 z (header-steps (length content)) (name-steps name ++ (d ++ commit-steps)) (inside-header z (length content) (omega arith))
+    (inside-append 0 z (name-steps name) (d ++ commit-steps) (inside-name z name (omega arith))
+    (inside-append 0 z d commit-steps (inside-bytes 0 z (8 + up8 (length name + 1)) content (omega arith) (omega arith))
+    (omega arith, omega arith, tt)))
 
 -- steps of the copy, counted from its start, leave the record as it was
 copy-keeps : {s t : Image} {m r : Meter} (ss : List Step) (from to n d e : ℕ) → Apart from to (size-of n d) → e ≤ size-of n d
@@ -140,19 +159,19 @@ record-moved to name content n d e f =
 module _ {s s₁ s₂ s₃ t : Image} {m a b c r : Meter} (from to n d : ℕ) (fits : from + size-of n d ≤ length s) (apart : Apart from to (size-of n d))
   where
     pub copied-record : Did s m (moved to (header-steps d)) s₁ a
-        → Did s₁ a (moved to (name-steps (rec-of (drop from s₁) n d .name))) s₂ b
-        → Did s₂ b (moved to (data-steps n (rec-of (drop from s₂) n d .content))) s₃ c
+        → Did s₁ a (moved to (name-steps (name-of (entry-at s₁ from n d)))) s₂ b
+        → Did s₂ b (moved to (data-steps n (content-of (entry-at s₂ from n d)))) s₃ c
         → Did s₃ c (program (to + 2) 0xFC ∷ []) t r
-        → Did s m (moved to (record-steps (rec-of (drop from s) n d .name) (rec-of (drop from s) n d .content))) t r
+        → Did s m (moved to (record-steps (name-of (entry-at s from n d)) (content-of (entry-at s from n d)))) t r
     copied-record header name content commit =
-        let own = rec-of (drop from s) n d in
-        let name-long : length (own .name) ≡ n = length-take-le n (drop 8 (drop from s)) (simp length-drop (omega arith)) in
-        let content-long : length (own .content) ≡ d = length-take-le d (drop (up8 (n + 1)) (drop 8 (drop from s))) (simp length-drop (omega arith)) in
-        let first : body n d (drop from s₁) ≡ body n d (drop from s) = copy-keeps (header-steps d) from to n d 8 apart (omega arith) header
-        (inside-header d) in
-        let name′ : Did s₁ a (moved to (name-steps (own .name))) s₂ b = rw (same-name n d (drop from s) (drop from s₁) first) at name in
-        let second : body n d (drop from s₂) ≡ body n d (drop from s₁) = copy-keeps (name-steps (own .name)) from to n d (9 + n) apart (omega arith)
-        name′ (inside-name (9 + n) (own .name) (omega arith)) in
-        let content′ : Did s₂ b (moved to (data-steps n (own .content))) s₃ c = rw (same-content n d (drop from s) (drop from s₂) (second ∙ first)) at
-        content in
-        rw (record-moved to (own .name) (own .content) n d name-long content-long) (did-both header (did-both name′ (did-both content′ commit)))
+        let own = entry-at s from n d in
+        let named = name-long s from n d fits in
+        let filled = content-long s from n d fits in
+        let first : body n d (drop from s₁) ≡ body n d (drop from s) =
+        copy-keeps (header-steps d) from to n d 8 apart (omega arith) header (inside-header 8 d (omega arith)) in
+        let name′ : Did s₁ a (moved to (name-steps (name-of own))) s₂ b = rw (same-name n d (drop from s) (drop from s₁) first) at name in
+        let second : body n d (drop from s₂) ≡ body n d (drop from s₁) =
+        copy-keeps (name-steps (name-of own)) from to n d (9 + n) apart (omega arith) name′ (inside-name (9 + n) (name-of own) (omega arith)) in
+        let content′ : Did s₂ b (moved to (data-steps n (content-of own))) s₃ c =
+        rw (same-content n d (drop from s) (drop from s₂) (second ∙ first)) at content in
+        rw (record-moved to (name-of own) (content-of own) n d named filled) (did-both header (did-both name′ (did-both content′ commit)))

@@ -26,11 +26,10 @@ use Rattle.reading.specs.Fold.{Whole, name-length-is, content-length-is, Not-re
 use Rattle.reading.specs.Read.{first-cursor}
 use Rattle.writing.specs.Room.{placed-parts, placed-full}
 use Rattle.writing.specs.Put.{Ready}
-use Rattle.moving.specs.Head.{entry-at, copy-of, HeadEnds}
+use Rattle.moving.specs.Copy.{entry-at, copy-of, HeadEnds, copy-few, copy-keeps-low}
 use Rattle.sweeping.specs.declared.Plan.{Plan}
 use Rattle.sweeping.specs.Steps.{copying}
 use Rattle.sweeping.specs.Stuck.{stuck-empty, room-empty, room-on, room-live, room-dead, stuck-live, stuck-last, stuck-not, copy-live, copy-dead}
-use Rattle.moving.specs.Copy.{copy-few, copy-keeps-low}
 use Rattle.sweeping.specs.Standing.{Led, Found, Standing, entries-are, stands, head-at, stands-past}
 
 -- the place of the reading from its head on

@@ -18,7 +18,7 @@ ghost use Prim.Native.Nat.{_+_, _<_, _≤_, _^_};
 ghost use lib.ListN.{length};
 ghost use Rattle.spec.specs.Write.{migrate-steps, delete-steps, put-steps};
 ghost use Rattle.flash.specs.Did.{Did};
-ghost use Rattle.writing.specs.Old.{entry-of, Lies};
+ghost use Rattle.writing.specs.Old.{old-entry, Lies};
 ghost use Rattle.writing.specs.Put.{marks, Ready};
 
 // The file that a put replaces: its address and its status, or none.
@@ -30,7 +30,7 @@ pub enum Old {
 // The old file's status FC to F8, if it is FC; then the marker, if one is needed.
 pub fn prepare(image: &mut [u8], old: Old, tail: usize, marker: bool, m: Meter) -> Meter
     requires { ⌜ Lies old (length (now image)) × (marker ≡ true → tail + 2 < length (now image)) × (m .asked + 4 ≤ 2 ^ 32) ⌝ }
-    ensures { λ r. ⌜ Did (now (image .entry)) m (migrate-steps (entry-of old) ++ marks marker tail) (now (image .exit)) r ⌝ }
+    ensures { λ r. ⌜ Did (now (image .entry)) m (migrate-steps (old-entry old) ++ marks marker tail) (now (image .exit)) r ⌝ }
 {
     let a = migrate(image, old, m);
     if marker {
@@ -41,7 +41,7 @@ pub fn prepare(image: &mut [u8], old: Old, tail: usize, marker: bool, m: Meter) 
 
 fn migrate(image: &mut [u8], old: Old, m: Meter) -> Meter
     requires { ⌜ Lies old (length (now image)) × (m .asked < 2 ^ 32) ⌝ }
-    ensures { λ r. ⌜ Did (now (image .entry)) m (migrate-steps (entry-of old)) (now (image .exit)) r ⌝ }
+    ensures { λ r. ⌜ Did (now (image .entry)) m (migrate-steps (old-entry old)) (now (image .exit)) r ⌝ }
 {
     let Old::At(at, status) = old else {
         return m;
@@ -54,7 +54,7 @@ fn migrate(image: &mut [u8], old: Old, m: Meter) -> Meter
 
 pub fn delete(image: &mut [u8], old: Old, m: Meter) -> Meter
     requires { ⌜ Lies old (length (now image)) × (m .asked < 2 ^ 32) ⌝ }
-    ensures { λ r. ⌜ Did (now (image .entry)) m (delete-steps (entry-of old)) (now (image .exit)) r ⌝ }
+    ensures { λ r. ⌜ Did (now (image .entry)) m (delete-steps (old-entry old)) (now (image .exit)) r ⌝ }
 {
     let Old::At(at, _) = old else {
         return m;
@@ -72,7 +72,7 @@ pub fn write_file(
     m: Meter,
 ) -> Meter
     requires { ⌜ Ready place (length (now image)) (length (now name)) (length (now content)) (m .asked) × Lies old (length (now image)) ⌝ }
-    ensures { λ r. ⌜ Did (now (image .entry)) m (put-steps place (entry-of old) (now (name .entry)) (now (content .entry))) (now (image .exit)) r ⌝ }
+    ensures { λ r. ⌜ Did (now (image .entry)) m (put-steps place (old-entry old) (now (name .entry)) (now (content .entry))) (now (image .exit)) r ⌝ }
 {
     let Placed::At(at, marker, _) = place.after(size(name.len(), content.len())) else {
         return m;

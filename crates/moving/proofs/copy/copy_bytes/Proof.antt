@@ -54,7 +54,7 @@ loop-again c =
       omega arith,
       copy-more (a .from) (a .to) (a .n)
           (c6 .loop .i)
-          (c8 .pre .2) (omega arith) (omega arith)
+          (c8 .pre .0 .2) (omega arith) (omega arith)
           (c6 .loop .inv .2)
           (c .before .before .program .ensures),
     )

@@ -26,13 +26,10 @@ add-copy-bytes-2 c = search needs
 copy-bytes-requires : tie.Need-copy-bytes-requires
 copy-bytes-requires c κs =
     let a = c .before .before .before .args in
-    let z = 8 + c .before .up-8 .result in (
-      omega arith,
-      omega arith,
-      off-part (a .to) (a .to + size-of (a .n) (a .d)) (a .from) (size-of (a .n) (a .d)) z (a .d) (a .to + z) (a .to + z + a .d)
-          (c .before .before .before .pre .3) (omega arith) (omega arith) (omega arith),
-      omega arith,
-    )
+    let z = 8 + c .before .up-8 .result in
+    let apart = off-part (a .to) (a .to + size-of (a .n) (a .d)) (a .from) (size-of (a .n) (a .d)) z (a .d) (a .to + z) (a .to + z + a .d)
+    (c .before .before .before .pre .0 .3) (omega arith) (omega arith) (omega arith) in
+    ((omega arith, omega arith, apart), omega arith)
 
 same-length : tie.Need-same-length
 same-length c = search needs

@@ -1,5 +1,5 @@
 -- As write_file; what is done before the copy leaves the head's name and data as they were.
-use Rattle.moving.specs.Head.{copy-apart, copy-count, copy-phases}
+use Rattle.moving.specs.Copy.{copy-apart, copy-count, copy-phases}
 use Rattle.writing.specs.Put.{never-full, spot, marker-spot, prepare-few}
 use Rattle.writing.specs.Room.{placed-parts}
 use Rattle.writing.specs.declared.Old.the-variants.{At}
@@ -53,14 +53,14 @@ copy-record-requires c κs =
     let r = c13 .pre .0 in
     let placed = c .before .before .before .before .before .before .before .before .at .given in
     let sized = c .before .before .before .before .before .before .before .before .before .before .before .size .ensures in
-    let e = rw sized at (sym (c .before .before .before .before .before .before .before .before .before .before .after .ensures) ∙ placed .1) in
+    let after = c .before .before .before .before .before .before .before .before .before .before .after .ensures in
+    let e = rw sized at (sym after ∙ placed .1) in
     let z = size-of (a .n) (a .d) in
-    let apart = rw (placed-parts (a .place) z _ _ _ e .1) at (copy-apart (a .place) z (c13 .pre .1) (r .taken)) in (
-      r .named,
-      omega (arith, r .whole, c13 .pre .1 .inside),
-      omega (arith, spot (a .place) _ _ _ _ _ _ _ r e),
-      apart,
-      omega (arith, r .few, prepare-few (At (a .place .head) (c .before .before .before .before .before .from-byte .result)) (placed .0 .1 .0) (a .place .tail)),
+    let apart = rw (placed-parts (a .place) z _ _ _ e .1) at (copy-apart (a .place) z (c13 .pre .1) (r .taken)) in
+    let st = c .before .before .before .before .before .from-byte .result in
+    let few = prepare-few (At (a .place .head) st) (placed .0 .1 .0) (a .place .tail) in (
+      (r .named, omega (arith, r .whole, c13 .pre .1 .inside), omega (arith, spot (a .place) _ _ _ _ _ _ _ r e), apart),
+      omega (arith, r .few),
     )
 
 delete-requires : tie.Need-delete-requires
@@ -75,7 +75,8 @@ delete-requires c κs =
       r .few,
       c17 .pre .1 .inside,
       prepare-few (At (a .place .head) (c7 .before .before .from-byte .result)) (c12 .at .given .0 .1 .0) (a .place .tail),
-      copy-count (c7 .prepare .last .0) (c12 .at .given .0 .0) (a .place .head) (a .n) (a .d) (omega (arith, r .whole, c17 .pre .1 .inside)),
+      copy-count (c7 .prepare .last .0) (c12 .at .given .0 .0) (a .place .head) (a .n) (a .d)
+          (omega (arith, r .whole, c17 .pre .1 .inside)),
     )
 
 same-length : tie.Need-same-length
