@@ -13,7 +13,8 @@ use Rattle.spec.specs.Record.{name-ok, Entry}
 use Rattle.spec.specs.Chain.{Reading}
 use Rattle.spec.specs.Files.{file-named}
 use Rattle.spec.specs.Write.{first-steps, format-steps}
-use Rattle.spec.specs.Answers.{Plan, doing, carry-out, found, file-of, removing, file-plan, remove-plan, format-plan, settled-reading}
+use Rattle.spec.specs.Answers.{Plan, doing, carry-out, found, file-of, removing, file-plan, remove-plan, format-plan}
+use Rattle.spec.specs.Door.{settled-reading}
 use Rattle.spec.specs.History.{steps-of}
 use Rattle.spec.specs.Bounds.{At-most, Remove-exact, Remove-bound, Remove-kinds, format-count, Format-exact, Format-bound, Format-kinds}
 use Rattle.history.specs.Erase.{good-is, erases, sectors-are, length-erases}

@@ -14,7 +14,8 @@ use Rattle.spec.specs.Geometry.{good-length, sectors}
 use Rattle.spec.specs.Record.{Rec, Entry}
 use Rattle.spec.specs.Files.{named}
 use Rattle.spec.specs.Write.{first-steps, format-steps}
-use Rattle.spec.specs.Answers.{Plan, Outcome, doing, carry-out, format-plan, format}
+use Rattle.spec.specs.Answers.{Plan, doing, carry-out, format-plan, format}
+use Rattle.spec.specs.Numbers.{Outcome}
 use Rattle.history.specs.Blanks.{blanks, blank-split}
 use Rattle.history.specs.Store.{alive}
 use Rattle.history.specs.Lay.{onto, lay, length-lay, low-start, st-00}

@@ -14,12 +14,11 @@ use Rattle.spec.specs.Bytes.{is-unfinished}
 use Rattle.spec.specs.Geometry.{floor, up8}
 use Rattle.spec.specs.Record.{size-of, name-length, data-len-of, low-of, high-of, status-of, spare-of, rec-of, Entry, size}
 use Rattle.spec.specs.Next.{next, next-at, kind, sized, torn-at, torn-wrap-at, clear-at}
-use Rattle.spec.specs.Chain.{Chain, add, stop, allowed, chain, from-head, from-zero}
-use Rattle.spec.specs.Chain.{Reading, unturned, turned, turn-torn, joined, read-on, reading-from}
+use Rattle.spec.specs.Chain.{Chain, add, stop, allowed, chain, from-head, from-zero, Reading, read-straight, read-turned, turn-torn, joined, read-on, reading-from}
 use Rattle.spec.specs.Head.{head}
 use Rattle.spec.specs.Reading.{legal, judged, read-at, reading}
 use Rattle.spec.specs.Mount.{settled}
-use Rattle.spec.specs.Answers.{if-settled, settled-reading}
+use Rattle.spec.specs.Door.{if-settled, settled-reading}
 use Rattle.history.specs.Lists.{each-append}
 use Rattle.history.specs.Steps.{Programs}
 use Rattle.history.specs.Erase.{erases-length}
@@ -78,7 +77,7 @@ module _ (s : List ℕ) where
   next-fits true false e f = rw (next, e, f) tt
   next-fits true true e f = rw (next, e, f) (next-at-fits (kind (low-of s) (high-of s) (status-of s) (spare-of s)))
 
-allowed-fits : (held : Bool) (x : Next) (l : ℕ) → Fits x l → Fits (allowed held x) l
+allowed-fits : (pending : Bool) (x : Next) (l : ℕ) → Fits x l → Fits (allowed pending x) l
 allowed-fits false x l f = f
 allowed-fits true (Next.Record n d) l f = tt
 allowed-fits true Next.Wrap l f = tt
@@ -96,12 +95,12 @@ Within N e = e .at + size e ≤ N
 rec-size : (s : List ℕ) (at n d : ℕ) → size (record { at = at; it = rec-of s n d }) ≤ size-of n d
 rec-size s at n d = omega (arith, length-take n (drop 8 s), length-take d (drop (up8 (n + 1)) (drop 8 s)))
 
-chain-within : (k : ℕ) (held : Bool) (at : ℕ) (s : List ℕ) (N : ℕ) → (1 ≤ length s → at + length s ≤ N)
-    → Each (Within N) (chain k held at s .entries)
+chain-within : (k : ℕ) (pending : Bool) (at : ℕ) (s : List ℕ) (N : ℕ) → (1 ≤ length s → at + length s ≤ N)
+    → Each (Within N) (chain k pending at s .entries)
 unfolding chain
-chain-within zero held at s N h = tt
-chain-within (suc k) held at s N h =
-    go (allowed held (next s)) (allowed-fits held (next s) (length s) (next-fits s _ _ refl refl))
+chain-within zero pending at s N h = tt
+chain-within (suc k) pending at s N h =
+    go (allowed pending (next s)) (allowed-fits pending (next s) (length s) (next-fits s _ _ refl refl))
     (λ n d. chain-within k (is-unfinished (status-of s)) (at + size-of n d) (drop (size-of n d) s) N)
   where
     go : (x : Next) → Fits x (length s)
@@ -110,11 +109,11 @@ chain-within (suc k) held at s N h =
         Each (Within N) ((elim x as (λ y. Chain) [
           | Next.Record n d ↦
               add (record { at = at; it = rec-of s n d }) (chain k (is-unfinished (status-of s)) (at + size-of n d) (drop (size-of n d) s))
-          | Next.Wrap ↦ stop held at Next.Wrap
-          | Next.TornWrap ↦ stop held at Next.TornWrap
-          | Next.Clear ↦ stop held at Next.Clear
-          | Next.Over ↦ stop held at Next.Over
-          | Next.Bad ↦ stop held at Next.Bad
+          | Next.Wrap ↦ stop pending at Next.Wrap
+          | Next.TornWrap ↦ stop pending at Next.TornWrap
+          | Next.Clear ↦ stop pending at Next.Clear
+          | Next.Over ↦ stop pending at Next.Over
+          | Next.Bad ↦ stop pending at Next.Bad
         ]) .entries)
     go (Next.Record n d) f ih =
         let inside : at + length s ≤ N = h (omega arith) in (
@@ -139,9 +138,9 @@ module _ (im : Image) (h : ℕ) where
   high-within : Each (Within (length im)) (from-head im h .entries)
   high-within = chain-within (suc (length im)) false h (drop h im) (length im) (λ z. omega (arith, length-drop h im))
 
-  low-within : (held : Bool) → Each (Within (length im)) (from-zero im h held .entries)
-  low-within held =
-      chain-within (suc (length im)) held 0 (take (floor h) im) (length im) (λ z. omega (arith, length-take (floor h) im))
+  low-within : (pending : Bool) → Each (Within (length im)) (from-zero im h pending .entries)
+  low-within pending =
+      chain-within (suc (length im)) pending 0 (take (floor h) im) (length im) (λ z. omega (arith, length-take (floor h) im))
 
   -- before the turn and behind it
   joined-seen : (c d : Chain) → Each (Within (length im)) (c .entries) → Each (Within (length im)) (d .entries)
@@ -149,19 +148,19 @@ module _ (im : Image) (h : ℕ) where
   unfolding joined
   joined-seen c d p q = go (c .last)
     where
-      alone : Seen (length im) im (unturned (length im) h c)
+      alone : Seen (length im) im (read-straight (length im) h c)
       alone = record { same = refl; length-read = refl; within = p }
 
-      both : Seen (length im) im (turned (length im) h c d)
+      both : Seen (length im) im (read-turned (length im) h c d)
       both = record { same = refl; length-read = refl; within = each-append (Within (length im)) (c .entries) (d .entries) p q }
 
       go : (x : Next) → Seen (length im) im (elim x as (λ y. Reading) [
-        | Next.Record n l ↦ unturned (length im) h c
-        | Next.Wrap ↦ turned (length im) h c d
+        | Next.Record n l ↦ read-straight (length im) h c
+        | Next.Wrap ↦ read-turned (length im) h c d
         | Next.TornWrap ↦ turn-torn (length im) h c
-        | Next.Clear ↦ unturned (length im) h c
-        | Next.Over ↦ turned (length im) h c d
-        | Next.Bad ↦ unturned (length im) h c
+        | Next.Clear ↦ read-straight (length im) h c
+        | Next.Over ↦ read-turned (length im) h c d
+        | Next.Bad ↦ read-straight (length im) h c
       ])
       go (Next.Record n l) = alone
       go Next.Wrap = both
@@ -175,11 +174,11 @@ module _ (im : Image) (h : ℕ) where
   seen-from = go (eqb (floor h) 0)
     where
       go : (b : Bool) → Seen (length im) im (elim b as (λ x. Reading) [
-        | true ↦ unturned (length im) h (from-head im h)
-        | false ↦ joined (length im) h (from-head im h) (from-zero im h (from-head im h .held))
+        | true ↦ read-straight (length im) h (from-head im h)
+        | false ↦ joined (length im) h (from-head im h) (from-zero im h (from-head im h .pending))
       ])
       go true = record { same = refl; length-read = refl; within = high-within }
-      go false = joined-seen (from-head im h) (from-zero im h (from-head im h .held)) high-within (low-within (from-head im h .held))
+      go false = joined-seen (from-head im h) (from-zero im h (from-head im h .pending)) high-within (low-within (from-head im h .pending))
 
 -- what a check lets pass is what was checked
 passed : {A : Type 0} (b : Bool) (n : ℕ) (x y : A) → checked b n (give x) ≡ give y → x ≡ y

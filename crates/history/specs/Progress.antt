@@ -16,7 +16,8 @@ use Rattle.spec.specs.Files.{files, file-named}
 use Rattle.spec.specs.Place.{fits, with-marker, address, other-name, room}
 use Rattle.spec.specs.Write.{put-steps}
 use Rattle.spec.specs.Sweep.{moves}
-use Rattle.spec.specs.Answers.{Plan, Outcome, format, carry-out, success, doing, sweeping, put, sweep, sweep-plan}
+use Rattle.spec.specs.Answers.{Plan, format, carry-out, success, doing, sweeping, put, sweep, sweep-plan}
+use Rattle.spec.specs.Numbers.{Outcome}
 use Rattle.spec.specs.History.{File, Ledger, ledger, replay, steps-of, with-file, one-if-fc, three-if}
 use Rattle.spec.specs.Progress.{to-pass, fifths, Uncut, Answers-0, moves-made, Passes, Progress}
 use Rattle.history.specs.Lists.{not-both}

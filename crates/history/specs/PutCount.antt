@@ -7,7 +7,7 @@ use mathlib.Core.Option.{Option, none, some}
 use mathlib.Core.List.{List, [], _∷_, _++_}
 use lib.ListN.{length, length-append}
 use Rattle.spec.specs.declared.Place.{Place}
-use Rattle.spec.specs.Step.{Image, Step, moved}
+use Rattle.spec.specs.Step.{Image, Step, shifted}
 use Rattle.spec.specs.Basics.{Answer, refuse, give, checked, onward}
 use Rattle.spec.specs.Bytes.{is-committed}
 use Rattle.spec.specs.Geometry.{good-length}
@@ -16,10 +16,11 @@ use Rattle.spec.specs.Chain.{Reading}
 use Rattle.spec.specs.Files.{file-named}
 use Rattle.spec.specs.Place.{address, with-marker, room}
 use Rattle.spec.specs.Write.{status-step, migrate-steps, delete-steps, marker-steps, turn-steps, record-steps, put-steps}
-use Rattle.spec.specs.Answers.{Plan, doing, put-into, put-plan, settled-reading}
+use Rattle.spec.specs.Answers.{Plan, doing, put-into, put-plan}
+use Rattle.spec.specs.Door.{settled-reading}
 use Rattle.spec.specs.History.{three-if}
 use Rattle.spec.specs.Bounds.{At-most, old-count, put-count, Put-exact, Put-bound, Put-kinds}
-use Rattle.history.specs.Steps.{length-moved}
+use Rattle.history.specs.Steps.{length-shifted}
 use Rattle.history.specs.Put.{length-record}
 use Rattle.history.specs.StepCounts.{most-length, most-programs}
 use Rattle.history.specs.Landing.{put-programs}
@@ -40,7 +41,7 @@ old-steps (some e) = go (is-committed (e .it .status))
 turn-count : (p : Place) (s : ℕ) → length (turn-steps p s) ≡ three-if (with-marker p s)
 turn-count p s = go (with-marker p s)
   where
-    go : (b : Bool) → length {A = Step} (elim b as (λ x. List Step) [ true ↦ moved (p .tail) marker-steps | false ↦ [] ]) ≡ three-if b
+    go : (b : Bool) → length {A = Step} (elim b as (λ x. List Step) [ true ↦ shifted (p .tail) marker-steps | false ↦ [] ]) ≡ three-if b
     go true = refl
     go false = refl
 
@@ -50,12 +51,12 @@ pub put-steps-count : (p : Place) (o : Option Entry) (n c : List ℕ)
 unfolding put-steps
 put-steps-count p o n c =
     let s : ℕ = size-of (length n) (length c) in
-    let R : List Step = moved (address p s) (record-steps n c) in
+    let R : List Step = shifted (address p s) (record-steps n c) in
     let a : length (put-steps p o n c) ≡ length (migrate-steps o) + (length (turn-steps p s) + (length R + length (delete-steps o))) =
     length-append (migrate-steps o) (turn-steps p s ++ (R ++ delete-steps o))
     ∙ ap (λ (z : ℕ). length (migrate-steps o) + z) (length-append (turn-steps p s) (R ++ delete-steps o)
     ∙ ap (λ (z : ℕ). length (turn-steps p s) + z) (length-append R (delete-steps o))) in
-    omega (arith, a, old-steps o, turn-count p s, length-moved (address p s) (record-steps n c), length-record n c)
+    omega (arith, a, old-steps o, turn-count p s, length-shifted (address p s) (record-steps n c), length-record n c)
 
 old-most : (o : Option Entry) → old-count o ≤ 2
 old-most none = omega arith

@@ -17,10 +17,9 @@ use Rattle.spec.specs.Files.{file-named}
 use Rattle.spec.specs.Reading.{reading}
 use Rattle.spec.specs.Place.{with-marker}
 use Rattle.spec.specs.Write.{put-steps}
-use Rattle.spec.specs.Answers.{Plan, Numbers, Outcome, doing, carry-out, cut, refusal, success}
-use Rattle.spec.specs.Answers.{put-plan}
-use Rattle.spec.specs.History.{Request, steps-of, partly, next-byte, Ledger, with-file, one-if-fc, three-if, commit-place}
-use Rattle.spec.specs.History.{committed-at, put-done, fed}
+use Rattle.spec.specs.Answers.{Plan, doing, carry-out, cut, success, put-plan}
+use Rattle.spec.specs.Numbers.{Numbers, Outcome, refusal}
+use Rattle.spec.specs.History.{Request, steps-of, partly, next-byte, Ledger, with-file, one-if-fc, three-if, commit-place, committed-at, put-done, fed}
 use Rattle.spec.specs.Demand.{Steps-sound}
 use Rattle.history.specs.Kinds.{Inv, Bytes, Rested}
 use Rattle.history.specs.OkLaws.{old-file, Old}

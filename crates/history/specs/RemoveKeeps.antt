@@ -12,10 +12,9 @@ use Rattle.spec.specs.Basics.{Answer, refuse, give}
 use Rattle.spec.specs.Bytes.{is-committed, is-migrating}
 use Rattle.spec.specs.Record.{Entry}
 use Rattle.spec.specs.Write.{status-step}
-use Rattle.spec.specs.Answers.{Plan, Numbers, Outcome, removing, carry-out, cut, refusal, success}
-use Rattle.spec.specs.Answers.{file-plan, remove-plan}
-use Rattle.spec.specs.History.{Request, steps-of, between, partly, next-byte, Ledger, without}
-use Rattle.spec.specs.History.{remove-done, fed}
+use Rattle.spec.specs.Answers.{Plan, removing, carry-out, cut, success, file-plan, remove-plan}
+use Rattle.spec.specs.Numbers.{Numbers, Outcome, refusal}
+use Rattle.spec.specs.History.{Request, steps-of, between, partly, next-byte, Ledger, without, remove-done, fed}
 use Rattle.spec.specs.Demand.{Steps-sound}
 use Rattle.history.specs.Between.{Between, between-is}
 use Rattle.history.specs.Kinds.{Inv}

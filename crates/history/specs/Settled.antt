@@ -12,9 +12,8 @@ use Rattle.spec.specs.Record.{Entry}
 use Rattle.spec.specs.Chain.{Reading, read}
 use Rattle.spec.specs.Reading.{head-clean, reading}
 use Rattle.spec.specs.Move.{Work, begin, after, reread}
-use Rattle.spec.specs.Mount.{repair-1, repair-2, repair-3, repair-4, void-steps, last-steps, torn-wrap-steps, delete-step, drop-steps, mended}
-use Rattle.spec.specs.Mount.{settled, repair-2-on}
-use Rattle.spec.specs.Answers.{if-settled, settled-reading}
+use Rattle.spec.specs.Mount.{repair-1, repair-2, repair-3, repair-4, void-steps, last-steps, torn-wrap-steps, delete-step, drop-steps, mended, settled, repair-2-on}
+use Rattle.spec.specs.Door.{if-settled, settled-reading}
 use Rattle.spec.specs.History.{Ledger}
 use Rattle.history.specs.Lists.{or-left, or-right}
 use Rattle.history.specs.Blanks.{blanks}

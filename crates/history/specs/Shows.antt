@@ -14,8 +14,8 @@ use Rattle.spec.specs.Geometry.{up8}
 use Rattle.spec.specs.Record.{name-ok, rec-of, Rec, Entry, name-of, content-of, data-at}
 use Rattle.spec.specs.Chain.{Reading}
 use Rattle.spec.specs.Files.{files, has-name, file-named}
-use Rattle.spec.specs.Answers.{Numbers, Plan, success, numbers-of, carry-out, doing, found, file-plan, getting, get-plan, listing, list-plan, get}
-use Rattle.spec.specs.Answers.{list, part-of}
+use Rattle.spec.specs.Numbers.{Numbers, part-of}
+use Rattle.spec.specs.Answers.{Plan, success, numbers-of, carry-out, doing, found, file-plan, getting, get-plan, listing, list-plan, get, list}
 use Rattle.spec.specs.History.{File, Ledger, is-named, has}
 use Rattle.spec.specs.Demand.{Listed, Got, Shows}
 use Rattle.history.specs.Lists.{Pairwise, keep-yes, keep-no, each-map, first-yes, first-no, not-both, each-keep}

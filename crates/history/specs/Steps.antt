@@ -1,4 +1,4 @@
--- What step lists do to bytes: run in two parts, moved to the address of a record, and runs of bytes programmed one after another.
+-- What step lists do to bytes: run in two parts, shifted to the address of a record, and runs of bytes programmed one after another.
 use Prim.Native.Nat.{ℕ, zero, suc, _+_, _≤_}
 use native.Mathlib.Omega.{arith}
 use native.Mathlib.Nat.{zero-add, suc-add}
@@ -6,7 +6,7 @@ use mathlib.Core.Path.{_≡_, refl, sym, ap, _∙_}
 use mathlib.Core.List.{List, [], _∷_, _++_, append-assoc}
 use lib.ListN.{length, take, set, length-append, length-replicate, length-set}
 use lib.Seq.{set-at, append-snoc, length-take-le}
-use Rattle.spec.specs.Step.{Step, program, erase, apply, run, bytes-at, moved, Image}
+use Rattle.spec.specs.Step.{Step, program, erase, apply, run, bytes-at, shifted, Image}
 use Rattle.history.specs.Blanks.{blanks, blank-split}
 
 -- ---- one list after another
@@ -29,36 +29,36 @@ Programs [] = Unit {0}
 Programs (program i b ∷ ss) = Programs ss
 Programs (erase i ∷ ss) = ⊥
 
--- the first of moved steps
-pub take-moved : (k a : ℕ) (ss : List Step) → take k (moved a ss) ≡ moved a (take k ss)
-take-moved zero a ss = refl
-take-moved (suc k) a [] = refl
-take-moved (suc k) a (program i b ∷ ss) = ap (λ (l : List Step). program (a + i) b ∷ l) (take-moved k a ss)
-take-moved (suc k) a (erase i ∷ ss) = ap (λ (l : List Step). erase (a + i) ∷ l) (take-moved k a ss)
+-- the first of shifted steps
+pub take-shifted : (k a : ℕ) (ss : List Step) → take k (shifted a ss) ≡ shifted a (take k ss)
+take-shifted zero a ss = refl
+take-shifted (suc k) a [] = refl
+take-shifted (suc k) a (program i b ∷ ss) = ap (λ (l : List Step). program (a + i) b ∷ l) (take-shifted k a ss)
+take-shifted (suc k) a (erase i ∷ ss) = ap (λ (l : List Step). erase (a + i) ∷ l) (take-shifted k a ss)
 
 -- steps behind p
-pub run-past : (p q : List ℕ) (ss : List Step) (a : ℕ) → length p ≡ a → Programs ss → run (p ++ q) (moved a ss) ≡ p ++ run q ss
+pub run-past : (p q : List ℕ) (ss : List Step) (a : ℕ) → length p ≡ a → Programs ss → run (p ++ q) (shifted a ss) ≡ p ++ run q ss
 run-past p q [] a e h = refl
-run-past p q (program i b ∷ ss) a e h = ap (λ (l : List ℕ). run l (moved a ss)) (rw (← e) (set-past p q i b)) ∙ run-past p (set q i b) ss a e h
+run-past p q (program i b ∷ ss) a e h = ap (λ (l : List ℕ). run l (shifted a ss)) (rw (← e) (set-past p q i b)) ∙ run-past p (set q i b) ss a e h
 run-past p q (erase i ∷ ss) a e h = absurd h
 
 -- as many
-pub length-moved : (a : ℕ) (ss : List Step) → length (moved a ss) ≡ length ss
-length-moved a [] = refl
-length-moved a (program i b ∷ ss) = ap suc (length-moved a ss)
-length-moved a (erase i ∷ ss) = ap suc (length-moved a ss)
+pub length-shifted : (a : ℕ) (ss : List Step) → length (shifted a ss) ≡ length ss
+length-shifted a [] = refl
+length-shifted a (program i b ∷ ss) = ap suc (length-shifted a ss)
+length-shifted a (erase i ∷ ss) = ap suc (length-shifted a ss)
 
--- two lists of steps, moved
-pub moved-append : (a : ℕ) (ss ts : List Step) → moved a (ss ++ ts) ≡ moved a ss ++ moved a ts
-moved-append a [] ts = refl
-moved-append a (program i b ∷ ss) ts = ap (λ (z : List Step). program (a + i) b ∷ z) (moved-append a ss ts)
-moved-append a (erase i ∷ ss) ts = ap (λ (z : List Step). erase (a + i) ∷ z) (moved-append a ss ts)
+-- two lists of steps, shifted
+pub shifted-append : (a : ℕ) (ss ts : List Step) → shifted a (ss ++ ts) ≡ shifted a ss ++ shifted a ts
+shifted-append a [] ts = refl
+shifted-append a (program i b ∷ ss) ts = ap (λ (z : List Step). program (a + i) b ∷ z) (shifted-append a ss ts)
+shifted-append a (erase i ∷ ss) ts = ap (λ (z : List Step). erase (a + i) ∷ z) (shifted-append a ss ts)
 
--- moved steps program too
-pub programs-moved : (a : ℕ) (ss : List Step) → Programs ss → Programs (moved a ss)
-programs-moved a [] p = tt
-programs-moved a (program i b ∷ ss) p = programs-moved a ss p
-programs-moved a (erase i ∷ ss) p = absurd p
+-- shifted steps program too
+pub programs-shifted : (a : ℕ) (ss : List Step) → Programs ss → Programs (shifted a ss)
+programs-shifted a [] p = tt
+programs-shifted a (program i b ∷ ss) p = programs-shifted a ss p
+programs-shifted a (erase i ∷ ss) p = absurd p
 
 -- the first of two lists only programs
 pub programs-left : (ss ts : List Step) → Programs (ss ++ ts) → Programs ss

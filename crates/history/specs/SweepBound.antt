@@ -16,10 +16,10 @@ use Rattle.spec.specs.Record.{Entry, name-of, content-of, data-at}
 use Rattle.spec.specs.Chain.{Reading, reading-from}
 use Rattle.spec.specs.Files.{live}
 use Rattle.spec.specs.Write.{put-steps}
-use Rattle.spec.specs.Move.{Work, begin, after, copy-steps, to-clean-step, hand-over, move}
-use Rattle.spec.specs.Move.{clean-steps, vacated-end, vacated, start-steps, forget-steps, vacate-steps, close-steps}
+use Rattle.spec.specs.Move.{Work, begin, after, copy-steps, to-clean-step, hand-over, move, clean-steps, vacated-end, vacated, start-steps, forget-steps, vacate-steps, close-steps}
 use Rattle.spec.specs.Sweep.{no-room, stuck, moves, sweep-moves}
-use Rattle.spec.specs.Answers.{Plan, sweeping, sweep-of, sweep-plan, settled-reading}
+use Rattle.spec.specs.Answers.{Plan, sweeping, sweep-of, sweep-plan}
+use Rattle.spec.specs.Door.{settled-reading}
 use Rattle.spec.specs.Bounds.{At-most, move-most, Sweep-bound, Sweep-kinds}
 use Rattle.history.specs.RepairCounts.{clean-programs, end-few, close-most}
 use Rattle.history.specs.Steps.{Programs}

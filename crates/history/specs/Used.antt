@@ -9,7 +9,8 @@ use lib.Dec.{leb}
 use borrow.Author.Tests.{leb-true, leb-false}
 use Rattle.spec.specs.Step.{Image}
 use Rattle.spec.specs.Basics.{Answer, refuse, give}
-use Rattle.spec.specs.Answers.{Plan, Outcome, carry-out}
+use Rattle.spec.specs.Answers.{Plan, carry-out}
+use Rattle.spec.specs.Numbers.{Outcome}
 use Rattle.spec.specs.History.{steps-of}
 use Rattle.spec.specs.Bounds.{At-most}
 use Rattle.history.specs.StepCounts.{most-none, most-more, most-take}

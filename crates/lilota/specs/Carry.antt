@@ -10,7 +10,8 @@ use borrow.Author.Tests.{le-leb, lt-leb}
 use Rattle.spec.specs.Step.{Image, Step, run}
 use Rattle.spec.specs.Basics.{Answer, refuse, give, onward}
 use Rattle.spec.specs.Chain.{Reading}
-use Rattle.spec.specs.Answers.{Plan, refusal, numbers-of, carry-out, doing}
+use Rattle.spec.specs.Answers.{Plan, numbers-of, carry-out, doing}
+use Rattle.spec.specs.Numbers.{refusal}
 use Rattle.flash.specs.declared.Meter.{Meter}
 use Rattle.flash.specs.Did.{Did}
 use Rattle.lilota.specs.declared.Written.{Written}

@@ -18,7 +18,7 @@ use Rattle.spec.specs.Geometry.{floor}
 use Rattle.spec.specs.Record.{size-of, low-of, high-of, status-of, start-here, clean-here, wrap-here}
 use Rattle.spec.specs.Next.{next}
 use Rattle.spec.specs.Head.{sought, walk, chosen, head}
-use Rattle.spec.specs.Chain.{Chain, allowed, chain, Reading, unturned, turned, turn-torn, joined, from-head, from-zero, read-on, reading-from}
+use Rattle.spec.specs.Chain.{Chain, allowed, chain, Reading, read-straight, read-turned, turn-torn, joined, from-head, from-zero, read-on, reading-from}
 use Rattle.spec.specs.Reading.{limit, whole}
 use Rattle.reading.specs.Fits.{Fits, allowed-fits}
 
@@ -61,7 +61,7 @@ abbrev Stands : ℕ → Reading → Type 0
 Stands h r = whole (r .ending) ≡ true → Grounded h (r .place)
 
 module _ (N h : ℕ) where
-  unturned-stands : (c : Chain) (x : Next) → c .last ≡ x → Ends x (c .tail) N → Stands h (unturned N h c)
+  unturned-stands : (c : Chain) (x : Next) → c .last ≡ x → Ends x (c .tail) N → Stands h (read-straight N h c)
   unturned-stands c (Next.Record n d) e f w = absurd (false≢true (rw e at w))
   unturned-stands c Next.Wrap e f w = absurd (false≢true (rw e at w))
   unturned-stands c Next.TornWrap e f w = absurd (false≢true (rw e at w))
@@ -69,7 +69,7 @@ module _ (N h : ℕ) where
   unturned-stands c Next.Over e f w = record { head = refl; free = omega arith; gap = λ _ l. absurd (omega arith) }
   unturned-stands c Next.Bad e f w = absurd (false≢true (rw e at w))
 
-  turned-stands : (c d : Chain) (x : Next) → d .last ≡ x → Ends x (d .tail) (floor h) → Stands h (turned N h c d)
+  turned-stands : (c d : Chain) (x : Next) → d .last ≡ x → Ends x (d .tail) (floor h) → Stands h (read-turned N h c d)
   turned-stands c d (Next.Record n l) e f w = absurd (false≢true (rw e at w))
   turned-stands c d Next.Wrap e f w = absurd (false≢true (rw e at w))
   turned-stands c d Next.TornWrap e f w = absurd (false≢true (rw e at w))

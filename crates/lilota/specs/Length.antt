@@ -10,7 +10,8 @@ use Rattle.spec.specs.Step.{Image}
 use Rattle.spec.specs.Basics.{give}
 use Rattle.spec.specs.Geometry.{good-length}
 use Rattle.spec.specs.Write.{format-steps}
-use Rattle.spec.specs.Answers.{refusal, carry-out, doing, format-plan, format}
+use Rattle.spec.specs.Numbers.{refusal}
+use Rattle.spec.specs.Answers.{carry-out, doing, format-plan, format}
 use Rattle.lilota.specs.Numbers.{outcome}
 
 pub record Good (n : ℕ) : Type 0 where

@@ -11,7 +11,9 @@ use Rattle.spec.specs.Basics.{give, onward, keep, first-such}
 use Rattle.spec.specs.Geometry.{good-length, up8}
 use Rattle.spec.specs.Record.{Entry, name-ok}
 use Rattle.spec.specs.Files.{has-name, file-named, file-indexed}
-use Rattle.spec.specs.Answers.{Numbers, Outcome, Plan, refusal, carry-out, numbers-of, found, file-of, getting, listing, list-of, settled-reading, file-plan, get-plan, list-plan, get, list, part-of}
+use Rattle.spec.specs.Numbers.{Numbers, Outcome, refusal, part-of}
+use Rattle.spec.specs.Answers.{Plan, carry-out, numbers-of, found, file-of, getting, listing, list-of, file-plan, get-plan, list-plan, get, list}
+use Rattle.spec.specs.Door.{settled-reading}
 use Rattle.reading.specs.declared.Spot.{Spot}
 use Rattle.reading.specs.declared.Found.{Found}
 use Rattle.reading.specs.declared.Survey.{Survey}

@@ -14,7 +14,8 @@ use Rattle.spec.specs.Files.{files}
 use Rattle.spec.specs.Reading.{reading}
 use Rattle.spec.specs.Move.{Work}
 use Rattle.spec.specs.Mount.{mended}
-use Rattle.spec.specs.Answers.{Numbers, Plan, refusal, numbers-of, carry-out, mount-work, mount-of, mount-plan, mount}
+use Rattle.spec.specs.Numbers.{Numbers, refusal}
+use Rattle.spec.specs.Answers.{Plan, numbers-of, carry-out, mount-work, mount-of, mount-plan, mount}
 use Rattle.reading.specs.declared.Survey.{Survey}
 use Rattle.reading.specs.Read.{reading-of}
 use Rattle.recovery.specs.declared.Mended.{Mended}

@@ -2,7 +2,7 @@
 use Prim.Native.Nat.{ℕ}
 use mathlib.Core.Path.{_≡_, _∙_}
 use Rattle.spec.specs.Step.{Image}
-use Rattle.spec.specs.Answers.{Numbers, Outcome, refusal}
+use Rattle.spec.specs.Numbers.{Numbers, Outcome, refusal}
 use Rattle.lilota.specs.declared.Written.{Written}
 use Rattle.lilota.specs.declared.Swept.{Swept}
 use Rattle.lilota.specs.declared.mount.Mounted.{Mounted}

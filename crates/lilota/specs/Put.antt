@@ -17,7 +17,9 @@ use Rattle.spec.specs.Files.{has-name, file-named}
 use Rattle.spec.specs.Chain.{Reading}
 use Rattle.spec.specs.Place.{fits, fits-all, room}
 use Rattle.spec.specs.Write.{put-steps}
-use Rattle.spec.specs.Answers.{Plan, refusal, carry-out, doing, settled-reading, put-into, put-plan, put}
+use Rattle.spec.specs.Answers.{Plan, carry-out, doing, put-into, put-plan, put}
+use Rattle.spec.specs.Numbers.{refusal}
+use Rattle.spec.specs.Door.{settled-reading}
 use Rattle.reading.specs.declared.Spot.{Spot}
 use Rattle.reading.specs.declared.Found.{Found}
 use Rattle.reading.specs.declared.Survey.{Survey}

@@ -10,7 +10,9 @@ use Rattle.spec.specs.Basics.{onward, keep, first-such}
 use Rattle.spec.specs.Geometry.{good-length}
 use Rattle.spec.specs.Record.{Entry, name-ok}
 use Rattle.spec.specs.Files.{has-name}
-use Rattle.spec.specs.Answers.{refusal, carry-out, found, file-of, removing, settled-reading, file-plan, remove-plan, remove}
+use Rattle.spec.specs.Numbers.{refusal}
+use Rattle.spec.specs.Answers.{carry-out, found, file-of, removing, file-plan, remove-plan, remove}
+use Rattle.spec.specs.Door.{settled-reading}
 use Rattle.reading.specs.declared.Found.{Found}
 use Rattle.reading.specs.declared.Survey.{Survey}
 use Rattle.reading.specs.FileLaws.{is-file}

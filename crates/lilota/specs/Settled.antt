@@ -17,8 +17,8 @@ use Rattle.spec.specs.Head.{head}
 use Rattle.spec.specs.Chain.{Reading, reading-from}
 use Rattle.spec.specs.Reading.{whole, names-ok, single, marks-ok, free-ok, legal, judged, reading}
 use Rattle.spec.specs.Mount.{settled}
-use Rattle.spec.specs.Placed.{Sound}
-use Rattle.spec.specs.Answers.{if-settled, settled-reading}
+use Rattle.spec.specs.Placed.{Place-sound}
+use Rattle.spec.specs.Door.{if-settled, settled-reading}
 use Rattle.reading.specs.declared.Survey.{Survey}
 use Rattle.reading.specs.Read.{reading-of, Surveyed}
 use Rattle.lilota.specs.Length.{good}
@@ -27,7 +27,7 @@ use Rattle.lilota.specs.Ground.{Grounded, grounded, head-below}
 pub record Settled (image : Image) (s : Survey) : Type 0 where
   pub surveyed : Surveyed image s
   pub quiet : any (superseded (reading-of image s .entries)) (reading-of image s .entries) ≡ false
-  pub sound : Sound (s .place)
+  pub sound : Place-sound (s .place)
   pub gap : s .place .turned ≡ false → s .place .tail < s .place .length → s .place .tail + 8 ≤ s .place .length
 
 -- ---- the name

@@ -20,9 +20,9 @@ use Rattle.spec.specs.Head.{torn-here, walk-next, walk, search, sought, chosen,
 use Rattle.spec.specs.Chain.{Reading, reading-from}
 use Rattle.spec.specs.Reading.{legal, judged, reading}
 use Rattle.spec.specs.Mount.{settled}
-use Rattle.spec.specs.Answers.{if-settled, settled-reading}
-use Rattle.sweeping.specs.First.{Low}
-use Rattle.sweeping.specs.Standing.{Led, stands}
+use Rattle.spec.specs.Door.{if-settled, settled-reading}
+use Rattle.reading.specs.FirstRecord.{Low}
+use Rattle.reading.specs.Standing.{Led, stands}
 use Rattle.sweeping.specs.Planned.{Headed}
 use Rattle.lilota.specs.Length.{good}
 use Rattle.lilota.specs.Ground.{head-below}

@@ -11,7 +11,9 @@ use Rattle.spec.specs.Basics.{give, checked, onward, concat}
 use Rattle.spec.specs.Geometry.{good-length}
 use Rattle.spec.specs.Chain.{Reading, reading-from}
 use Rattle.spec.specs.Sweep.{no-room, moves}
-use Rattle.spec.specs.Answers.{refusal, finished, numbers-of, carry-out, sweeping, settled-reading, sweep-of, sweep-plan, sweep}
+use Rattle.spec.specs.Numbers.{refusal}
+use Rattle.spec.specs.Answers.{finished, numbers-of, carry-out, sweeping, sweep-of, sweep-plan, sweep}
+use Rattle.spec.specs.Door.{settled-reading}
 use Rattle.flash.specs.declared.Meter.{Meter}
 use Rattle.reading.specs.declared.Survey.{Survey}
 use Rattle.reading.specs.RuleLaws.{count-is}

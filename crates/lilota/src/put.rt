@@ -25,9 +25,10 @@ ghost use Rattle.spec.specs.Record.{size-of, name-ok};
 ghost use Rattle.spec.specs.Files.{has-name, file-named};
 ghost use Rattle.spec.specs.Place.{fits};
 ghost use Rattle.spec.specs.Write.{put-steps};
-ghost use Rattle.spec.specs.Answers.{settled-reading, carry-out, put-into, put};
+ghost use Rattle.spec.specs.Door.{settled-reading};
+ghost use Rattle.spec.specs.Answers.{carry-out, put-into, put};
 ghost use Rattle.flash.specs.Did.{Did};
-ghost use Rattle.reading.specs.Cursor.{Sound};
+ghost use Rattle.reading.specs.Cursor.{Cursor-sound};
 ghost use Rattle.reading.specs.Rest.{rest};
 ghost use Rattle.reading.specs.FileLaws.{is-file};
 ghost use Rattle.reading.specs.Read.{reading-of};
@@ -37,7 +38,7 @@ ghost use Rattle.lilota.specs.Settled.{Settled};
 
 // The file that a put of this name replaces.
 fn old_file(image: &[u8], start: Cursor, name: &[u8]) -> Old
-    requires { ⌜ Sound (now image) start ⌝ }
+    requires { ⌜ Cursor-sound (now image) start ⌝ }
     ensures { λ r. ⌜ (r ≡ old-of (first-such (has-name (now (name .entry))) (keep is-file (rest (now (image .entry)) start .entries)))) × Lies r (length (now (image .entry))) ⌝ }
 {
     let f = file_named(image, start, name);

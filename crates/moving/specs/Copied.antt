@@ -6,16 +6,16 @@ use mathlib.Core.List.{List, [], _∷_, _++_}
 use lib.ListN.{length, take, drop, getD, length-drop}
 use lib.Seq.{length-take-le, take-take, drop-drop, getD-take, getD-drop}
 use Rattle.spec.specs.Geometry.{up8}
-use Rattle.spec.specs.Step.{Image, Step, program, bytes-at, moved}
+use Rattle.spec.specs.Step.{Image, Step, program, bytes-at, shifted}
 use Rattle.spec.specs.Record.{four, size-of, Entry, name-of, content-of}
 use Rattle.spec.specs.Write.{name-end-steps, header-steps, name-steps, data-steps, commit-steps, record-steps}
-use Rattle.flash.specs.Did.{Did, did-both, length-moved}
+use Rattle.flash.specs.Did.{Did, did-both, length-shifted}
 use Rattle.flash.specs.declared.Meter.{Meter}
 use Rattle.flash.specs.Bytes.{length-bytes, bytes-more}
 use Rattle.reading.specs.Rest.{entry-of}
 use Rattle.reading.specs.Fold.{name-length-is, content-length-is}
-use Rattle.writing.specs.Steps.{length-name, moved-append, moved-bytes}
-use Rattle.moving.specs.Kept.{Apart, off-part, take-drop, length-part, Avoids, kept, Inside, inside-bytes, inside-append, inside-moved, inside-avoids}
+use Rattle.writing.specs.Steps.{length-name, shifted-append, shifted-bytes}
+use Rattle.moving.specs.Kept.{Apart, off-part, take-drop, length-part, Avoids, kept, Inside, inside-bytes, inside-append, inside-shifted, inside-avoids}
 
 -- the record at this address, with n name bytes and d data bytes, as it is read
 abbrev pub entry-at : Image → ℕ → ℕ → ℕ → Entry
@@ -58,30 +58,30 @@ copy-more {s} from to n j o h l d e =
 -- ---- the name and the data, as steps of the whole image
 
 pub copied-name : (s : Image) (from to n : ℕ) → from + 8 + n ≤ length s
-    → bytes-at (to + 8) (take n (drop (from + 8) s)) ++ name-end-steps (to + 8 + n) ≡ moved to (name-steps (take n (drop 8 (drop from s))))
+    → bytes-at (to + 8) (take n (drop (from + 8) s)) ++ name-end-steps (to + 8 + n) ≡ shifted to (name-steps (take n (drop 8 (drop from s))))
 copied-name s from to n h =
     let w = take n (drop (from + 8) s) in
     let e : to + (8 + length w) ≡ to + 8 + n = omega (arith, length-part (from + 8) n s h) in
-    rw (drop-drop 8 from s) (sym (moved-append to (bytes-at 8 w) (name-end-steps (8 + length w))
-    ∙ ap₂ (λ (l : List Step) (i : ℕ). l ++ name-end-steps i) (moved-bytes to 8 w) e))
+    rw (drop-drop 8 from s) (sym (shifted-append to (bytes-at 8 w) (name-end-steps (8 + length w))
+    ∙ ap₂ (λ (l : List Step) (i : ℕ). l ++ name-end-steps i) (shifted-bytes to 8 w) e))
 
 pub copied-data : (s : Image) (from to n d : ℕ)
-    → bytes-at (to + (8 + up8 (n + 1))) (take d (drop (from + (8 + up8 (n + 1))) s)) ≡ moved to
+    → bytes-at (to + (8 + up8 (n + 1))) (take d (drop (from + (8 + up8 (n + 1))) s)) ≡ shifted to
     (data-steps n (take d (drop (up8 (n + 1)) (drop 8 (drop from s)))))
 copied-data s from to n d = rw (drop-drop (up8 (n + 1)) 8 (drop from s), drop-drop (8 + up8 (n + 1)) from s)
-    (sym (moved-bytes to (8 + up8 (n + 1)) (take d (drop (from + (8 + up8 (n + 1))) s))))
+    (sym (shifted-bytes to (8 + up8 (n + 1)) (take d (drop (from + (8 + up8 (n + 1))) s))))
 
 -- how many steps they are
-pub name-count : (s : Image) (from to n : ℕ) → from + 8 + n ≤ length s → length (moved to (name-steps (take n (drop 8 (drop from s))))) ≡ n + 2
+pub name-count : (s : Image) (from to n : ℕ) → from + 8 + n ≤ length s → length (shifted to (name-steps (take n (drop 8 (drop from s))))) ≡ n + 2
 name-count s from to n h =
     let w = take n (drop 8 (drop from s)) in
-    omega (arith, length-moved to (name-steps w), length-name w, length-take-le n (drop 8 (drop from s)) (simp length-drop (omega arith)))
+    omega (arith, length-shifted to (name-steps w), length-name w, length-take-le n (drop 8 (drop from s)) (simp length-drop (omega arith)))
 
 pub data-count : (s : Image) (from to n d : ℕ) → from + size-of n d ≤ length s
-    → length (moved to (data-steps n (take d (drop (up8 (n + 1)) (drop 8 (drop from s)))))) ≡ d
+    → length (shifted to (data-steps n (take d (drop (up8 (n + 1)) (drop 8 (drop from s)))))) ≡ d
 data-count s from to n d h =
     let w = content-of (entry-at s from n d) in
-    omega (arith, length-moved to (data-steps n w), length-bytes (8 + up8 (n + 1)) w, content-long s from n d h)
+    omega (arith, length-shifted to (data-steps n w), length-bytes (8 + up8 (n + 1)) w, content-long s from n d h)
 
 -- ---- what the steps on the copy leave of the record
 
@@ -137,41 +137,41 @@ inside-record name content z e =
 
 -- steps of the copy, counted from its start, leave the record as it was
 copy-keeps : {s t : Image} {m r : Meter} (ss : List Step) (from to n d e : ℕ) → Apart from to (size-of n d) → e ≤ size-of n d
-    → Did s m (moved to ss) t r → Inside 0 e ss
+    → Did s m (shifted to ss) t r → Inside 0 e ss
     → body n d (drop from t) ≡ body n d (drop from s)
 copy-keeps ss from to n d e o h did p =
-    same-body from n d did (inside-avoids (to + 0) (to + e) (from + 8) (up8 (n + 1) + up8 d) (moved to ss)
+    same-body from n d did (inside-avoids (to + 0) (to + e) (from + 8) (up8 (n + 1) + up8 d) (shifted to ss)
     (off-part to (to + size-of n d) from (size-of n d) 8 (up8 (n + 1) + up8 d) (to + 0) (to + e) o (omega arith) (omega arith) (omega arith))
-    (inside-moved to 0 e ss p))
+    (inside-shifted to 0 e ss p))
 
 -- the steps of a record with n name bytes and d data bytes, phase by phase
-record-moved : (to : ℕ) (name content : List ℕ) (n d : ℕ) → length name ≡ n → length content ≡ d
-    → moved to (record-steps name content)
-    ≡ moved to (header-steps d) ++ (moved to (name-steps name) ++ (moved to (data-steps n content) ++ (program (to + 2) 0xFC ∷ [])))
-record-moved to name content n d e f =
+record-shifted : (to : ℕ) (name content : List ℕ) (n d : ℕ) → length name ≡ n → length content ≡ d
+    → shifted to (record-steps name content)
+    ≡ shifted to (header-steps d) ++ (shifted to (name-steps name) ++ (shifted to (data-steps n content) ++ (program (to + 2) 0xFC ∷ [])))
+record-shifted to name content n d e f =
     let after-name = data-steps (length name) content ++ commit-steps in
-    moved-append to (header-steps (length content)) (name-steps name ++ after-name)
-    ∙ ap₂ _++_ (ap (λ (i : ℕ). moved to (header-steps i)) f) (moved-append to (name-steps name) after-name
-    ∙ ap (λ (l : List Step). moved to (name-steps name) ++ l) (moved-append to (data-steps (length name) content) commit-steps
-    ∙ ap (λ (i : ℕ). moved to (data-steps i content) ++ (program (to + 2) 0xFC ∷ [])) e))
+    shifted-append to (header-steps (length content)) (name-steps name ++ after-name)
+    ∙ ap₂ _++_ (ap (λ (i : ℕ). shifted to (header-steps i)) f) (shifted-append to (name-steps name) after-name
+    ∙ ap (λ (l : List Step). shifted to (name-steps name) ++ l) (shifted-append to (data-steps (length name) content) commit-steps
+    ∙ ap (λ (i : ℕ). shifted to (data-steps i content) ++ (program (to + 2) 0xFC ∷ [])) e))
 
 -- the phases of a copy, each reading the image that the one before it left
 module _ {s s₁ s₂ s₃ t : Image} {m a b c r : Meter} (from to n d : ℕ) (fits : from + size-of n d ≤ length s) (apart : Apart from to (size-of n d))
   where
-    pub copied-record : Did s m (moved to (header-steps d)) s₁ a
-        → Did s₁ a (moved to (name-steps (name-of (entry-at s₁ from n d)))) s₂ b
-        → Did s₂ b (moved to (data-steps n (content-of (entry-at s₂ from n d)))) s₃ c
+    pub copied-record : Did s m (shifted to (header-steps d)) s₁ a
+        → Did s₁ a (shifted to (name-steps (name-of (entry-at s₁ from n d)))) s₂ b
+        → Did s₂ b (shifted to (data-steps n (content-of (entry-at s₂ from n d)))) s₃ c
         → Did s₃ c (program (to + 2) 0xFC ∷ []) t r
-        → Did s m (moved to (record-steps (name-of (entry-at s from n d)) (content-of (entry-at s from n d)))) t r
+        → Did s m (shifted to (record-steps (name-of (entry-at s from n d)) (content-of (entry-at s from n d)))) t r
     copied-record header name content commit =
         let own = entry-at s from n d in
         let named = name-long s from n d fits in
         let filled = content-long s from n d fits in
         let first : body n d (drop from s₁) ≡ body n d (drop from s) =
         copy-keeps (header-steps d) from to n d 8 apart (omega arith) header (inside-header 8 d (omega arith)) in
-        let name′ : Did s₁ a (moved to (name-steps (name-of own))) s₂ b = rw (same-name n d (drop from s) (drop from s₁) first) at name in
+        let name′ : Did s₁ a (shifted to (name-steps (name-of own))) s₂ b = rw (same-name n d (drop from s) (drop from s₁) first) at name in
         let second : body n d (drop from s₂) ≡ body n d (drop from s₁) =
         copy-keeps (name-steps (name-of own)) from to n d (9 + n) apart (omega arith) name′ (inside-name (9 + n) (name-of own) (omega arith)) in
-        let content′ : Did s₂ b (moved to (data-steps n (content-of own))) s₃ c =
+        let content′ : Did s₂ b (shifted to (data-steps n (content-of own))) s₃ c =
         rw (same-content n d (drop from s) (drop from s₂) (second ∙ first)) at content in
-        rw (record-moved to (name-of own) (content-of own) n d named filled) (did-both header (did-both name′ (did-both content′ commit)))
+        rw (record-shifted to (name-of own) (content-of own) n d named filled) (did-both header (did-both name′ (did-both content′ commit)))

@@ -14,7 +14,7 @@ use Rattle.spec.specs.declared.Place.{Place}
 use Rattle.spec.specs.declared.Status.{Status}
 use Rattle.spec.specs.declared.Placed.the-variants as placed-as
 use Rattle.spec.specs.Geometry.{up8}
-use Rattle.spec.specs.Step.{Image, Step, moved}
+use Rattle.spec.specs.Step.{Image, Step, shifted}
 use Rattle.spec.specs.Bytes.{is-committed}
 use Rattle.spec.specs.Record.{size-of, size, Entry, name-of, content-of}
 use Rattle.spec.specs.Reading.{limit}
@@ -28,7 +28,7 @@ use Rattle.writing.specs.Steps.{record-count}
 use Rattle.writing.specs.Old.{bare, old-entry, migrate-few, put-old}
 use Rattle.writing.specs.Room.{Way, at-tail, at-start, way, placed-parts, marker-before-turn}
 use Rattle.writing.specs.Put.{marks, marks-few, put-phases}
-use Rattle.moving.specs.Kept.{Off, Apart, Avoids, avoids-append, kept, inside-moved, inside-avoids}
+use Rattle.moving.specs.Kept.{Off, Apart, Avoids, avoids-append, kept, inside-shifted, inside-avoids}
 use Rattle.moving.specs.Copied.{entry-at, name-long, content-long, same-name, same-content, same-body, inside-record}
 
 -- "copied as in put", of an entry x in its own place
@@ -69,7 +69,7 @@ marks-avoid i n t false h = tt
 
 -- how many steps a copied record is at most
 pub copy-count : (s : Image) (a from n d : ℕ) → from + size-of n d ≤ length s
-    → length (moved a (record-steps (name-of (entry-at s from n d)) (content-of (entry-at s from n d)))) ≡ n + d + 10
+    → length (shifted a (record-steps (name-of (entry-at s from n d)) (content-of (entry-at s from n d)))) ≡ n + d + 10
 copy-count s a from n d h =
     let x : Entry = entry-at s from n d in
     omega (arith, record-count a (name-of x) (content-of x), name-long s from n d h, content-long s from n d h)
@@ -78,7 +78,7 @@ module _ {s s₁ s₂ t : Image} {m a b r : Meter} (p : Place) (n d at : ℕ) (k
     (ends : HeadEnds p (size-of n d)) (whole : p .length ≡ length s) (taken : fits p (size-of n d) ≡ true)
     (e : placed p (size-of n d) ≡ placed-as.At at k q) (st : Status) (is : st .byte ≡ getD s (p .head + 2) 0) where
   pub copy-phases : Did s m (migrate-steps (old-entry (At (p .head) st)) ++ marks k (p .tail)) s₁ a
-      → Did s₁ a (moved at (record-steps (name-of (entry-at s₁ (p .head) n d)) (content-of (entry-at s₁ (p .head) n d)))) s₂ b
+      → Did s₁ a (shifted at (record-steps (name-of (entry-at s₁ (p .head) n d)) (content-of (entry-at s₁ (p .head) n d)))) s₂ b
       → Did s₂ b (delete-steps (old-entry (At (p .head) st))) t r
       → Did s m (copy-of p (entry-at s (p .head) n d)) t r
   copy-phases before middle behind =
@@ -92,7 +92,7 @@ module _ {s s₁ s₂ t : Image} {m a b r : Meter} (p : Place) (n d at : ℕ) (k
       let kept = same-body h n d before
       (avoids-append (h + 8) body (migrate-steps old) (marks k (p .tail)) (migrate-avoids (bare h st) (h + 8) body (inl (omega arith)))
       (marks-avoid (h + 8) body (p .tail) k marked)) in
-      let middle′ : Did s₁ a (moved at (record-steps (name-of x) (content-of x))) s₂ b = rw
+      let middle′ : Did s₁ a (shifted at (record-steps (name-of x) (content-of x))) s₂ b = rw
       (same-name n d (drop h s) (drop h s₁) kept, same-content n d (drop h s) (drop h s₁) kept) at middle in
       let fit : h + z ≤ length s = omega (arith, ends .inside) in
       let long : placed p (size x) ≡ placed-as.At at k q = rw (name-long s h n d fit, content-long s h n d fit) e in
@@ -107,7 +107,7 @@ pub copy-few : (p : Place) (x : Entry) → length (copy-of p x) ≤ length (name
 unfolding put-steps
 copy-few p x =
     let z : ℕ = size x in
-    let written : List Step = moved (address p z) (record-steps (name-of x) (content-of x)) in
+    let written : List Step = shifted (address p z) (record-steps (name-of x) (content-of x)) in
     let end : List Step = delete-steps (some x) in
     omega (
       arith,
@@ -128,13 +128,13 @@ copy-avoids p x e h f =
     let a : ℕ = address p z in
     let off : Off (a + 0) (a + z) (x .at) 1 = ⊎-elim (λ (l : p .head + z ≤ a). inl (omega arith)) (λ (l : a + z ≤ p .head). inr (omega arith))
     (copy-apart p z h f) in
-    let written : List Step = moved a (record-steps (name-of x) (content-of x)) in
+    let written : List Step = shifted a (record-steps (name-of x) (content-of x)) in
     let marked : with-marker p z ≡ true → x .at + 1 ≤ p .tail = λ m. omega (arith, h .before (marker-before-turn p z f m .0)) in
     avoids-append (x .at) 1 (migrate-steps (some x)) (turn-steps p z ++ (written ++ delete-steps (some x))) (migrate-avoids x (x .at) 1 (inr (omega arith)))
     (avoids-append (x .at) 1 (turn-steps p z) (written ++ delete-steps (some x)) (marks-avoid (x .at) 1 (p .tail) (with-marker p z) marked)
     (avoids-append (x .at) 1 written (delete-steps (some x))
     (inside-avoids (a + 0) (a + z) (x .at) 1 written off
-    (inside-moved a 0 z (record-steps (name-of x) (content-of x)) (inside-record (name-of x) (content-of x) z refl)))
+    (inside-shifted a 0 z (record-steps (name-of x) (content-of x)) (inside-record (name-of x) (content-of x) z refl)))
     (inr (omega arith), tt)))
 
 one-kept : {s t : Image} {m r : Meter} {ss : List Step} (h : ℕ) → Did s m ss t r → Avoids h 1 ss → getD t h 0 ≡ getD s h 0

@@ -7,7 +7,7 @@ use mathlib.Core.Logic.{_⊎_, inl, inr, ⊎-elim}
 use mathlib.Core.List.{List, [], _∷_, _++_}
 use lib.ListN.{length, take, drop, set, length-drop}
 use lib.Seq.{length-take-le, take-set-le, drop-set-lt, drop-drop, take-nil}
-use Rattle.spec.specs.Step.{Image, Step, program, erase, run, bytes-at, moved}
+use Rattle.spec.specs.Step.{Image, Step, program, erase, run, bytes-at, shifted}
 use Rattle.flash.specs.Did.{Did}
 use Rattle.flash.specs.declared.Meter.{Meter}
 
@@ -89,10 +89,10 @@ inside-append a b [] t p q = q
 inside-append a b (program i x ∷ s) t p q = (p .0, p .1, inside-append a b s t (p .2) q)
 inside-append a b (erase i ∷ s) t p q = absurd p
 
-pub inside-moved : (k a b : ℕ) (ss : List Step) → Inside a b ss → Inside (k + a) (k + b) (moved k ss)
-inside-moved k a b [] p = tt
-inside-moved k a b (program i x ∷ ss) p = (omega arith, omega arith, inside-moved k a b ss (p .2))
-inside-moved k a b (erase i ∷ ss) p = absurd p
+pub inside-shifted : (k a b : ℕ) (ss : List Step) → Inside a b ss → Inside (k + a) (k + b) (shifted k ss)
+inside-shifted k a b [] p = tt
+inside-shifted k a b (program i x ∷ ss) p = (omega arith, omega arith, inside-shifted k a b ss (p .2))
+inside-shifted k a b (erase i ∷ ss) p = absurd p
 
 pub inside-avoids : (a b i n : ℕ) (ss : List Step) → Off a b i n → Inside a b ss → Avoids i n ss
 inside-avoids a b i n [] o p = tt

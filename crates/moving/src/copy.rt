@@ -14,7 +14,7 @@ use writing::delete;
 use writing::prepare;
 ghost use Prim.Native.Nat.{_+_, _<_, _≤_};
 ghost use lib.ListN.{length, take, drop};
-ghost use Rattle.spec.specs.Step.{bytes-at, moved};
+ghost use Rattle.spec.specs.Step.{bytes-at, shifted};
 ghost use Rattle.spec.specs.Record.{size-of, name-of, content-of};
 ghost use Rattle.spec.specs.Write.{name-steps, data-steps, record-steps};
 ghost use Rattle.flash.specs.Did.{Did};
@@ -45,7 +45,7 @@ fn copy_name(image: &mut [u8], from: usize, to: usize, n: usize, m: Meter) -> Me
     requires { ⌜ (from + 8 + n ≤ length (now image)) × (to + 8 + n < length (now image)) × Apart (from + 8) (to + 8) n ⌝ }
     requires { ⌜ Counts m (n + 2) ⌝ }
     ensures { λ r. ⌜ (let s = now (image .entry) in
-        Did s m (moved to (name-steps (take n (drop 8 (drop from s))))) (now (image .exit)) r) ⌝ }
+        Did s m (shifted to (name-steps (take n (drop 8 (drop from s))))) (now (image .exit)) r) ⌝ }
 {
     let a = copy_bytes(image, from + 8, to + 8, n, m);
     write_end(image, to + 8 + n, a)
@@ -56,7 +56,7 @@ fn copy_data(image: &mut [u8], from: usize, to: usize, n: usize, d: usize, m: Me
     requires { ⌜ Copyable (length (now image)) from to n d ⌝ }
     requires { ⌜ Counts m d ⌝ }
     ensures { λ r. ⌜ (let s = now (image .entry) in
-        Did s m (moved to (data-steps n (content-of (entry-at s from n d)))) (now (image .exit)) r) ⌝ }
+        Did s m (shifted to (data-steps n (content-of (entry-at s from n d)))) (now (image .exit)) r) ⌝ }
 {
     let start = 8 + up_8(n + 1);
     copy_bytes(image, from + start, to + start, d, m)
@@ -67,7 +67,7 @@ fn copy_record(image: &mut [u8], from: usize, to: usize, n: usize, d: usize, m: 
     requires { ⌜ Copyable (length (now image)) from to n d ⌝ }
     requires { ⌜ Counts m (n + d + 10) ⌝ }
     ensures { λ r. ⌜ (let x = entry-at (now (image .entry)) from n d in
-        Did (now (image .entry)) m (moved to (record-steps (name-of x) (content-of x))) (now (image .exit)) r) ⌝ }
+        Did (now (image .entry)) m (shifted to (record-steps (name-of x) (content-of x))) (now (image .exit)) r) ⌝ }
 {
     let a = reserve(image, to, d, m);
     let b = copy_name(image, from, to, n, a);

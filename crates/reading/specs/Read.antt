@@ -12,7 +12,7 @@ use Rattle.reading.specs.declared.Cursor.{Cursor}
 use Rattle.reading.specs.declared.Tally.{Tally}
 use Rattle.reading.specs.declared.Survey.{Survey}
 use Rattle.reading.specs.declared.Read.{Read}
-use Rattle.reading.specs.Cursor.{Sound, start}
+use Rattle.reading.specs.Cursor.{Cursor-sound, start}
 use Rattle.reading.specs.Rest.{rest}
 use Rattle.reading.specs.Tally.{none-yet, tally, Spots}
 use Rattle.reading.specs.FreeLaws.{In-image}
@@ -33,7 +33,7 @@ answered image (Read.Refused n) = refuse n
 
 -- t is the tally of the chain from start on
 pub record Tallied (image : List ℕ) (start : Cursor) (t : Tally) : Type 0 where
-  pub sound : Sound image start
+  pub sound : Cursor-sound image start
   pub same : t ≡ tally none-yet (rest image start .entries)
   pub spots : Spots image t
 

@@ -16,14 +16,14 @@ use Rattle.spec.specs.Chain.{Reading, reading-from}
 use Rattle.spec.specs.Files.{live, superseded}
 use Rattle.spec.specs.Reading.{head-clean, free-ok, whole, marked, second-ok, marks-ok, names-ok, single, legal, judged, reading}
 use Rattle.spec.specs.Mount.{head-low, settled}
-use Rattle.spec.specs.Answers.{if-settled, settled-reading}
+use Rattle.spec.specs.Door.{if-settled, settled-reading}
 use Rattle.reading.specs.declared.Cursor.{Cursor}
 use Rattle.reading.specs.declared.Spot.{Spot}
 use Rattle.reading.specs.declared.Tally.{Tally}
 use Rattle.reading.specs.Rest.{rest, entry-of}
 use Rattle.reading.specs.Faithful.{Stands, faithful}
 use Rattle.reading.specs.Tally.{none-yet, tally}
-use Rattle.reading.specs.TallyLaws.{tally-records, tally-fine, second-is, clean-few, low-is, clean-is, marks-few, marks-are, held-is}
+use Rattle.reading.specs.TallyLaws.{tally-records, tally-fine, second-is, clean-few, low-is, clean-is, marks-few, marks-are, pending-is}
 use Rattle.reading.specs.NamesLaw.{names-are}
 use Rattle.reading.specs.SettledLaws.{second-marked, last-open, wrap-torn, calm, settled-is}
 use Rattle.reading.specs.FreeLaws.{free-by}
@@ -101,11 +101,11 @@ module _ {image : List ℕ} {start : Cursor} {t : Tally} (w : Tallied image star
         ap (λ (u : Tally). marked (entry-of image (u .second))) q ∙ ap (λ (s : Spot). marked (entry-of image s)) (second-is x y es)
         ∙ ap marked (f .1 .0)
 
-  pub open-is : t .held ≡ last-open (rest image start .entries)
-  open-is = ap (λ (u : Tally). u .held) (w .same) ∙ go (rest image start .entries) where
-    go : (es : List Entry) → tally none-yet es .held ≡ last-open es
+  pub open-is : t .pending ≡ last-open (rest image start .entries)
+  open-is = ap (λ (u : Tally). u .pending) (w .same) ∙ go (rest image start .entries) where
+    go : (es : List Entry) → tally none-yet es .pending ≡ last-open es
     go [] = refl
-    go (e ∷ es) = held-is none-yet e es
+    go (e ∷ es) = pending-is none-yet e es
 
 -- ---- all rules
 

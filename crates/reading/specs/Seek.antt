@@ -12,11 +12,11 @@ use Rattle.spec.specs.Record.{Entry}
 use Rattle.spec.specs.Files.{doubled}
 use Rattle.reading.specs.declared.Cursor.{Cursor}
 use Rattle.reading.specs.declared.Spot.{Spot}
-use Rattle.reading.specs.declared.Step.{Step}
+use Rattle.reading.specs.declared.Item.{Item}
 use Rattle.reading.specs.declared.Found.{Found}
-use Rattle.reading.specs.Cursor.{advance, Sound, left}
+use Rattle.reading.specs.Cursor.{advance, Cursor-sound, left}
 use Rattle.reading.specs.Rest.{Run, entry-of, rest}
-use Rattle.reading.specs.Fold.{Whole, Turned, Not-record, Folded, fold-start, fold-end, fold-stop, fold-step}
+use Rattle.reading.specs.Fold.{Whole, Passes, Not-record, Folded, fold-start, fold-end, fold-stop, fold-step}
 use Rattle.reading.specs.FileLaws.{twice}
 
 -- ---- one element, for any test
@@ -46,10 +46,10 @@ abbrev pub any-of : (Entry → Bool) → Unit {0} → Run → Bool
 any-of p u r = any p (r .entries)
 
 module _ (p : Entry → Bool) {image : List ℕ} {start c : Cursor} (w : Folded (any-of p) image start tt c tt) where
-  pub any-over : (r : Step) → r ≡ advance image c → Not-record r → false ≡ any p (rest image start .entries)
+  pub any-over : (r : Item) → r ≡ advance image c → Not-record r → false ≡ any p (rest image start .entries)
   any-over r e z = fold-end (any-of p) image start tt c tt w r e z
 
-  module _ {e : Spot} {next : Cursor} (t : Turned image c e next) where
+  module _ {e : Spot} {next : Cursor} (t : Passes image c e next) where
     pub any-found : p (entry-of image e) ≡ true → true ≡ any p (rest image start .entries)
     any-found h = fold-stop (any-of p) image start tt c tt w e next t true (any-hit p (entry-of image e) (rest image next .entries) h)
 
@@ -66,15 +66,15 @@ pub record Counted (p : Entry → Bool) (image : List ℕ) (start c : Cursor) (m
   pub fold : Folded (count-of p) image start 0 c m
   pub few : m + left c ≤ left start
 
-pub count-start : (p : Entry → Bool) {image : List ℕ} {start : Cursor} → Sound image start → Counted p image start start 0
+pub count-start : (p : Entry → Bool) {image : List ℕ} {start : Cursor} → Cursor-sound image start → Counted p image start start 0
 count-start p {image} {start} s = record { fold = fold-start (count-of p) image start 0 s; few = omega arith }
 
 module _ (p : Entry → Bool) {image : List ℕ} {start c : Cursor} {m : ℕ} (w : Counted p image start c m) where
-  pub count-over : (r : Step) → r ≡ advance image c → Not-record r → m ≡ length (keep p (rest image start .entries))
+  pub count-over : (r : Item) → r ≡ advance image c → Not-record r → m ≡ length (keep p (rest image start .entries))
   count-over r e z =
       sym (add-zero m) ∙ fold-end (count-of p) image start 0 c m (w .fold) r e z ∙ zero-add (length (keep p (rest image start .entries)))
 
-  module _ {e : Spot} {next : Cursor} (t : Turned image c e next) where
+  module _ {e : Spot} {next : Cursor} (t : Passes image c e next) where
     pub count-one : p (entry-of image e) ≡ true → Counted p image start next (m + 1)
     count-one h =
         record {
@@ -97,11 +97,11 @@ abbrev pub doubled-of : ℕ → Unit {0} → Run → Bool
 doubled-of st u r = doubled st (r .entries)
 
 module _ (st : ℕ) {image : List ℕ} {start c : Cursor} (w : Folded (doubled-of st) image start tt c tt) where
-  pub doubled-over : (r : Step) → r ≡ advance image c → Not-record r → false ≡ doubled st (rest image start .entries)
+  pub doubled-over : (r : Item) → r ≡ advance image c → Not-record r → false ≡ doubled st (rest image start .entries)
   unfolding doubled
   doubled-over r e z = fold-end (doubled-of st) image start tt c tt w r e z
 
-  module _ {e : Spot} {next : Cursor} (t : Turned image c e next) where
+  module _ {e : Spot} {next : Cursor} (t : Passes image c e next) where
     pub doubled-found : twice st (rest image next .entries) (entry-of image e) ≡ true → true ≡ doubled st (rest image start .entries)
     unfolding doubled twice
     doubled-found h = fold-stop (doubled-of st) image start tt c tt w e next t true (rw (h, doubled))
@@ -126,10 +126,10 @@ abbrev pub first-of : (Entry → Bool) → (Entry → Bool) → Unit {0} → Run
 first-of p q u r = first-such p (keep q (r .entries))
 
 module _ (p q : Entry → Bool) {image : List ℕ} {start c : Cursor} (w : Folded (first-of p q) image start tt c tt) where
-  pub first-over : (r : Step) → r ≡ advance image c → Not-record r → none ≡ first-such p (keep q (rest image start .entries))
+  pub first-over : (r : Item) → r ≡ advance image c → Not-record r → none ≡ first-such p (keep q (rest image start .entries))
   first-over r e z = fold-end (first-of p q) image start tt c tt w r e z
 
-  module _ {e : Spot} {next : Cursor} (t : Turned image c e next) where
+  module _ {e : Spot} {next : Cursor} (t : Passes image c e next) where
     kept : q (entry-of image e) ≡ true → keep q (entry-of image e ∷ rest image next .entries) ≡ entry-of image e ∷ keep q (rest image next .entries)
     kept h = keep-hit q (entry-of image e) (rest image next .entries) h
 
@@ -159,10 +159,10 @@ nth-less q x xs zero h z = absurd (z refl)
 nth-less q x xs (suc i) h z = let k : suc i - 1 ≡ i = omega arith in rw (keep-hit q x xs h, k)
 
 module _ (q : Entry → Bool) {image : List ℕ} {start c : Cursor} {i₀ i : ℕ} (w : Folded (nth-of q) image start i₀ c i) where
-  pub nth-over : (r : Step) → r ≡ advance image c → Not-record r → none ≡ getElem? (keep q (rest image start .entries)) i₀
+  pub nth-over : (r : Item) → r ≡ advance image c → Not-record r → none ≡ getElem? (keep q (rest image start .entries)) i₀
   nth-over r e z = fold-end (nth-of q) image start i₀ c i w r e z
 
-  module _ {e : Spot} {next : Cursor} (t : Turned image c e next) where
+  module _ {e : Spot} {next : Cursor} (t : Passes image c e next) where
     pub nth-found : q (entry-of image e) ≡ true → i ≡ 0 → some (entry-of image e) ≡ getElem? (keep q (rest image start .entries)) i₀
     nth-found h z =
         fold-stop (nth-of q) image start i₀ c i w e next t (some (entry-of image e))

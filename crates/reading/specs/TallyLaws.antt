@@ -140,11 +140,11 @@ marks-are image (x ∷ (y ∷ es)) t q f h =
     ap₂ (λ (v : Bool) (w : Bool). not v && w) c (ap₂ (second-ok all) a b) ∙ and-swap (not (any marked es)) (second-ok all x y)
 
 -- the last record
-abbrev pub last-held : Entry → List Entry → Bool
-last-held e [] = is-unfinished (e .it .status)
-last-held e (f ∷ es) = last-held f es
+abbrev pub last-pending : Entry → List Entry → Bool
+last-pending e [] = is-unfinished (e .it .status)
+last-pending e (f ∷ es) = last-pending f es
 
-pub held-is : (t : Tally) (e : Entry) (es : List Entry) → tally t (e ∷ es) .held ≡ last-held e es
+pub pending-is : (t : Tally) (e : Entry) (es : List Entry) → tally t (e ∷ es) .pending ≡ last-pending e es
 unfolding noted
-held-is t e [] = refl
-held-is t e (f ∷ es) = held-is (noted t e) f es
+pending-is t e [] = refl
+pending-is t e (f ∷ es) = pending-is (noted t e) f es

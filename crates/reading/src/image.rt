@@ -2,7 +2,7 @@
 use crate::Cursor;
 use crate::Headed;
 use crate::Read;
-use crate::Step;
+use crate::Item;
 use crate::Survey;
 use crate::Tally;
 use crate::chain::start_at;
@@ -18,7 +18,7 @@ ghost use Prim.Native.Nat.{_≤_, _^_};
 ghost use lib.ListN.{length};
 ghost use Rattle.spec.specs.Chain.{reading-from};
 ghost use Rattle.spec.specs.Reading.{judged, reading};
-ghost use Rattle.spec.specs.Answers.{settled-reading};
+ghost use Rattle.spec.specs.Door.{settled-reading};
 ghost use Rattle.reading.specs.Read.{first-cursor, answered, Told, Quiet};
 ghost use Rattle.reading.specs.Survey.{Seen, told, survey-of};
 
@@ -45,14 +45,14 @@ fn told(n: usize, h: usize, tail: usize, turned: bool, ending: Ending, tally: Ta
 }
 
 // The chain from h on ends so.
-fn survey_of(n: usize, h: usize, end: Step, t: Tally) -> Survey
+fn survey_of(n: usize, h: usize, end: Item, t: Tally) -> Survey
     ensures { λ r. ⌜ r ≡ survey-of n h end t ⌝ }
 {
     match end {
-        Step::Record(_, _) => told(n, h, 0, false, Ending::Broken, t),
-        Step::End(tail, turned) => told(n, h, tail, turned, Ending::Tail, t),
-        Step::TornWrap(at) => told(n, h, 0, true, Ending::TornWrap(at), t),
-        Step::Broken(tail, turned) => told(n, h, tail, turned, Ending::Broken, t),
+        Item::Record(_, _) => told(n, h, 0, false, Ending::Broken, t),
+        Item::End(tail, turned) => told(n, h, tail, turned, Ending::Tail, t),
+        Item::TornWrap(at) => told(n, h, 0, true, Ending::TornWrap(at), t),
+        Item::Broken(tail, turned) => told(n, h, tail, turned, Ending::Broken, t),
     }
 }
 

@@ -25,7 +25,7 @@ pub struct Cursor {
     pub end: usize,
     pub room: usize,
     pub turned: bool,
-    pub held: bool,
+    pub pending: bool,
 }
 
 // Where a record stands, with its n name bytes and d data bytes.
@@ -36,7 +36,7 @@ pub struct Spot {
 }
 
 // What stands at a cursor: a record, with the cursor past it; or how the chain ends, with the address and whether it had turned.
-pub enum Step {
+pub enum Item {
     Record(Spot, Cursor),
     End(usize, bool),
     TornWrap(usize),
@@ -59,13 +59,13 @@ pub struct Tally {
     pub last: Spot,
     pub fine: bool,
     pub further: bool,
-    pub held: bool,
+    pub pending: bool,
 }
 
 // The tally of a whole chain, and how the chain ends.
 pub struct Pass {
     pub tally: Tally,
-    pub end: Step,
+    pub end: Item,
 }
 
 // All that the calls go by: head, tail and turn; how the chain ends; the tally.

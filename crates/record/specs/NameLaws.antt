@@ -14,23 +14,23 @@ use Rattle.record.specs.Suffix.{drop-next}
 
 -- ---- the end of a name, with n bytes of the window left: past the part, at an end, at another byte, past the window
 
-pub name-end : (n : ℕ) (held : Bool) (s : List ℕ) (i : ℕ) → length s ≤ i → name-length n held (drop i s) ≡ n
+pub name-end : (n : ℕ) (reserved : Bool) (s : List ℕ) (i : ℕ) → length s ≤ i → name-length n reserved (drop i s) ≡ n
 unfolding name-length
-name-end zero held s i h = refl
-name-end (suc k) held s i h = rw (drop-of-length-le s h)
+name-end zero reserved s i h = refl
+name-end (suc k) reserved s i h = rw (drop-of-length-le s h)
 
-module _ (n k : ℕ) (held : Bool) (s : List ℕ) (i : ℕ) (e : n ≡ suc k) (h : i < length s) where
-  pub name-hit : ends-name held (getD s i 0) ≡ true → name-length n held (drop i s) ≡ 0
+module _ (n k : ℕ) (reserved : Bool) (s : List ℕ) (i : ℕ) (e : n ≡ suc k) (h : i < length s) where
+  pub name-hit : ends-name reserved (getD s i 0) ≡ true → name-length n reserved (drop i s) ≡ 0
   unfolding name-length
   name-hit q = rw (e, drop-next s i h, q, name-length)
 
-  pub name-miss : ends-name held (getD s i 0) ≡ false → name-length n held (drop i s) ≡ suc (name-length k held (drop (i + 1) s))
+  pub name-miss : ends-name reserved (getD s i 0) ≡ false → name-length n reserved (drop i s) ≡ suc (name-length k reserved (drop (i + 1) s))
   unfolding name-length
   name-miss q = rw (e, drop-next s i h, q, name-length)
 
-pub name-out : (n : ℕ) (held : Bool) (s : List ℕ) → n ≡ 0 → name-length n held s ≡ 0
+pub name-out : (n : ℕ) (reserved : Bool) (s : List ℕ) → n ≡ 0 → name-length n reserved s ≡ 0
 unfolding name-length
-name-out n held s e = rw e
+name-out n reserved s e = rw e
 
 -- ---- a test of every byte
 

@@ -35,13 +35,13 @@ module _ (s : List ℕ) (n d : ℕ) where
   sized-none false l e = rw (sized, e)
 
 -- the name's length read in the part from byte 8 on
-pub sized-as : (held : Bool) (s p : List ℕ) (n d : ℕ) {x : Next} → n ≡ name-length 64 held p → p ≡ take (length s - 8) (drop 8 s) → d ≡ data-len-of s
-    → sized s n d ≡ x → x ≡ record-at held s
-sized-as held s p n d name part data-len e =
-    sym e ∙ ap₂ (sized s) (name ∙ ap (name-length 64 held) (part ∙ part-to-end s 8)) data-len
+pub sized-as : (reserved : Bool) (s p : List ℕ) (n d : ℕ) {x : Next} → n ≡ name-length 64 reserved p → p ≡ take (length s - 8) (drop 8 s) → d ≡ data-len-of s
+    → sized s n d ≡ x → x ≡ record-at reserved s
+sized-as reserved s p n d name part data-len e =
+    sym e ∙ ap₂ (sized s) (name ∙ ap (name-length 64 reserved) (part ∙ part-to-end s 8)) data-len
 
-pub record-at-none : (held : Bool) (s : List ℕ) → length s < 8 → Next.Bad ≡ record-at held s
-record-at-none held s l = sym (sized-none s (name-length 64 held (drop 8 s)) (data-len-of s) _ l refl)
+pub record-at-none : (reserved : Bool) (s : List ℕ) → length s < 8 → Next.Bad ≡ record-at reserved s
+record-at-none reserved s l = sym (sized-none s (name-length 64 reserved (drop 8 s)) (data-len-of s) _ l refl)
 
 -- ---- any thing
 

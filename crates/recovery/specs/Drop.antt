@@ -20,8 +20,8 @@ use Rattle.flash.specs.declared.Meter.{Meter}
 use Rattle.flash.specs.Did.{Did, did-one}
 use Rattle.reading.specs.declared.Cursor.{Cursor}
 use Rattle.reading.specs.declared.Spot.{Spot}
-use Rattle.reading.specs.declared.Step.{Step as Chain-step}
-use Rattle.reading.specs.Cursor.{Sound, turn, unfinished-at, advance}
+use Rattle.reading.specs.declared.Item.{Step as Chain-step}
+use Rattle.reading.specs.Cursor.{Cursor-sound, turn, unfinished-at, advance}
 use Rattle.reading.specs.Rest.{Run, entry-of, followed, rest, rest-step}
 use Rattle.reading.specs.Fold.{Not-record, rest-done}
 use Rattle.reading.specs.Bridge.{shown, reading-is}
@@ -84,7 +84,7 @@ module _ (t : Image) (start c : Cursor) (before : List Entry) (e : Spot) (behind
     ahead =
         ⊎-elim
         (λ w. inl (omega (arith, w .1 .place), omega (arith, w .1 .place, tidy-c .ordered, stood-fits t e behind c (w .1))))
-        (λ w. inr (omega (arith, w .1 .place, stood-fits t e behind (turn (c .room) (c .held)) (w .1))))
+        (λ w. inr (omega (arith, w .1 .place, stood-fits t e behind (turn (c .room) (c .pending)) (w .1))))
         (way t e behind c h)
 
     finished : (i : ℕ) → e .at ≡ i → unfinished-at (set t (i + 2) 0) i ≡ unfinished-at t i
@@ -103,11 +103,11 @@ module _ (t : Image) (start c : Cursor) (before : List Entry) (e : Spot) (behind
         (look-dropped t c (e .n) (e .d) (w .1 .what) (omega arith) (ap (λ (k : ℕ). getD t (k + 2) 0) (sym q) ∙ old)) (finished (c .at) q)))
         (λ w.
         let q : e .at ≡ 0 = w .1 .place in
-        let f = stood-fits t e behind (turn (c .room) (c .held)) (w .1) in
+        let f = stood-fits t e behind (turn (c .room) (c .pending)) (w .1) in
         ap (λ (i : ℕ). advance (set t (i + 2) 0) c) q
         ∙ (there-again t (set t (0 + 2) 0) c e behind (w .0) (window-kept t (0 + 2) 0 c (tidy-c .ordered) (inl (omega (arith, tidy-c .apart, f))))
         (w .1)
-        (look-dropped t (turn (c .room) (c .held)) (e .n) (e .d) (w .1 .what) (omega arith) (ap (λ (k : ℕ). getD t (k + 2) 0) (sym q) ∙ old))
+        (look-dropped t (turn (c .room) (c .pending)) (e .n) (e .d) (w .1 .what) (omega arith) (ap (λ (k : ℕ). getD t (k + 2) 0) (sym q) ∙ old))
         (finished 0 q)))
         (way t e behind c h)
 
@@ -209,7 +209,7 @@ module _ {s t : Image} {start c : Cursor} {m q : Meter} (w : Dropping s start m 
 
 -- ---- from the head on
 
-pub sound-same : (s t : Image) (c : Cursor) → Sound s c → length t ≡ length s → Sound t c
+pub sound-same : (s t : Image) (c : Cursor) → Cursor-sound s c → length t ≡ length s → Cursor-sound t c
 sound-same s t c w e = record { ordered = w .ordered; inside = rw e (w .inside); room = rw e (w .room); small = rw e (w .small) }
 
 pub tidy-first : (s : Image) (h : ℕ) → h ≤ length s → Tidy (first-cursor s h)

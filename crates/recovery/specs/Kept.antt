@@ -22,22 +22,22 @@ never e f = absurd (let z : _≡_ {A = ℕ} 0 1 = cc in omega arith)
 
 -- ---- the name's end
 
-name-kept : (k : ℕ) (held : Bool) (s t : List ℕ) (n : ℕ) → name-length k held s ≡ n → n < k → n < length t
+name-kept : (k : ℕ) (reserved : Bool) (s t : List ℕ) (n : ℕ) → name-length k reserved s ≡ n → n < k → n < length t
     → ((i : ℕ) → i ≤ n → getD t i 0 ≡ getD s i 0)
-    → name-length k held t ≡ n
+    → name-length k reserved t ≡ n
 unfolding name-length
-name-kept zero held s t n e h l f = absurd (not-suc-le-zero h)
-name-kept (suc k) held [] t n e h l f = absurd (omega arith)
-name-kept (suc k) held (b ∷ s) [] n e h l f = absurd (not-suc-le-zero l)
-name-kept (suc k) held (b ∷ s) (c ∷ t) n e h l f = go (ends-name held b) refl (name-kept k held s t) where
-  go : (v : Bool) → ends-name held b ≡ v
-      → ((m : ℕ) → name-length k held s ≡ m → m < k → m < length t → ((i : ℕ) → i ≤ m → getD t i 0 ≡ getD s i 0) → name-length k held t ≡ m)
-      → name-length (suc k) held (c ∷ t) ≡ n
-  go true q ih = rw (name-length, ap (ends-name held) (f 0 (omega arith)) ∙ q) (rw (name-length, q) at e)
+name-kept zero reserved s t n e h l f = absurd (not-suc-le-zero h)
+name-kept (suc k) reserved [] t n e h l f = absurd (omega arith)
+name-kept (suc k) reserved (b ∷ s) [] n e h l f = absurd (not-suc-le-zero l)
+name-kept (suc k) reserved (b ∷ s) (c ∷ t) n e h l f = go (ends-name reserved b) refl (name-kept k reserved s t) where
+  go : (v : Bool) → ends-name reserved b ≡ v
+      → ((m : ℕ) → name-length k reserved s ≡ m → m < k → m < length t → ((i : ℕ) → i ≤ m → getD t i 0 ≡ getD s i 0) → name-length k reserved t ≡ m)
+      → name-length (suc k) reserved (c ∷ t) ≡ n
+  go true q ih = rw (name-length, ap (ends-name reserved) (f 0 (omega arith)) ∙ q) (rw (name-length, q) at e)
   go false q ih =
-      let m : ℕ = name-length k held s in
+      let m : ℕ = name-length k reserved s in
       let j : suc m ≡ n = rw (name-length, q) at e in
-      rw (name-length, ap (ends-name held) (f 0 (omega arith)) ∙ q)
+      rw (name-length, ap (ends-name reserved) (f 0 (omega arith)) ∙ q)
       (ap suc (ih m refl (omega arith) (omega arith) (λ i r. f (suc i) (omega arith))) ∙ j)
 
 -- ---- what is read off the front
@@ -75,12 +75,12 @@ wrap-other s {n} {d} true e h =
 wrap-other s false e h = never (rw (torn-wrap-at, e)) h
 
 module _ (s t : List ℕ) (n d : ℕ) (len : length t ≡ length s) (same : (i : ℕ) → 4 ≤ i → i < size-of n d → getD t i 0 ≡ getD s i 0) where
-  record-kept : (held : Bool) → sized s (name-length 64 held (drop 8 s)) (data-len-of s) ≡ Next.Record n d
-      → sized t (name-length 64 held (drop 8 t)) (data-len-of t) ≡ Next.Record n d
-  record-kept held h =
-      let w = sized-is s (name-length 64 held (drop 8 s)) (data-len-of s) n d _ _ refl refl h in
-      let a : name-length 64 held (drop 8 t) ≡ n =
-      name-kept 64 held (drop 8 s) (drop 8 t) n (w .name) (w .short) (rw length-drop (omega (arith, w .fits)))
+  record-kept : (reserved : Bool) → sized s (name-length 64 reserved (drop 8 s)) (data-len-of s) ≡ Next.Record n d
+      → sized t (name-length 64 reserved (drop 8 t)) (data-len-of t) ≡ Next.Record n d
+  record-kept reserved h =
+      let w = sized-is s (name-length 64 reserved (drop 8 s)) (data-len-of s) n d _ _ refl refl h in
+      let a : name-length 64 reserved (drop 8 t) ≡ n =
+      name-kept 64 reserved (drop 8 s) (drop 8 t) n (w .name) (w .short) (rw length-drop (omega (arith, w .fits)))
       (λ i l. getD-drop 8 t i 0 ∙ same (8 + i) (omega arith) (omega arith) ∙ sym (getD-drop 8 s i 0)) in
       let b : data-len-of t ≡ d =
       omega (

@@ -7,7 +7,7 @@ use mathlib.Core.List.{List, [], _∷_, _++_}
 use lib.ListN.{length, getD}
 use lib.Seq.{getD-drop}
 use borrow.Author.Tests.{eq-eqb, ne-eqb}
-use Rattle.spec.specs.Step.{Image, Step, program, moved}
+use Rattle.spec.specs.Step.{Image, Step, program, shifted}
 use Rattle.spec.specs.Basics.{Each}
 use Rattle.spec.specs.Bytes.{is-erased, is-reserved}
 use Rattle.spec.specs.Record.{Entry}
@@ -44,7 +44,7 @@ name-open s a e = ap (λ (t : Bool). elim t [ true ↦ [] | false ↦ name-end-s
 -- ---- by its status
 
 void-by : (s : Image) (e : Entry) (t u : Bool) → is-erased (e .it .status) ≡ t → is-reserved (e .it .status) ≡ u
-    → void-steps s e ≡ elim t [ true ↦ moved (e .at) torn-steps | false ↦ elim u [ true ↦ reserved-steps s e | false ↦ [] ] ]
+    → void-steps s e ≡ elim t [ true ↦ shifted (e .at) torn-steps | false ↦ elim u [ true ↦ reserved-steps s e | false ↦ [] ] ]
 unfolding void-steps
 void-by s e true u p q = rw (void-steps, p)
 void-by s e false true p q = rw (void-steps, p, q)
@@ -57,7 +57,7 @@ module _ (s : Image) (e : Spot) where
   status-is : entry-of s e .it .status ≡ getD s (e .at + 2) 0
   status-is = getD-drop (e .at) s 2 0
 
-  pub void-torn : getD s (e .at + 2) 0 ≡ 0xFF → void-steps s (entry-of s e) ≡ moved (e .at) torn-steps
+  pub void-torn : getD s (e .at + 2) 0 ≡ 0xFF → void-steps s (entry-of s e) ≡ shifted (e .at) torn-steps
   unfolding is-erased
   void-torn h = void-by s (entry-of s e) true _ (eq-eqb (entry-of s e .it .status) 0xFF (status-is ∙ h)) refl
 

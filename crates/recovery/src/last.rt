@@ -13,7 +13,7 @@ use writing::build::write_end;
 use writing::build::write_marker;
 ghost use Prim.Native.Nat.{_+_, _≤_, _<_, _^_};
 ghost use lib.ListN.{length};
-ghost use Rattle.spec.specs.Step.{moved};
+ghost use Rattle.spec.specs.Step.{shifted};
 ghost use Rattle.spec.specs.Chain.{reading-from};
 ghost use Rattle.spec.specs.Mount.{torn-steps, missing-steps, reserved-steps, void-steps, last-steps, torn-wrap-steps};
 ghost use Rattle.flash.specs.Did.{Did};
@@ -51,7 +51,7 @@ fn build_void(part: &mut [u8], m: Meter) -> Meter
 // The image from the torn record's start on is lent to the function above.
 fn void_torn(image: &mut [u8], at: usize, m: Meter) -> Meter
     requires { ⌜ (at + 8 < length (now image)) × (m .asked + 9 ≤ 2 ^ 32) ⌝ }
-    ensures { λ r. ⌜ Did (now (image .entry)) m (moved at torn-steps) (now (image .exit)) r ⌝ }
+    ensures { λ r. ⌜ Did (now (image .entry)) m (shifted at torn-steps) (now (image .exit)) r ⌝ }
 {
     build_void(&mut image[at..], m)
 }

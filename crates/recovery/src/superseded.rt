@@ -3,7 +3,7 @@ use flash::Meter;
 use flash::program;
 use reading::Cursor;
 use reading::Spot;
-use reading::Step;
+use reading::Item;
 use reading::chain::advance;
 use reading::files::is_superseded;
 use reading::image::first_cursor;
@@ -16,13 +16,13 @@ ghost use Rattle.spec.specs.Chain.{reading-from};
 ghost use Rattle.spec.specs.Files.{superseded};
 ghost use Rattle.spec.specs.Mount.{delete-step, drop-steps};
 ghost use Rattle.flash.specs.Did.{Did};
-ghost use Rattle.reading.specs.Cursor.{Sound};
+ghost use Rattle.reading.specs.Cursor.{Cursor-sound};
 ghost use Rattle.reading.specs.Rest.{entry-of, rest};
 ghost use Rattle.reading.specs.Fold.{Whole};
 
 // The record at e, if it is such a one of the chain from start on.
 fn drop_one(image: &mut [u8], start: Cursor, e: Spot, m: Meter) -> Meter
-    requires { ⌜ Sound (now image) start × Whole (now image) e × (m .asked < 2 ^ 32) ⌝ }
+    requires { ⌜ Cursor-sound (now image) start × Whole (now image) e × (m .asked < 2 ^ 32) ⌝ }
     ensures { λ r. ⌜ Did (now (image .entry)) m (map delete-step (keep (superseded (rest (now (image .entry)) start .entries)) (entry-of (now (image .entry)) e ∷ []))) (now (image .exit)) r × (r .asked ≤ m .asked + 1) ⌝ }
 {
     if is_superseded(image, start, e) {
@@ -41,7 +41,7 @@ pub fn drop_superseded(image: &mut [u8], h: usize, m: Meter) -> Meter
     let mut c = start;
     loop {
         let s = advance(image, c);
-        let Step::Record(e, next) = s else {
+        let Item::Record(e, next) = s else {
             return q;
         };
         q = drop_one(image, start, e, q);

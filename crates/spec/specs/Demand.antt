@@ -4,7 +4,8 @@ use lib.Bits.{bitAnd}
 use Rattle.spec.specs.Step.{Image, Step, program, erase, apply}
 use Rattle.spec.specs.Basics.{Each}
 use Rattle.spec.specs.Record.{name-ok}
-use Rattle.spec.specs.Answers.{format, mount, get, list, part-of, mount-plan}
+use Rattle.spec.specs.Answers.{format, mount, get, list, mount-plan}
+use Rattle.spec.specs.Numbers.{part-of}
 use Rattle.spec.specs.History.{Request, Call, outcome, replay, steps-of, steps-done, File, Ledger, has, ledger}
 
 -- ---- bytes only lose bits
@@ -14,14 +15,14 @@ abbrev pub Clears : ℕ → ℕ → Type 0
 Clears found listed = bitAnd listed found ≡ listed
 
 -- what may be asked of the step of a list: the byte that a program step finds is there, and loses bits only; an erase takes a sector of the image
-abbrev pub Sound : Image → Step → Type 0
-Sound image (program a b) = (a < length image) × Clears (getD image a 0) b
-Sound image (erase a) = (a % 4096 ≡ 0) × (a + 4096 ≤ length image)
+abbrev pub Step-sound : Image → Step → Type 0
+Step-sound image (program a b) = (a < length image) × Clears (getD image a 0) b
+Step-sound image (erase a) = (a % 4096 ≡ 0) × (a + 4096 ≤ length image)
 
 -- so of each step of a list
 abbrev pub Steps-sound : Image → List Step → Type 0
 Steps-sound image [] = Unit {0}
-Steps-sound image (s ∷ ss) = Sound image s × Steps-sound (apply image s) ss
+Steps-sound image (s ∷ ss) = Step-sound image s × Steps-sound (apply image s) ss
 
 -- so of each call of a history; "each program step in it .. stands in one of the step lists above" by definition: the steps done are the first of its plan's
 abbrev pub Calls-sound : Image → List Call → Type 0
@@ -60,7 +61,7 @@ pub record Mounted (image : Image) (k : ℕ) (l : Ledger) : Type 0 where
   pub answer : mount image k .numbers .answer ≡ 0
   pub shows : Shows (mount image k .image) (mount image k .numbers .third) l
 
--- all of it, for a history, cut inside bytes too (`held` in Call), that begins at `start`, leaves `image` and has the ledger `l`;
+-- all of it, for a history, cut inside bytes too (`cut-byte` in Call), that begins at `start`, leaves `image` and has the ledger `l`;
 -- a mount with a smaller allowance does the first of the same steps
 pub record Kept (start : Image) (calls : List Call) (image : Image) (l : Ledger) : Type 0 where
   pub sound : Calls-sound start calls

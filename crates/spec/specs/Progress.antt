@@ -6,7 +6,8 @@ use Rattle.spec.specs.Step.{Image}
 use Rattle.spec.specs.Basics.{give, keep, Each}
 use Rattle.spec.specs.Chain.{Reading}
 use Rattle.spec.specs.Place.{begins-there}
-use Rattle.spec.specs.Answers.{format, put, sweep, sweep-plan, settled-reading}
+use Rattle.spec.specs.Answers.{format, put, sweep, sweep-plan}
+use Rattle.spec.specs.Door.{settled-reading}
 use Rattle.spec.specs.History.{Call, replay, steps-of}
 use Rattle.spec.specs.Demand.{Bytes-put}
 

@@ -77,19 +77,19 @@ impl Place {
         ensures { λ r. ⌜ r ≡ placed self size ⌝ }
     {
         if self.fits_at_tail(size) {
-            return Placed::At(self.tail, false, self.moved(self.tail + size, self.turned));
+            return Placed::At(self.tail, false, self.with_tail(self.tail + size, self.turned));
         }
         if self.turned {
             return Placed::Full;
         }
         if size <= floor(self.head) {
-            return Placed::At(0, self.tail < self.length, self.moved(size, true));
+            return Placed::At(0, self.tail < self.length, self.with_tail(size, true));
         }
         Placed::Full
     }
 
     // The same with another tail.
-    fn moved(self, tail: usize, turned: bool) -> Place
+    fn with_tail(self, tail: usize, turned: bool) -> Place
         ensures { λ r. ⌜ r ≡ with-tail self tail turned ⌝ }
     {
         Place {

@@ -14,7 +14,7 @@ use Rattle.flash.specs.declared.Meter.{Meter}
 use Rattle.flash.specs.Did.{Did, did-none, did-both, did-all}
 use Rattle.reading.specs.declared.Cursor.{Cursor}
 use Rattle.reading.specs.declared.Spot.{Spot}
-use Rattle.reading.specs.declared.Step as chain
+use Rattle.reading.specs.declared.Item as chain
 use Rattle.reading.specs.Cursor.{advance}
 use Rattle.reading.specs.Rest.{Run, entry-of, rest}
 use Rattle.reading.specs.Fold.{Not-record, rest-done}
@@ -23,10 +23,10 @@ use Rattle.moving.specs.Kept.{kept}
 use Rattle.moving.specs.Clean.{cleaned-is}
 use Rattle.moving.specs.Close.{close-same, close-low}
 use Rattle.sweeping.specs.declared.Moved.{Moved}
-use Rattle.sweeping.specs.Way.{reached}
-use Rattle.sweeping.specs.First.{apart, second-even}
+use Rattle.reading.specs.Way.{reached}
+use Rattle.reading.specs.FirstRecord.{apart, second-even}
 use Rattle.sweeping.specs.Steps.{hand-steps, hand-head, handing, heading}
-use Rattle.sweeping.specs.Standing.{Led, Found, entries-are, stands}
+use Rattle.reading.specs.Standing.{Led, Taken, entries-are, stands}
 
 pub record Handed (s : Image) (h : ℕ) (m : Meter) (t : Image) (r : Moved) : Type 0 where
   pub did : Did s m (handing s h) t (r .meter)
@@ -53,17 +53,17 @@ module _ {s : Image} {h : ℕ} (w : Led s h) (m : Meter) where
   hand-none q f e z =
       none-handed [] (entries-are s h w ∙ ap (λ (r : Run). r .entries) (rest-done s (first-cursor s h) q (e ∙ ap (advance s) f) z)) refl (λ N. refl)
 
-  module _ {x : Spot} {c : Cursor} (t : Found s (first-cursor s h) x c) where
+  module _ {x : Spot} {c : Cursor} (t : Taken s (first-cursor s h) x c) where
     listed : reading-from s h .entries ≡ entry-of s x ∷ rest s c .entries
-    listed = entries-are s h w ∙ ap (λ (r : Run). r .entries) (t .turned .split)
+    listed = entries-are s h w ∙ ap (λ (r : Run). r .entries) (t .passes .split)
 
     pub hand-one : (q : chain.Step) → q ≡ advance s c → Not-record q → Handed s h m s (record { head = h; meter = m })
     hand-one q e z =
         none-handed (entry-of s x ∷ []) (listed ∙ ap (λ (r : Run). entry-of s x ∷ r .entries) (rest-done s c q e z)) refl (λ N. refl)
 
-    module _ {y : Spot} {d : Cursor} (u : Found s c y d) where
+    module _ {y : Spot} {d : Cursor} (u : Taken s c y d) where
       two : reading-from s h .entries ≡ entry-of s x ∷ (entry-of s y ∷ rest s d .entries)
-      two = listed ∙ ap (λ (r : Run). entry-of s x ∷ r .entries) (u .turned .split)
+      two = listed ∙ ap (λ (r : Run). entry-of s x ∷ r .entries) (u .passes .split)
 
       -- Y's first byte is none of X's data
       same-data : {v : Image} {a : Meter} → Did s m (program (y .at) 0xA0 ∷ []) v a
@@ -77,8 +77,8 @@ module _ {s : Image} {h : ℕ} (w : Led s h) (m : Meter) where
       same-close : {v : Image} {a : Meter} → length v ≡ length s → Did s m (program (y .at) 0xA0 ∷ []) v a
           → close-steps (length v) (entry-of v x) (entry-of v y) 0xA0 ≡ close-steps (length s) (entry-of s x) (entry-of s y) 0xA0
       same-close {v} l g =
-          close-same s x y 0xA0 v l (cleaned-is v x (record { fits = omega (arith, t .turned .whole .fits) }) refl
-          ∙ ap (clean-steps (x .d) (x .at + 8 + up8 (x .n + 1))) (same-data g) ∙ sym (cleaned-is s x (t .turned .whole) refl))
+          close-same s x y 0xA0 v l (cleaned-is v x (record { fits = omega (arith, t .passes .whole .fits) }) refl
+          ∙ ap (clean-steps (x .d) (x .at + 8 + up8 (x .n + 1))) (same-data g) ∙ sym (cleaned-is s x (t .passes .whole) refl))
 
       handing-is : handing s h ≡ program (y .at) 0xA0 ∷ close-steps (length s) (entry-of s x) (entry-of s y) 0xA0
       unfolding handing
@@ -98,7 +98,7 @@ module _ {s : Image} {h : ℕ} (w : Led s h) (m : Meter) where
           ∙ ap (run s) handing-is in
           ap (λ (i : Image). getD i (y .at) 0) j
           ∙ close-low (run s (program (y .at) 0xA0 ∷ [])) (length s) (entry-of s x) (entry-of s y)
-          (omega (arith, ap length j, u .turned .whole .fits)) in
+          (omega (arith, ap length j, u .passes .whole .fits)) in
           record {
             did = did;
             head = sym heading-is;
@@ -106,7 +106,7 @@ module _ {s : Image} {h : ℕ} (w : Led s h) (m : Meter) where
                 record {
                   even =
                       second-even s h (w .inside) (w .low) x c (reached s (first-cursor s h) x c (t .step)) (w .even) y d (reached s c y d (u .step));
-                  inside = omega (arith, u .turned .whole .fits);
+                  inside = omega (arith, u .passes .whole .fits);
                   low = inl (low n);
                   eights = rw k (w .eights);
                   long = omega (arith, w .long);

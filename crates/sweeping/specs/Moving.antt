@@ -12,7 +12,7 @@ use Rattle.flash.specs.Did.{Did, did-all}
 use Rattle.sweeping.specs.declared.Moved.{Moved}
 use Rattle.flash.specs.Began.{Began, began-did, began-both, began-cut}
 use Rattle.sweeping.specs.Steps.{copying, handing, heading, move-is}
-use Rattle.sweeping.specs.Standing.{Led, stands}
+use Rattle.reading.specs.Standing.{Led, stands}
 use Rattle.sweeping.specs.Handed.{Handed}
 
 -- the definition's move of s, read from h on

@@ -13,13 +13,13 @@ use Rattle.spec.specs.Record.{size-of, size, Entry, name-of, content-of}
 use Rattle.spec.specs.Chain.{Reading, reading-from}
 use Rattle.spec.specs.Files.{live}
 use Rattle.spec.specs.Place.{fits}
-use Rattle.spec.specs.Placed.{placed, Sound}
+use Rattle.spec.specs.Placed.{placed, Place-sound}
 use Rattle.spec.specs.Sweep.{no-room, stuck}
 use Rattle.flash.specs.declared.Meter.{Meter}
 use Rattle.flash.specs.Did.{Did, did-none}
 use Rattle.reading.specs.declared.Cursor.{Cursor}
 use Rattle.reading.specs.declared.Spot.{Spot}
-use Rattle.reading.specs.declared.Step as chain
+use Rattle.reading.specs.declared.Item as chain
 use Rattle.reading.specs.Cursor.{advance}
 use Rattle.reading.specs.Rest.{Run, entry-of, rest}
 use Rattle.reading.specs.Fold.{Whole, name-length-is, content-length-is, Not-record, rest-done}
@@ -30,7 +30,7 @@ use Rattle.moving.specs.Copy.{entry-at, copy-of, HeadEnds, copy-few, copy-keeps
 use Rattle.sweeping.specs.declared.Plan.{Plan}
 use Rattle.sweeping.specs.Steps.{copying}
 use Rattle.sweeping.specs.Stuck.{stuck-empty, room-empty, room-on, room-live, room-dead, stuck-live, stuck-last, stuck-not, copy-live, copy-dead}
-use Rattle.sweeping.specs.Standing.{Led, Found, Standing, entries-are, stands, head-at, stands-past}
+use Rattle.reading.specs.Standing.{Led, Taken, Standing, entries-are, stands, head-at, stands-past}
 
 -- the place of the reading from its head on
 pub record Headed (s : Image) (p : Place) : Type 0 where
@@ -87,16 +87,16 @@ module _ {s : Image} {p : Place} (w : Headed s p) where
       ∙ ap (λ (v : Run). v .entries) (rest-done s (first-cursor s (p .head)) q (e ∙ ap (advance s) f) z) in
       record { stop = stuck-empty r (r .entries) refl none; room = ap (no-room r) none ∙ room-empty r }
 
-  module _ {x : Spot} {c : Cursor} (t : Found s (first-cursor s (p .head)) x c) where
+  module _ {x : Spot} {c : Cursor} (t : Taken s (first-cursor s (p .head)) x c) where
     listed : reading-from s (p .head) .entries ≡ entry-of s x ∷ rest s c .entries
-    listed = entries-are s (p .head) (w .led) ∙ ap (λ (r : Run). r .entries) (t .turned .split)
+    listed = entries-are s (p .head) (w .led) ∙ ap (λ (r : Run). r .entries) (t .passes .split)
 
     living : (b : Bool) → b ≡ live (rest s (first-cursor s (p .head)) .entries) (entry-of s x)
         → live (entry-of s x ∷ rest s c .entries) (entry-of s x) ≡ b
-    living b e = sym (e ∙ ap (λ (r : Run). live (r .entries) (entry-of s x)) (t .turned .split))
+    living b e = sym (e ∙ ap (λ (r : Run). live (r .entries) (entry-of s x)) (t .passes .split))
 
     size-is : size (entry-of s x) ≡ size-of (x .n) (x .d)
-    size-is = ap₂ size-of (name-length-is s x (t .turned .whole)) (content-length-is s x (t .turned .whole))
+    size-is = ap₂ size-of (name-length-is s x (t .passes .whole)) (content-length-is s x (t .passes .whole))
 
     fitting : (b : Bool) → fits p (size-of (x .n) (x .d)) ≡ b → fits (reading-from s (p .head) .place) (size (entry-of s x)) ≡ b
     fitting b e = ap₂ fits (sym (w .same)) size-is ∙ e
@@ -130,9 +130,9 @@ module _ {s : Image} {p : Place} (w : Headed s p) where
             steps =
                 copy-live r (entry-of s x) (rest s c .entries) listed (living b e ∙ l)
                 ∙ ap₂ (λ (v : Place) (i : ℕ). copy-of v (entry-at s i (x .n) (x .d))) (sym (w .same)) at;
-            ends = record { inside = omega (arith, t .turned .whole .fits, stand .whole); before = stand .up };
+            ends = record { inside = omega (arith, t .passes .whole .fits, stand .whole); before = stand .up };
             taken = taken;
-            named = omega (arith, t .turned .onward .name);
+            named = omega (arith, t .passes .onward .name);
           }
 
       pub plan-last : b ≡ false → (r : chain.Step) → r ≡ advance s c → Not-record r → Stops s (p .head) false
@@ -143,11 +143,11 @@ module _ {s : Image} {p : Place} (w : Headed s p) where
             room = ap (no-room v) listed ∙ room-dead v (entry-of s x) (rest s c .entries) (living b e ∙ l);
           }
 
-      pub plan-leave : {y : Spot} {d : Cursor} → b ≡ false → Found s c y d → (stuck (reading-from s (p .head)) ≡ false) × (copying s (p .head) ≡ [])
+      pub plan-leave : {y : Spot} {d : Cursor} → b ≡ false → Taken s c y d → (stuck (reading-from s (p .head)) ≡ false) × (copying s (p .head) ≡ [])
       unfolding copying
       plan-leave {y} {d} l u =
           let r : Reading = reading-from s (p .head) in
-          let behind : rest s c .entries ≡ entry-of s y ∷ rest s d .entries = ap (λ (v : Run). v .entries) (u .turned .split) in
+          let behind : rest s c .entries ≡ entry-of s y ∷ rest s d .entries = ap (λ (v : Run). v .entries) (u .passes .split) in
           let two : r .entries ≡ entry-of s x ∷ (entry-of s y ∷ rest s d .entries) = listed ∙ ap (λ (es : List Entry). entry-of s x ∷ es) behind in
           let dead : live (entry-of s x ∷ (entry-of s y ∷ rest s d .entries)) (entry-of s x) ≡ false =
           sym (ap (λ (es : List Entry). live (entry-of s x ∷ es) (entry-of s x)) behind) ∙ living b e ∙ l in (
@@ -159,7 +159,7 @@ module _ {s : Image} {p : Place} (w : Headed s p) where
 -- ---- step (a)
 
 module _ {s : Image} {p : Place} (w : Headed s p) where
-  pub sound : Sound p
+  pub sound : Place-sound p
   sound =
       let o : Standing (length s) (p .head) (p .head) p = subst (Standing (length s) (p .head) (p .head)) (sym (w .same))
       (stands s (p .head) (w .led)) in

@@ -5,7 +5,7 @@ use flash::Meter;
 use moving::close;
 use moving::copy::copy_head;
 use moving::to_clean;
-use reading::Step;
+use reading::Item;
 use reading::chain::advance;
 use reading::files::is_live;
 use reading::image::first_cursor;
@@ -20,7 +20,7 @@ ghost use Rattle.spec.specs.Chain.{reading-from};
 ghost use Rattle.spec.specs.Sweep.{no-room};
 ghost use Rattle.flash.specs.Did.{Did};
 ghost use Rattle.sweeping.specs.Steps.{copying};
-ghost use Rattle.sweeping.specs.Standing.{Led};
+ghost use Rattle.reading.specs.Standing.{Led};
 ghost use Rattle.sweeping.specs.Planned.{Headed, Planned, Going};
 ghost use Rattle.sweeping.specs.Handed.{Handed};
 ghost use Rattle.sweeping.specs.Moving.{Moved-as};
@@ -31,7 +31,7 @@ pub fn plan(image: &[u8], place: Place) -> Plan
     ensures { λ r. ⌜ Planned (now (image .entry)) place r ⌝ }
 {
     let start = first_cursor(image, place.head);
-    let Step::Record(x, past) = advance(image, start) else {
+    let Item::Record(x, past) = advance(image, start) else {
         return Plan::Stop(false);
     };
     if is_live(image, start, x) {
@@ -40,7 +40,7 @@ pub fn plan(image: &[u8], place: Place) -> Plan
         };
         return Plan::Copy(x.n, x.d);
     }
-    let Step::Record(_, _) = advance(image, past) else {
+    let Item::Record(_, _) = advance(image, past) else {
         return Plan::Stop(false);
     };
     Plan::Leave
@@ -76,13 +76,13 @@ fn hand_over(image: &mut [u8], head: usize, m: Meter) -> Moved
     requires { ⌜ Led (now image) head × (m .asked + 2 * length (now image) + 4 ≤ 2 ^ 32) ⌝ }
     ensures { λ r. ⌜ Handed (now (image .entry)) head m (now (image .exit)) r ⌝ }
 {
-    let Step::Record(x, past) = advance(image, first_cursor(image, head)) else {
+    let Item::Record(x, past) = advance(image, first_cursor(image, head)) else {
         return Moved {
             head: head,
             meter: m,
         };
     };
-    let Step::Record(y, _) = advance(image, past) else {
+    let Item::Record(y, _) = advance(image, past) else {
         return Moved {
             head: head,
             meter: m,

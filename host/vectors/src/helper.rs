@@ -34,7 +34,7 @@ build (lit s ∷ ps) = s ++ build ps
 
 -- the byte v of the next step: 256 is none
 abbrev pub call : Request → ℕ → ℕ → Call
-call r k v = record { request = r; allowance = k; held = v }
+call r k v = record { request = r; allowance = k; cut-byte = v }
 
 abbrev pub file : List ℕ → List ℕ → File
 file n c = record { name = n; content = c }

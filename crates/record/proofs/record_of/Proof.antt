@@ -7,7 +7,7 @@ use Rattle.record.proofs.record_of.Statement.{statement}
 use Rattle.record.proofs.record_of.Tie as tie
 
 returns : tie.Need-returns
-returns c = (record-at-none (c .before .before .args .held) (c .before .before .args .part .now) (c .if1 .taken), tt)
+returns c = (record-at-none (c .before .before .args .reserved) (c .before .before .args .part .now) (c .if1 .taken), tt)
 
 sub-name-len : tie.Need-sub-name-len
 sub-name-len c = search needs
@@ -33,7 +33,7 @@ returns-2 c =
     let s = a .part .now in
     let n = c .before .before .before .before .name-len .result in
     let d = c .before .before .before .data-len .result in (
-      sized-as (a .held) s _ n d (c .before .before .before .before .name-len .ensures .0) refl (c .before .before .before .data-len .ensures .0)
+      sized-as (a .reserved) s _ n d (c .before .before .before .before .name-len .ensures .0) refl (c .before .before .before .data-len .ensures .0)
           (sized-is s n d (omega arith) (omega arith)),
       (omega arith, omega arith, omega arith),
     )
@@ -44,7 +44,7 @@ returns-3 c =
     let s = a .part .now in
     let n = c .before .before .before .before .name-len .result in
     let d = c .before .before .before .data-len .result in (
-      sized-as (a .held) s _ n d (c .before .before .before .before .name-len .ensures .0) refl (c .before .before .before .data-len .ensures .0)
+      sized-as (a .reserved) s _ n d (c .before .before .before .before .name-len .ensures .0) refl (c .before .before .before .data-len .ensures .0)
           (sized-short s n d (omega arith) (omega arith)),
       tt,
     )
@@ -55,7 +55,7 @@ returns-4 c =
     let s = a .part .now in
     let n = c .before .before .name-len .result in
     let d = c .before .data-len .result in
-    (sized-as (a .held) s _ n d (c .before .before .name-len .ensures .0) refl (c .before .data-len .ensures .0) (sized-open s n d (omega arith)), tt)
+    (sized-as (a .reserved) s _ n d (c .before .before .name-len .ensures .0) refl (c .before .data-len .ensures .0) (sized-open s n d (omega arith)), tt)
 
 pub record-of-spec : {M : Type 1} → statement M
 record-of-spec =

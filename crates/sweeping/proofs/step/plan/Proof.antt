@@ -2,7 +2,7 @@
 use native.Mathlib.Omega.{arith}
 use mathlib.Core.Path.{refl}
 use Rattle.reading.proofs.Others.{other-step}
-use Rattle.sweeping.specs.Standing.{found, start-sound}
+use Rattle.reading.specs.Standing.{taken, start-sound}
 use Rattle.sweeping.specs.Planned.{plan-none, plan-full, plan-copy, plan-last, plan-leave, sound}
 use borrow.Author.Needs.{needs}
 use Rattle.sweeping.proofs.step.plan.Statement.{statement}
@@ -26,13 +26,13 @@ returns c =
 is-live-requires : tie.Need-is-live-requires
 is-live-requires c κs =
     let c3 = c .before .before .before in let c4 = c3 .before in let c6 = c4 .before .before in
-    let t = found (c4 .first-cursor .ensures) (c3 .advance .ensures .0) (c3 .advance .ensures .1) (c .before .x .given .1) in
+    let t = taken (c4 .first-cursor .ensures) (c3 .advance .ensures .0) (c3 .advance .ensures .1) (c .before .x .given .1) in
     (start-sound (c6 .pre .led) (c4 .first-cursor .ensures), t .turned .whole)
 
 size-requires : tie.Need-size-requires
 size-requires c κs =
     let c5 = c .before .before .before .before .before in let c6 = c5 .before in
-    let t = found (c6 .first-cursor .ensures) (c5 .advance .ensures .0) (c5 .advance .ensures .1) (c .before .before .before .x .given .1) in
+    let t = taken (c6 .first-cursor .ensures) (c5 .advance .ensures .0) (c5 .advance .ensures .1) (c .before .before .before .x .given .1) in
     (omega (arith, t .turned .onward .name), t .turned .onward .data-len)
 
 after-requires : tie.Need-after-requires
@@ -48,22 +48,22 @@ returns-2 : tie.Need-returns-2
 returns-2 c =
     let c4 = c .before .before .before .before in let c5 = c4 .before in let c7 = c5 .before .before in let c9 = c7 .before .before in
     let c10 = c9 .before in let c12 = c10 .before .before in
-    let t = found (c10 .first-cursor .ensures) (c9 .advance .ensures .0) (c9 .advance .ensures .1) (c7 .x .given .1) in
-    plan-full (c12 .pre) t (c10 .first-cursor .ensures) (c5 .is-live .ensures) (c4 .if1 .taken) (c .before .before .before .size .ensures)
+    let t = taken (c10 .first-cursor .ensures) (c9 .advance .ensures .0) (c9 .advance .ensures .1) (c7 .x .given .1) in
+    plan-full (c12 .pre) t (c10 .first-cursor .ensures) (c5 .is-live .ensures) (c4 .if1 .found) (c .before .before .before .size .ensures)
     (c .before .before .after .ensures) (c .enum-told2 .given .1)
 
 returns-3 : tie.Need-returns-3
 returns-3 c =
     let c4 = c .before .before .before .before in let c5 = c4 .before in let c7 = c5 .before .before in let c9 = c7 .before .before in
     let c10 = c9 .before in let c12 = c10 .before .before in
-    let t = found (c10 .first-cursor .ensures) (c9 .advance .ensures .0) (c9 .advance .ensures .1) (c7 .x .given .1) in
-    plan-copy (c12 .pre) t (c10 .first-cursor .ensures) (c5 .is-live .ensures) (c4 .if1 .taken) (c .before .before .before .size .ensures)
+    let t = taken (c10 .first-cursor .ensures) (c9 .advance .ensures .0) (c9 .advance .ensures .1) (c7 .x .given .1) in
+    plan-copy (c12 .pre) t (c10 .first-cursor .ensures) (c5 .is-live .ensures) (c4 .if1 .found) (c .before .before .before .size .ensures)
     (c .before .before .after .ensures) (c .enum-told .given .1)
 
 advance-requires-2 : tie.Need-advance-requires-2
 advance-requires-2 c κs =
     let c5 = c .before .before .before .before .before in let c6 = c5 .before in
-    let t = found (c6 .first-cursor .ensures) (c5 .advance .ensures .0) (c5 .advance .ensures .1) (c .before .before .before .x .given .1) in
+    let t = taken (c6 .first-cursor .ensures) (c5 .advance .ensures .0) (c5 .advance .ensures .1) (c .before .before .before .x .given .1) in
     t .turned .onward .sound
 
 enum-told-3 : tie.Need-enum-told-3
@@ -72,7 +72,7 @@ enum-told-3 c = search needs
 returns-4 : tie.Need-returns-4
 returns-4 c =
     let c5 = c .before .before .before .before .before in let c7 = c5 .before .before in let c8 = c7 .before in let c10 = c8 .before .before in
-    let t = found (c8 .first-cursor .ensures) (c7 .advance .ensures .0) (c7 .advance .ensures .1) (c5 .x .given .1) in
+    let t = taken (c8 .first-cursor .ensures) (c7 .advance .ensures .0) (c7 .advance .ensures .1) (c5 .x .given .1) in
     plan-last (c10 .pre) t (c8 .first-cursor .ensures) (c .before .before .before .is-live .ensures) (c .before .before .if1 .left)
     (c .before .advance2 .result) (c .before .advance2 .ensures .0) (other-step (c .before .advance2 .result) (c .match3 .keys2))
 
@@ -80,9 +80,9 @@ returns-5 : tie.Need-returns-5
 returns-5 c =
     let c2 = c .before .before in let c4 = c2 .before .before in let c6 = c4 .before .before in let c8 = c6 .before .before in let c9 = c8 .before in
     let c11 = c9 .before .before in
-    let t = found (c9 .first-cursor .ensures) (c8 .advance .ensures .0) (c8 .advance .ensures .1) (c6 .x .given .1) in
+    let t = taken (c9 .first-cursor .ensures) (c8 .advance .ensures .0) (c8 .advance .ensures .1) (c6 .x .given .1) in
     plan-leave (c11 .pre) t (c9 .first-cursor .ensures) (c4 .is-live .ensures) (c2 .before .if1 .left)
-    (found refl (c2 .advance2 .ensures .0) (c2 .advance2 .ensures .1) (c .enum-told3 .given .1))
+    (taken refl (c2 .advance2 .ensures .0) (c2 .advance2 .ensures .1) (c .enum-told3 .given .1))
 
 pub plan-spec : {M : Type 1} → statement M
 plan-spec =

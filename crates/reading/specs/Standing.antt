@@ -10,17 +10,17 @@ use Rattle.spec.specs.Step.{Image}
 use Rattle.spec.specs.Record.{size-of, Entry}
 use Rattle.spec.specs.Chain.{Reading, reading-from}
 use Rattle.spec.specs.Reading.{limit}
 use Rattle.reading.specs.declared.Cursor.{Cursor}
 use Rattle.reading.specs.declared.Spot.{Spot}
-use Rattle.reading.specs.declared.Step.{Step}
-use Rattle.reading.specs.Cursor.{advance, Inside, Sound}
+use Rattle.reading.specs.declared.Item.{Item}
+use Rattle.reading.specs.Cursor.{advance, Inside, Cursor-sound}
 use Rattle.reading.specs.Rest.{Run, rest}
 use Rattle.reading.specs.Bridge.{shown, reading-is}
-use Rattle.reading.specs.Fold.{Turned, turned}
+use Rattle.reading.specs.Fold.{Passes, passes}
 use Rattle.reading.specs.Read.{first-cursor}
 use Rattle.reading.specs.Survey.{first-sound}
-use Rattle.sweeping.specs.Way.{On, Lands, Ends-on, never, ends-on, reached}
-use Rattle.sweeping.specs.First.{Low, first-at, past-on-way}
+use Rattle.reading.specs.Way.{On, Lands, Ends-on, never, ends-on, reached}
+use Rattle.reading.specs.FirstRecord.{Low, first-at, past-on-way}
 
 -- a head stands at h, in an image of whole eights
 pub record Led (s : Image) (h : ℕ) : Type 0 where
@@ -32,16 +32,16 @@ pub record Led (s : Image) (h : ℕ) : Type 0 where
   pub small : length s ≤ 2 ^ 24
 
 -- what the code finds at a cursor: a record, and the cursor past it
-pub record Found (s : Image) (c : Cursor) (x : Spot) (next : Cursor) : Type 0 where
-  pub turned : Turned s c x next
-  pub step : advance s c ≡ Step.Record x next
+pub record Taken (s : Image) (c : Cursor) (x : Spot) (next : Cursor) : Type 0 where
+  pub passes : Passes s c x next
+  pub step : advance s c ≡ Item.Record x next
 
-pub found : {s : Image} {c k : Cursor} {r : Step} {x : Spot} {next : Cursor} → k ≡ c → r ≡ advance s k → Inside s k r → r ≡ Step.Record x next
-    → Found s c x next
-found {s} {c} {k} {r} {x} {next} q e i f =
-    record { turned = subst (λ (v : Cursor). Turned s v x next) q (turned (e, i) f); step = ap (advance s) (sym q) ∙ sym e ∙ f }
+pub taken : {s : Image} {c k : Cursor} {r : Item} {x : Spot} {next : Cursor} → k ≡ c → r ≡ advance s k → Inside s k r → r ≡ Item.Record x next
+    → Taken s c x next
+taken {s} {c} {k} {r} {x} {next} q e i f =
+    record { passes = subst (λ (v : Cursor). Passes s v x next) q (passes (e, i) f); step = ap (advance s) (sym q) ∙ sym e ∙ f }
 
-pub start-sound : {s : Image} {h : ℕ} {k : Cursor} → Led s h → k ≡ first-cursor s h → Sound s k
+pub start-sound : {s : Image} {h : ℕ} {k : Cursor} → Led s h → k ≡ first-cursor s h → Cursor-sound s k
 start-sound {s} {h} w q = rw q (first-sound s h (omega (arith, w .inside)) (w .small))
 
 -- the place of a reading from h on; before the turn its tail is not below lo
@@ -60,17 +60,17 @@ module _ (N h lo : ℕ) where
   landed t true l = record { head = refl; whole = refl; even = l .even; free = l .round refl; up = λ z. never z }
   landed t false l = record { head = refl; whole = refl; even = l .even; free = l .up refl .1; up = λ z. l .up refl .0 }
 
-  shown-stands : (image : Image) (es : List Entry) (e : Step) → Ends-on N h lo e → Standing N h lo (shown image N h es e .place)
-  shown-stands image es (Step.Record x c) l = absurd l
-  shown-stands image es (Step.End t w) l = landed t w l
-  shown-stands image es (Step.TornWrap t) l = landed 0 true (record { even = refl; up = λ z. never z; round = λ z. omega arith })
-  shown-stands image es (Step.Broken t w) l = landed t w l
+  shown-stands : (image : Image) (es : List Entry) (e : Item) → Ends-on N h lo e → Standing N h lo (shown image N h es e .place)
+  shown-stands image es (Item.Record x c) l = absurd l
+  shown-stands image es (Item.End t w) l = landed t w l
+  shown-stands image es (Item.TornWrap t) l = landed 0 true (record { even = refl; up = λ z. never z; round = λ z. omega arith })
+  shown-stands image es (Item.Broken t w) l = landed t w l
 
-shown-entries : (image : Image) (N h : ℕ) (es : List Entry) (e : Step) → shown image N h es e .entries ≡ es
-shown-entries image N h es (Step.Record x c) = refl
-shown-entries image N h es (Step.End t w) = refl
-shown-entries image N h es (Step.TornWrap t) = refl
-shown-entries image N h es (Step.Broken t w) = refl
+shown-entries : (image : Image) (N h : ℕ) (es : List Entry) (e : Item) → shown image N h es e .entries ≡ es
+shown-entries image N h es (Item.Record x c) = refl
+shown-entries image N h es (Item.End t w) = refl
+shown-entries image N h es (Item.TornWrap t) = refl
+shown-entries image N h es (Item.Broken t w) = refl
 
 module _ (image : Image) (h : ℕ) (w : Led image h) where
   pub entries-are : reading-from image h .entries ≡ rest image (first-cursor image h) .entries
@@ -92,7 +92,7 @@ module _ (image : Image) (h : ℕ) (w : Led image h) where
       stands-by h (ends-on image (length image) h h (first-cursor image h) o)
 
   -- with the first record known, before the turn the tail is behind it
-  module _ {x : Spot} {c : Cursor} (t : Found image (first-cursor image h) x c) where
+  module _ {x : Spot} {c : Cursor} (t : Taken image (first-cursor image h) x c) where
     pub head-at : x .at ≡ h
     head-at = first-at image h (w .inside) (w .low) x c (reached image (first-cursor image h) x c (t .step))
 
@@ -100,4 +100,4 @@ module _ (image : Image) (h : ℕ) (w : Led image h) where
     stands-past =
         let lo : ℕ = h + size-of (x .n) (x .d) in
         let o : On (length image) h lo c = past-on-way image h (w .inside) (w .low) x c (reached image (first-cursor image h) x c (t .step)) (w .even) in
-        stands-by lo (rw (t .turned .split) (ends-on image (length image) h lo c o))
+        stands-by lo (rw (t .passes .split) (ends-on image (length image) h lo c o))

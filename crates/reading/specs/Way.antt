@@ -10,20 +10,20 @@ use Rattle.spec.specs.declared.Next.{Next}
 use Rattle.spec.specs.Step.{Image}
 use Rattle.spec.specs.Geometry.{floor}
 use Rattle.spec.specs.Record.{size-of}
 use Rattle.reading.specs.declared.Cursor.{Cursor}
 use Rattle.reading.specs.declared.Spot.{Spot}
-use Rattle.reading.specs.declared.Step.{Step}
+use Rattle.reading.specs.declared.Item.{Item}
 use Rattle.reading.specs.Cursor.{look, goes-on, turn, past, torn-end, unfinished-at, settle, advance, left}
 use Rattle.reading.specs.CursorLaws.{advance-on, advance-here}
 use Rattle.reading.specs.Fits.{look-inside}
 use Rattle.reading.specs.Rest.{Less, advance-less, followed, rest, rest-step}
 
 -- ---- one step
 
 -- what stands at c is looked for at c itself, or at 0 where the chain turns
 pub data From (image : Image) (c : Cursor) : Cursor → Type 0 where
   here : From image c c
-  turned : goes-on (c .room) (look image c) ≡ true → From image c (turn (c .room) (c .held))
+  turned : goes-on (c .room) (look image c) ≡ true → From image c (turn (c .room) (c .pending))
 
 pub record Reached (image : Image) (c : Cursor) (e : Spot) (next : Cursor) : Type 0 where
   pub seen : Cursor
@@ -38,11 +38,11 @@ pub record Stops (image : Image) (c : Cursor) (t : ℕ) (w : Bool) : Type 0 wher
   pub at : t ≡ seen .at
   pub turned : w ≡ seen .turned
 
-abbrev pub Way : Image → Cursor → Step → Type 0
-Way image c (Step.Record e next) = Reached image c e next
-Way image c (Step.End t w) = Stops image c t w
-Way image c (Step.TornWrap t) = Unit {0}
-Way image c (Step.Broken t w) = Stops image c t w
+abbrev pub Way : Image → Cursor → Item → Type 0
+Way image c (Item.Record e next) = Reached image c e next
+Way image c (Item.End t w) = Stops image c t w
+Way image c (Item.TornWrap t) = Unit {0}
+Way image c (Item.Broken t w) = Stops image c t w
 
 module _ (image : Image) (c : Cursor) where
   module _ (d : Cursor) (f : From image c d) where
@@ -61,14 +61,14 @@ module _ (image : Image) (c : Cursor) where
 
   advance-by : (t : Bool) → goes-on (c .room) (look image c) ≡ t → Way image c (advance image c)
   advance-by true e =
-      let u : Cursor = turn (c .room) (c .held) in
+      let u : Cursor = turn (c .room) (c .pending) in
       rw (advance-on image c e) (settle-way u (turned e) (look image u) refl)
   advance-by false e = rw (advance-here image c e) (settle-way c here (look image c) refl)
 
   pub way : Way image c (advance image c)
   way = advance-by _ refl
 
-  pub reached : (e : Spot) (next : Cursor) → advance image c ≡ Step.Record e next → Reached image c e next
+  pub reached : (e : Spot) (next : Cursor) → advance image c ≡ Item.Record e next → Reached image c e next
   reached e next q = rw q at way
 
 pub room-left : (room : ℕ) (x : Next) → goes-on room x ≡ true → 0 < room
@@ -92,11 +92,11 @@ pub record Lands (N h lo t : ℕ) (w : Bool) : Type 0 where
   pub up : w ≡ false → (lo ≤ t) × (t ≤ N)
   pub round : w ≡ true → t ≤ floor h
 
-abbrev pub Ends-on : ℕ → ℕ → ℕ → Step → Type 0
-Ends-on N h lo (Step.Record e next) = ⊥
-Ends-on N h lo (Step.End t w) = Lands N h lo t w
-Ends-on N h lo (Step.TornWrap t) = Unit {0}
-Ends-on N h lo (Step.Broken t w) = Lands N h lo t w
+abbrev pub Ends-on : ℕ → ℕ → ℕ → Item → Type 0
+Ends-on N h lo (Item.Record e next) = ⊥
+Ends-on N h lo (Item.End t w) = Lands N h lo t w
+Ends-on N h lo (Item.TornWrap t) = Unit {0}
+Ends-on N h lo (Item.Broken t w) = Lands N h lo t w
 
 pub never : {A : Type 0} → true ≡ false → A
 never q = absurd (let z : _≡_ {A = ℕ} 0 1 = cc in omega arith)
@@ -105,7 +105,7 @@ module _ (image : Image) (N h lo : ℕ) where
   pub from-on : (c d : Cursor) → From image c d → On N h lo c → On N h lo d
   from-on c d here o = o
   from-on c d (turned e) o = go (c .turned) refl where
-    go : (t : Bool) → c .turned ≡ t → On N h lo (turn (c .room) (c .held))
+    go : (t : Bool) → c .turned ≡ t → On N h lo (turn (c .room) (c .pending))
     go true q = absurd (omega (arith, room-left (c .room) (look image c) e, o .round q .2))
     go false q = record { even = refl; up = λ z. never z; round = λ z. (omega arith, o .up q .3, refl) }
 
@@ -129,13 +129,13 @@ module _ (image : Image) (N h lo : ℕ) where
         round = λ z. omega (arith, r .at, p .round (sym (r .turned) ∙ z) .0);
       }
 
-  by-step : (k : ℕ) (c : Cursor) (r : Step) → left c < suc k → Less c r → Way image c r → On N h lo c
+  by-step : (k : ℕ) (c : Cursor) (r : Item) → left c < suc k → Less c r → Way image c r → On N h lo c
       → ((d : Cursor) → left d < k → On N h lo d → Ends-on N h lo (rest image d .ending))
       → Ends-on N h lo (followed image r (rest image) .ending)
-  by-step k c (Step.Record e next) l s w o ih = ih next (omega arith) (past-on c e next o w)
-  by-step k c (Step.End t u) l s w o ih = lands c t u o w
-  by-step k c (Step.TornWrap t) l s w o ih = tt
-  by-step k c (Step.Broken t u) l s w o ih = lands c t u o w
+  by-step k c (Item.Record e next) l s w o ih = ih next (omega arith) (past-on c e next o w)
+  by-step k c (Item.End t u) l s w o ih = lands c t u o w
+  by-step k c (Item.TornWrap t) l s w o ih = tt
+  by-step k c (Item.Broken t u) l s w o ih = lands c t u o w
 
   by-fuel : (k : ℕ) (c : Cursor) → left c < k → On N h lo c → Ends-on N h lo (rest image c .ending)
   by-fuel zero c l o = absurd (not-suc-le-zero l)

@@ -16,11 +16,11 @@ use Rattle.spec.specs.Geometry.{floor}
 use Rattle.spec.specs.Bytes.{clears, on-way, under-way, is-record, is-wrap, is-start, is-clean, is-record-begun, is-wrap-begun, is-high, is-erased, is-reserved, is-spare}
 use Rattle.spec.specs.Record.{low-of, high-of, status-of, spare-of, data-len-of, size-of, name-length}
 use Rattle.spec.specs.Next.{is-torn-marker, kind, sized, next-at, next}
 use Rattle.reading.specs.declared.Cursor.{Cursor}
 use Rattle.reading.specs.declared.Spot.{Spot}
 use Rattle.reading.specs.Cursor.{look, goes-on, unfinished-at, past}
 use Rattle.reading.specs.Read.{first-cursor}
-use Rattle.sweeping.specs.Way.{From, here, turned, Reached, On, never, room-left, from-on}
+use Rattle.reading.specs.Way.{From, here, turned, Reached, On, never, room-left, from-on}
 
 -- the first byte of a head: START or CLEAN, with 80 as A0
 abbrev pub Low : ℕ → Type 0
