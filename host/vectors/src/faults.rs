@@ -33,6 +33,20 @@ const FAULTS: &[Fault] = &[
         "repair-4 (repair-3 (",
         "repair-3 (repair-4 (",
     ),
+    fault(
+        "repairs 2 and 3 in the other order",
+        &["repairs 2 and 3"],
+        "Mount.antt",
+        "repair-3 (repair-2-on (",
+        "repair-2-on (repair-3 (",
+    ),
+    fault(
+        "format makes its record FC",
+        &["format 0"],
+        "Write.antt",
+        "(program 2 0x00 ∷ program 0 0x00 ∷",
+        "(program 2 0xFC ∷ program 0 0x00 ∷",
+    ),
     fault("a marker also at T = N", &["place"], "Place.antt", "ltb (p .tail) (p .length)", "leb (p .tail) (p .length)"),
     fault(
         "a superseded F8 is live",
