@@ -15,6 +15,8 @@ pub struct Change {
     pub file: String,
     pub old: String,
     pub new: String,
+    /// of the proof's text, not of a definition
+    pub is_fit: bool,
 }
 
 #[derive(Debug, Default)]
@@ -54,18 +56,18 @@ fn extend(text: &mut String, line: &str, between: char) {
 impl Edition {
     pub fn parse(by: &str, label: &str, text: &str) -> Result<Edition, String> {
         let mut e = Edition { by: by.into(), label: label.into(), ..Edition::default() };
-        let mut file = String::new();
+        let (mut file, mut is_fit) = (String::new(), false);
         // the word of the line before: a new `old` begins a pair
         let mut before = "";
         for line in text.lines().filter(|l| !l.starts_with('#') && !l.is_empty()) {
             let (word, rest) = line.split_once(':').ok_or(format!("no word stands before `{line}`"))?;
             let rest = rest.strip_prefix(' ').unwrap_or(rest);
             if word == "old" && before != "old" {
-                e.changes.push(Change { file: file.clone(), ..Change::default() });
+                e.changes.push(Change { file: file.clone(), is_fit, ..Change::default() });
             }
             let last = e.changes.last_mut().ok_or("`new` without `old`");
             match word {
-                "file" | "fit" => file = rest.into(),
+                "file" | "fit" => (file, is_fit) = (rest.into(), word == "fit"),
                 "old" => extend(&mut last?.old, rest, '\n'),
                 "new" => extend(&mut last?.new, rest, '\n'),
                 "false" => extend(&mut e.fact, rest, ' '),
@@ -131,9 +133,15 @@ mod tests {
     #[test]
     fn an_edition() {
         let e = Edition::parse("h", "wrong", TEXT).unwrap();
-        let change = |file: &str, old: &str, new: &str| Change { file: file.into(), old: old.into(), new: new.into() };
-        let a = "spec/specs/A.antt";
-        assert_eq!(e.changes, [change(a, "a\n  b", "c"), change(a, "d", ""), change("h/specs/B.antt", "e", "f")]);
+        let change = |file: &str, old: &str, new: &str, is_fit| Change {
+            file: file.into(),
+            old: old.into(),
+            new: new.into(),
+            is_fit,
+        };
+        let (a, b) = ("spec/specs/A.antt", "h/specs/B.antt");
+        let wanted = [change(a, "a\n  b", "c", false), change(a, "d", "", false), change(b, "e", "f", true)];
+        assert_eq!(e.changes, wanted);
         assert_eq!(e.fact, "a fact in words");
         assert_eq!(e.places[0], Place { file: "h/specs/B.antt".into(), lemma: "lemma".into(), row: None });
         assert_eq!(e.places[1].row.as_deref(), Some("x y"));

@@ -83,7 +83,8 @@ fn table(editions: &[Edition]) -> String {
         "| refused by | wrong definition | the fact that is then false | at |\n|---|---|---|---|\n".to_string();
     for e in editions {
         let places: Vec<String> = e.places.iter().map(|p| p.to_string()).collect();
-        text += &format!("| {} | {} | {} | {} |\n", e.by, e.label, e.fact, places.join("; "));
+        let fit = if e.changes.iter().any(|c| c.is_fit) { " (with a fit)" } else { "" };
+        text += &format!("| {} | {}{fit} | {} | {} |\n", e.by, e.label, e.fact, places.join("; "));
     }
     text
 }

@@ -3,14 +3,16 @@
 //! A file or folder counts from the repository, from crates/, or from the folder that stands in brackets in the heading
 //! of its column. A name in backticks stands in the file or folder cited last before it, in the same cell of a table or
 //! the same line; with none, in some file of crates/, host/ or include/. The name of a file counts as a name. Of a
-//! command, the words behind -p, --bin and --test are host packages, programs and tests. A word in bold in a table is one
-//! of those that the paper's first table explains.
+//! command, the words behind -p, --bin and --test are host packages, programs and tests. Any other plain words in
+//! backticks, as a tag or a fault, stand so in some file, or are a file's name. A word in bold in a table is one of those
+//! that the paper's first table explains.
 use std::collections::BTreeMap;
 use std::fs;
 use std::path::{Path, PathBuf};
 
 const PAPERS: [&str; 2] = ["docs/TRACE.md", "docs/CHANGING.md"];
 const ENDINGS: [&str; 10] = [".antt", ".rt", ".rs", ".c", ".h", ".md", ".edit", ".txt", ".sh", ".expected"];
+const COMMANDS: [&str; 5] = ["rt ", "cargo ", "bash ", "cd ", "(cd "];
 const FOLDERS: [&str; 5] = ["crates/", "host/", "docs/", "include/", ".ci/"];
 
 fn root() -> PathBuf {
@@ -116,10 +118,13 @@ impl Reader<'_> {
         }
     }
 
-    /// In backticks: a name, or a command if it has a space.
+    /// In backticks: a name, or, if it has a space, a command or some words.
     fn quoted(&mut self, text: &str, last: &Option<PathBuf>) {
-        if text.contains(' ') {
+        if COMMANDS.iter().any(|c| text.starts_with(c)) {
             return self.command(text);
+        }
+        if text.contains(' ') {
+            return self.phrase(text);
         }
         if self.tree.is_path(text) {
             let there = self.tree.path(text, "").is_some();
@@ -129,6 +134,15 @@ impl Reader<'_> {
         let there = self.tree.has(text, &place);
         let at = place.strip_prefix(root()).unwrap_or(&place).display().to_string();
         self.check(there, || format!("`{text}` is not in {}", if at.is_empty() { "the tree" } else { &at }));
+    }
+
+    /// Plain words; an expression may be made up.
+    fn phrase(&mut self, text: &str) {
+        let is_plain = text.chars().all(|c| c.is_alphanumeric() || " ,'=>()-".contains(c));
+        let is_name = |path: &Path| path.file_stem().is_some_and(|s| s.to_string_lossy().replace('_', " ") == text);
+        let there = || self.tree.files.iter().any(|(path, code)| code.contains(text) || is_name(path));
+        let right = !is_plain || there();
+        self.check(right, || format!("`{text}` is not in the tree"));
     }
 
     fn command(&mut self, text: &str) {
@@ -237,6 +251,8 @@ fn what_is_not_there_is_noticed() {
     assert_eq!(wrong("`repair`", specs), 0);
     assert_eq!(wrong("Mount.antt: `repair`", specs), 1);
     assert_eq!(wrong("host/nothing", ""), 1);
+    assert_eq!(wrong("`superseded F8`, `void at once`, `search needs`", ""), 0);
+    assert_eq!(wrong("`superseded F9`, `void at twice`", ""), 2);
     assert_eq!(wrong("`cargo run -p vectors -- all`; `cargo test -p testing --test papers`", ""), 0);
     assert_eq!(wrong("`cargo run -p vector -- all`; `cargo test -p testing --test paper`", ""), 2);
 }
