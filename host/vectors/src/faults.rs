@@ -59,8 +59,8 @@ const FAULTS: &[Fault] = &[
         "a chain at N doesn't turn",
         &["chain ends at N"],
         "Chain.antt",
-        "| Next.Over ↦ turned N h c d",
-        "| Next.Over ↦ unturned N h c",
+        "| Next.Over ↦ read-turned N h c d",
+        "| Next.Over ↦ read-straight N h c",
     ),
     fault(
         "step (d) ends a sector late",
@@ -122,8 +122,8 @@ const FAULTS: &[Fault] = &[
         "the old file is deleted before the record is written",
         &["put replaces FC", "put replaces F8"],
         "Write.antt",
-        "(moved (address p s) (record-steps name content) ++ delete-steps old)",
-        "(delete-steps old ++ moved (address p s) (record-steps name content))",
+        "(shifted (address p s) (record-steps name content) ++ delete-steps old)",
+        "(delete-steps old ++ shifted (address p s) (record-steps name content))",
     ),
     fault(
         "an F8 file gets F8 again",
@@ -136,7 +136,7 @@ const FAULTS: &[Fault] = &[
         "reserved: only 00 ends the name",
         &["reserved, name cut"],
         "Bytes.antt",
-        "eqb b 0x00 || (held && leb 0x80 b)",
+        "eqb b 0x00 || (reserved && leb 0x80 b)",
         "eqb b 0x00",
     ),
     fault(
