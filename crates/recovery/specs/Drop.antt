@@ -20,7 +20,7 @@ use Rattle.flash.specs.declared.Meter.{Meter}
 use Rattle.flash.specs.Did.{Did, did-one}
 use Rattle.reading.specs.declared.Cursor.{Cursor}
 use Rattle.reading.specs.declared.Spot.{Spot}
-use Rattle.reading.specs.declared.Item.{Step as Chain-step}
+use Rattle.reading.specs.declared.Item.{Item as Chain-step}
 use Rattle.reading.specs.Cursor.{Cursor-sound, turn, unfinished-at, advance}
 use Rattle.reading.specs.Rest.{Run, entry-of, followed, rest, rest-step}
 use Rattle.reading.specs.Fold.{Not-record, rest-done}

@@ -1,6 +1,4 @@
 pub mod Sectors
-pub mod Clean
-pub mod Close
 pub mod Repairs
 pub mod Free
 pub mod Pair

@@ -14,7 +14,7 @@ use Rattle.spec.specs.Move.{Work, begin, after}
 use Rattle.spec.specs.Mount.{repair-1, repair-2-on, repair-3, drop-steps, repair-4, mended}
 use Rattle.flash.specs.declared.Meter.{Meter}
 use Rattle.flash.specs.Did.{Did}
-use Rattle.reading.specs.declared.Item.{Step as Ending-step}
+use Rattle.reading.specs.declared.Item.{Item as Ending-step}
 use Rattle.reading.specs.Rest.{rest}
 use Rattle.reading.specs.Bridge.{shown, reading-is}
 use Rattle.reading.specs.SettledLaws.{close-filled}

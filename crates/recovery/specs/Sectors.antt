@@ -63,10 +63,3 @@ dirty-more s t a b h e =
     let l : List ℕ = keep (dirty s) (sectors (a + 4096) b) in
     ap (λ (k : List ℕ). map erase (keep (dirty s) k)) (sectors-more a b h)
     ∙ ap (λ (c : Bool). map erase (pick c a l)) (sym (dirty-same s t a e)) ∙ pick-first (dirty t a) a l
-
--- what stands from a on is the same, and so is what stands from k on
-pub later-on : (a k : ℕ) (s t : Image) → a ≤ k → drop a t ≡ drop a s → drop k t ≡ drop k s
-later-on a k s t h e =
-    let j : a + (k - a) ≡ k = omega arith in
-    let w : (u : Image) → drop (k - a) (drop a u) ≡ drop k u = λ u. drop-drop (k - a) a u ∙ ap (λ (n : ℕ). drop n u) j in
-    sym (w t) ∙ ap (drop (k - a)) e ∙ w s

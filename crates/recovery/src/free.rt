@@ -1,7 +1,7 @@
 // Repair 1: behind a CLEAN head the free run is erased where it isn't FF, and the head becomes START.
 use crate::sectors::erase_dirty;
-use crate::start::to_start;
 use flash::Meter;
+use moving::to_start;
 use reading::image::survey;
 use reading::scan::low_of;
 use record::bytes::is_clean;

@@ -1,8 +1,8 @@
 // Repair 2: a move that was cut is brought to its end, and the head handed over to the second record.
 use crate::Progress;
-use crate::close::close;
 use flash::Meter;
 use flash::program;
+use moving::close;
 use reading::image::survey;
 use reading::scan::low_of;
 use record::bytes::is_clean;

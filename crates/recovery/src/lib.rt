@@ -1,11 +1,9 @@
 // What mount repairs, in its order: the free run, an unfinished move, the last thing, superseded files.
 // Each repair reads the image that those before it left, from the head they left.
-pub mod close;
 mod free;
 mod hand;
 mod last;
-pub mod sectors;
-mod start;
+mod sectors;
 mod superseded;
 
 use flash::Meter;

@@ -2,8 +2,8 @@
 use flash::Meter;
 use flash::program;
 use reading::Cursor;
-use reading::Item;
 use reading::Spot;
+use reading::Item;
 use reading::chain::advance;
 use reading::files::is_superseded;
 use reading::image::first_cursor;

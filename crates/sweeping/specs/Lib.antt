@@ -1,6 +1,5 @@
 pub mod Moves
 pub mod Steps
-pub mod Copy
 pub mod Stuck
 pub mod Planned
 pub mod Handed

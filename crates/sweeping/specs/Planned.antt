@@ -26,11 +26,11 @@ use Rattle.reading.specs.Fold.{Whole, name-length-is, content-length-is, Not-re
 use Rattle.reading.specs.Read.{first-cursor}
 use Rattle.writing.specs.Room.{placed-parts, placed-full}
 use Rattle.writing.specs.Put.{Ready}
-use Rattle.writing.specs.Head.{entry-at, copy-of, HeadEnds}
+use Rattle.moving.specs.Copied.{entry-at}
+use Rattle.moving.specs.Copy.{copy-of, HeadEnds, copy-few, copy-keeps-low}
 use Rattle.sweeping.specs.declared.Plan.{Plan}
 use Rattle.sweeping.specs.Steps.{copying}
 use Rattle.sweeping.specs.Stuck.{stuck-empty, room-empty, room-on, room-live, room-dead, stuck-live, stuck-last, stuck-not, copy-live, copy-dead}
-use Rattle.sweeping.specs.Copy.{copy-few, copy-keeps-low}
 use Rattle.reading.specs.Standing.{Led, Taken, Standing, entries-are, stands, head-at, stands-past}
 
 -- the place of the reading from its head on
@@ -81,7 +81,7 @@ full-is s p (Plan.Copy n d) w = sym (room-on (reading-from s (p .head)) (w .on))
 -- ---- how the code comes to it
 
 module _ {s : Image} {p : Place} (w : Headed s p) where
-  pub plan-none : {k : Cursor} (q : chain.Step) → k ≡ first-cursor s (p .head) → q ≡ advance s k → Not-record q → Stops s (p .head) false
+  pub plan-none : {k : Cursor} (q : chain.Item) → k ≡ first-cursor s (p .head) → q ≡ advance s k → Not-record q → Stops s (p .head) false
   plan-none {k} q f e z =
       let r : Reading = reading-from s (p .head) in
       let none : r .entries ≡ [] = entries-are s (p .head) (w .led)
@@ -136,7 +136,7 @@ module _ {s : Image} {p : Place} (w : Headed s p) where
             named = omega (arith, t .passes .onward .name);
           }
 
-      pub plan-last : b ≡ false → (r : chain.Step) → r ≡ advance s c → Not-record r → Stops s (p .head) false
+      pub plan-last : b ≡ false → (r : chain.Item) → r ≡ advance s c → Not-record r → Stops s (p .head) false
       plan-last l r g z =
           let v : Reading = reading-from s (p .head) in
           record {

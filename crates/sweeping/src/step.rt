@@ -2,17 +2,17 @@
 use crate::Moved;
 use crate::Plan;
 use flash::Meter;
-use flash::program;
+use moving::close;
+use moving::copy::copy_head;
+use moving::to_clean;
 use reading::Item;
 use reading::chain::advance;
 use reading::files::is_live;
 use reading::image::first_cursor;
 use record::size;
-use recovery::close::close;
 use spec::CLEAN;
 use spec::Place;
 use spec::Placed;
-use writing::copy_head;
 ghost use mathlib.Core.Path.{_≡_};
 ghost use Prim.Native.Nat.{_+_, _*_, _≤_, _<_, _^_};
 ghost use lib.ListN.{length, getD};
@@ -88,7 +88,7 @@ fn hand_over(image: &mut [u8], head: usize, m: Meter) -> Moved
             meter: m,
         };
     };
-    let a = program(image, y.at, CLEAN, m);
+    let a = to_clean(image, y, m);
     let b = close(image, x, y, CLEAN, a);
     Moved {
         head: y.at,

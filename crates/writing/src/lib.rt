@@ -1,13 +1,11 @@
 // The record at its place: the steps that put it there in place of an old one.
 // Every byte goes through flash::program, and every sector through flash::erase.
 pub mod build;
-pub mod copy;
 pub mod format;
 
 use build::set_status;
 use build::write_marker;
 use build::write_record;
-use copy::copy_record;
 use flash::Meter;
 use record::size;
 use spec::Place;
@@ -18,12 +16,10 @@ ghost use mathlib.Core.Bool.{true};
 ghost use mathlib.Core.List.{_++_};
 ghost use Prim.Native.Nat.{_+_, _<_, _≤_, _^_};
 ghost use lib.ListN.{length};
-ghost use Rattle.spec.specs.Record.{size-of};
 ghost use Rattle.spec.specs.Write.{migrate-steps, delete-steps, put-steps};
 ghost use Rattle.flash.specs.Did.{Did};
-ghost use Rattle.writing.specs.Old.{entry-of, Lies};
+ghost use Rattle.writing.specs.Old.{old-entry, Lies};
 ghost use Rattle.writing.specs.Put.{marks, Ready};
-ghost use Rattle.writing.specs.Head.{HeadEnds, entry-at, copy-of};
 
 // The file that a put replaces: its address and its status, or none.
 pub enum Old {
@@ -32,9 +28,9 @@ pub enum Old {
 }
 
 // The old file's status FC to F8, if it is FC; then the marker, if one is needed.
-fn prepare(image: &mut [u8], old: Old, tail: usize, marker: bool, m: Meter) -> Meter
+pub fn prepare(image: &mut [u8], old: Old, tail: usize, marker: bool, m: Meter) -> Meter
     requires { ⌜ Lies old (length (now image)) × (marker ≡ true → tail + 2 < length (now image)) × (m .asked + 4 ≤ 2 ^ 32) ⌝ }
-    ensures { λ r. ⌜ Did (now (image .entry)) m (migrate-steps (entry-of old) ++ marks marker tail) (now (image .exit)) r ⌝ }
+    ensures { λ r. ⌜ Did (now (image .entry)) m (migrate-steps (old-entry old) ++ marks marker tail) (now (image .exit)) r ⌝ }
 {
     let a = migrate(image, old, m);
     if marker {
@@ -45,7 +41,7 @@ fn prepare(image: &mut [u8], old: Old, tail: usize, marker: bool, m: Meter) -> M
 
 fn migrate(image: &mut [u8], old: Old, m: Meter) -> Meter
     requires { ⌜ Lies old (length (now image)) × (m .asked < 2 ^ 32) ⌝ }
-    ensures { λ r. ⌜ Did (now (image .entry)) m (migrate-steps (entry-of old)) (now (image .exit)) r ⌝ }
+    ensures { λ r. ⌜ Did (now (image .entry)) m (migrate-steps (old-entry old)) (now (image .exit)) r ⌝ }
 {
     let Old::At(at, status) = old else {
         return m;
@@ -56,9 +52,9 @@ fn migrate(image: &mut [u8], old: Old, m: Meter) -> Meter
     m
 }
 
-fn delete(image: &mut [u8], old: Old, m: Meter) -> Meter
+pub fn delete(image: &mut [u8], old: Old, m: Meter) -> Meter
     requires { ⌜ Lies old (length (now image)) × (m .asked < 2 ^ 32) ⌝ }
-    ensures { λ r. ⌜ Did (now (image .entry)) m (delete-steps (entry-of old)) (now (image .exit)) r ⌝ }
+    ensures { λ r. ⌜ Did (now (image .entry)) m (delete-steps (old-entry old)) (now (image .exit)) r ⌝ }
 {
     let Old::At(at, _) = old else {
         return m;
@@ -76,27 +72,12 @@ pub fn write_file(
     m: Meter,
 ) -> Meter
     requires { ⌜ Ready place (length (now image)) (length (now name)) (length (now content)) (m .asked) × Lies old (length (now image)) ⌝ }
-    ensures { λ r. ⌜ Did (now (image .entry)) m (put-steps place (entry-of old) (now (name .entry)) (now (content .entry))) (now (image .exit)) r ⌝ }
+    ensures { λ r. ⌜ Did (now (image .entry)) m (put-steps place (old-entry old) (now (name .entry)) (now (content .entry))) (now (image .exit)) r ⌝ }
 {
     let Placed::At(at, marker, _) = place.after(size(name.len(), content.len())) else {
         return m;
     };
     let a = prepare(image, old, place.tail, marker, m);
     let b = write_record(image, at, name, content, a);
-    delete(image, old, b)
-}
-
-// The record at the head, with n name bytes and d data bytes, copied as in a put: the first part of a move.
-pub fn copy_head(image: &mut [u8], place: Place, n: usize, d: usize, m: Meter) -> Meter
-    requires { ⌜ Ready place (length (now image)) n d (m .asked) × HeadEnds place (size-of n d) ⌝ }
-    ensures { λ r. ⌜ Did (now (image .entry)) m (copy-of place (entry-at (now (image .entry)) (place .head) n d)) (now (image .exit)) r ⌝ }
-{
-    let Placed::At(at, marker, _) = place.after(size(n, d)) else {
-        return m;
-    };
-    let head = place.head;
-    let old = Old::At(head, Status::from_byte(image[head + 2]));
-    let a = prepare(image, old, place.tail, marker, m);
-    let b = copy_record(image, head, at, n, d, a);
     delete(image, old, b)
 }

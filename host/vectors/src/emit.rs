@@ -141,7 +141,8 @@ pub fn file(vectors: &[(usize, &Vector)]) -> String {
          use mathlib.Core.Bool.{Bool, true, false}\n\
          use mathlib.Core.List.{List, [], _∷_}\n\
          use Rattle.spec.specs.History.{Request, put, remove, sweep, mount, get, list}\n\
-         use Rattle.spec.specs.Run.{fill, lit, build, call, file, entry}\n\
+         use Rattle.spec.specs.Numbers.{of-write, of-mount, of-sweep, of-get, of-list}\n\
+         use Rattle.spec.specs.Run.{fill, lit, build, call, file, entry, report, extent}\n\
          use Rattle.spec.specs.Run.{check, check-format, check-part, check-place, check-room, check-history}\n",
     );
     for (i, v) in vectors {

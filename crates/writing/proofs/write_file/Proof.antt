@@ -1,6 +1,6 @@
 -- A size that fits is placed, so that the other answer can't come; then the phases one after another.
 use Rattle.writing.specs.Put.{never-full, spot, marker-spot, prepare-few, put-phases}
-use Rattle.writing.specs.Old.{entry-of, lies-same}
+use Rattle.writing.specs.Old.{old-entry, lies-same}
 use Rattle.writing.specs.Steps.{record-count}
 use lib.ListN.{length}
 use mathlib.Core.Path.{sym, _∙_}
@@ -64,7 +64,7 @@ returns-2 c =
     let c6 = c .before .before .before .before .before .before in let c10 = c6 .before .before .before .before in
     let c13 = c10 .before .before .before in let c15 = c13 .before .before in let c16 = c15 .before in
     let a = c16 .before .before .before .before .args in
-    put-phases (a .place) (entry-of (a .old)) (a .name .now) (a .content .now) _ _ _
+    put-phases (a .place) (old-entry (a .old)) (a .name .now) (a .content .now) _ _ _
     (rw (c16 .size .ensures) at (sym (c15 .after .ensures) ∙ c13 .at .given .1))
     (c10 .prepare .ensures) (c6 .write-record .ensures) (c .before .before .delete .ensures)
 

@@ -45,11 +45,11 @@ returns-2 c =
     hand-one (c10 .pre .0) (c10 .args .m) t (c .before .advance2 .result) (c .before .advance2 .ensures .0)
     (other-step (c .before .advance2 .result) (c .match2 .keys2))
 
-program-requires : tie.Need-program-requires
-program-requires c κs =
+to-clean-requires : tie.Need-to-clean-requires
+to-clean-requires c κs =
     let c4 = c .before .before .before .before in let c13 = c4 .before .before .before .before .before .before .before .before .before in
     let u = taken refl (c4 .advance2 .ensures .0) (c4 .advance2 .ensures .1) (c .before .before .y .given .1) in
-    (omega (arith, u .turned .whole .fits), omega (arith, c13 .pre .1))
+    (u .turned .whole, omega (arith, c13 .pre .1))
 
 close-requires : tie.Need-close-requires
 close-requires c κs =
@@ -57,11 +57,8 @@ close-requires c κs =
     let c13 = c11 .before .before in let c14 = c13 .before in let c17 = c14 .before .before .before in
     let t = taken (c14 .first-cursor .ensures) (c13 .advance .ensures .0) (c13 .advance .ensures .1) (c11 .x .given .1) in
     let u = taken refl (c8 .advance2 .ensures .0) (c8 .advance2 .ensures .1) (c6 .y .given .1) in (
-      record { fits = omega (arith, t .turned .whole .fits) },
-      record { fits = omega (arith, u .turned .whole .fits) },
-      omega
-          (arith, c17 .pre .0 .small),
-      omega (arith, c17 .pre .1, c .before .before .before .program .ensures .count),
+      (record { fits = omega (arith, t .turned .whole .fits) }, record { fits = omega (arith, u .turned .whole .fits) }),
+      (omega (arith, c17 .pre .0 .small), omega (arith, c17 .pre .1, c .before .before .before .to-clean .ensures .count)),
     )
 
 same-length-3 : tie.Need-same-length-3
@@ -74,7 +71,7 @@ returns-3 c =
     let c20 = c17 .before .before .before in
     let t = taken (c17 .first-cursor .ensures) (c16 .advance .ensures .0) (c16 .advance .ensures .1) (c14 .x .given .1) in
     let u = taken refl (c11 .advance2 .ensures .0) (c11 .advance2 .ensures .1) (c9 .y .given .1) in
-    hand-two (c20 .pre .0) (c20 .args .m) t u (omega arith) (omega arith) (c6 .program .ensures) (c2 .close .ensures .0) (c2 .close .ensures .1)
+    hand-two (c20 .pre .0) (c20 .args .m) t u (omega arith) (omega arith) (c6 .to-clean .ensures) (c2 .close .ensures .0) (c2 .close .ensures .1)
 
 pub hand-over-spec : {M : Type 1} → statement M
 hand-over-spec =
@@ -89,7 +86,7 @@ hand-over-spec =
     enum-known-y
     same-length-2
     returns-2
-    program-requires
+    to-clean-requires
     close-requires
     same-length-3
     returns-3)
