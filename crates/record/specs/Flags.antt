@@ -1,22 +1,17 @@
--- `||` and `&&` in code: the first test, x, decides, or the answer is the second's, w.
-use mathlib.Core.Path.{_≡_, refl, sym}
+-- `||` and `&&` in code, where x is the first test's answer and w the second's: the whole answer is the first's or the second's.
+use mathlib.Core.Path.{_≡_, sym}
 use mathlib.Core.Bool.{Bool, true, false, _&&_, _||_}
 
 module _ {x y : Bool} (e : x ≡ y) where
-  pub or-taken : (z : Bool) → x ≡ true → x ≡ (y || z)
-  or-taken z t = rw (sym e, t)
+  pub or-first : (z : Bool) → x ≡ true → x ≡ (y || z)
+  or-first z t = rw (sym e, t)
 
-  pub and-left : (z : Bool) → x ≡ false → x ≡ (y && z)
-  and-left z t = rw (sym e, t)
+  pub and-first : (z : Bool) → x ≡ false → x ≡ (y && z)
+  and-first z t = rw (sym e, t)
 
   module _ {w z : Bool} where
-    pub or-left : x ≡ false → w ≡ z → w ≡ (y || z)
-    or-left t f = rw (sym e, t) f
+    pub or-second : x ≡ false → w ≡ z → w ≡ (y || z)
+    or-second t f = rw (sym e, t) f
 
-    pub and-taken : x ≡ true → w ≡ z → w ≡ (y && z)
-    and-taken t f = rw (sym e, t) f
-
--- both hold: the first does
-pub and-first : (x y : Bool) → (x && y) ≡ true → x ≡ true
-and-first true y t = refl
-and-first false y t = t
+    pub and-second : x ≡ true → w ≡ z → w ≡ (y && z)
+    and-second t f = rw (sym e, t) f
