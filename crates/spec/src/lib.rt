@@ -2,6 +2,7 @@
 // Nothing here reads or writes an image; the layers above are proved against what stands here.
 ghost use mathlib.Core.Path.{_≡_};
 ghost use Prim.Native.Nat.{_≤_};
+ghost use lib.Dec.{eqb};
 ghost use Rattle.spec.specs.Geometry.{floor};
 ghost use Rattle.spec.specs.Reading.{limit};
 ghost use Rattle.spec.specs.Place.{fits-at-tail};
@@ -92,7 +93,7 @@ impl Place {
         Placed::Full
     }
 
-    // The same with another tail.
+    // The same place with another tail, turned or not.
     fn with_tail(self, tail: usize, turned: bool) -> Place
         ensures { λ r. ⌜ r ≡ with-tail self tail turned ⌝ }
     {
@@ -149,6 +150,13 @@ impl Status {
         ensures { λ r. ⌜ r .byte ≡ byte ⌝ }
     {
         Status { byte: byte }
+    }
+
+    // Whether it is the other status.
+    pub fn is(self, other: Status) -> bool
+        ensures { λ r. ⌜ r ≡ eqb (self .byte) (other .byte) ⌝ }
+    {
+        self.byte == other.byte
     }
 }
 

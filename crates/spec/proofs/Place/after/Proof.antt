@@ -51,8 +51,8 @@ returns-4 : tie.Need-returns-4
 returns-4 c =
     let c4 = c .before .before .before .before in
     let a = c4 .before .args in
-    sym (placed-nowhere (a .self) (a .size) (c .before .before .if2 .left) (sym (c4 .fits-at-tail .ensures) ∙ c .before .before .before .if1 .left)
-    (omega arith))
+    sym (placed-nowhere (a .self) (a .size) (c .before .before .if2 .left)
+    (sym (c4 .fits-at-tail .ensures) ∙ c .before .before .before .if1 .left) (omega arith))
 
 pub after-spec : {M : Type 1} → statement M
 after-spec =
