@@ -5,7 +5,7 @@ use flash::Meter;
 use reading::Read;
 use reading::Survey;
 use spec::Refusal;
-use sweeping::step::no_room;
+use sweeping::one_move::no_room;
 use sweeping::sweep::sweep as move_on;
 ghost use mathlib.Core.Path.{_≡_};
 ghost use Rattle.spec.specs.Numbers.{outcome-of};

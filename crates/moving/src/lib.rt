@@ -24,6 +24,12 @@ ghost use Rattle.reading.specs.Fold.{Whole};
 ghost use Rattle.writing.specs.Counts.{Counts};
 ghost use Rattle.moving.specs.Close.{left-behind};
 
+// The head that a move or a repair leaves, and the meter.
+pub struct NewHead {
+    pub head: usize,
+    pub meter: Meter,
+}
+
 // (b) Y becomes CLEAN.
 pub fn to_clean(image: &mut [u8], y: Spot, m: Meter) -> Meter
     requires { ⌜ Whole (now image) y ⌝ }

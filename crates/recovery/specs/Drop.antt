@@ -9,7 +9,7 @@ use lib.ListN.{length, set, getD}
 use lib.Seq.{take-nil, getD-drop, getD-set-same}
 use lib.Dec.{eqb}
 use borrow.Author.Tests.{eqb-true, ne-eqb}
-use Rattle.spec.specs.Step.{Image, program, run}
+use Rattle.spec.specs.Step.{Image, Step, program, run}
 use Rattle.spec.specs.Basics.{any, keep, empty}
 use Rattle.spec.specs.Bytes.{is-unfinished, is-erased, is-reserved}
 use Rattle.spec.specs.Record.{Entry, name-of, size-of}
@@ -31,6 +31,10 @@ use Rattle.recovery.specs.Trail.{way, stood-fits, Tidy, Ahead, tidy-next
 use Rattle.recovery.specs.Path.{Path, here, path-snoc, rest-path, path-tidy, path-kept, Passed, rest-kept}
 
 -- ---- the steps of one record, and of the others
+
+-- of the entries xs those that are superseded among es
+abbrev pub dropped : List Entry → List Entry → List Step
+dropped es xs = map delete-step (keep (superseded es) xs)
 
 abbrev pick : Bool → Entry → List Entry → List Entry
 pick t e es = elim t [ true ↦ e ∷ es | false ↦ es ]

@@ -7,7 +7,7 @@ use mathlib.Core.List.{List, [], _∷_, _++_}
 use lib.ListN.{length, getD}
 use lib.Seq.{getD-drop}
 use borrow.Author.Tests.{eq-eqb, ne-eqb}
-use Rattle.spec.specs.Step.{Image, Step, program, shifted}
+use Rattle.spec.specs.Step.{Image, Step, shifted}
 use Rattle.spec.specs.Basics.{Each}
 use Rattle.spec.specs.Bytes.{is-erased, is-reserved}
 use Rattle.spec.specs.Record.{Entry}
@@ -28,10 +28,6 @@ use Rattle.reading.specs.RuleLaws.{count-is}
 use Rattle.reading.specs.Read.{Tallied, first-cursor}
 use Rattle.reading.specs.Survey.{Seen}
 use Rattle.recovery.specs.Repairs.{steps-3}
-
--- the four length bytes of a record, from its start
-abbrev pub zero-steps : List Step
-zero-steps = program 4 0x00 ∷ program 5 0x00 ∷ program 6 0x00 ∷ program 7 0x00 ∷ []
 
 -- ---- the name's end
 

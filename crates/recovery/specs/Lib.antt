@@ -1,3 +1,4 @@
+pub mod Readable
 pub mod Sectors
 pub mod Repairs
 pub mod Free

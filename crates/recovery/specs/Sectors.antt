@@ -7,7 +7,7 @@ use mathlib.Core.Bool.{Bool, true, false, not}
 use mathlib.Core.List.{List, [], _∷_, _++_, map, append-assoc}
 use lib.ListN.{length, take, drop, length-append, length-replicate}
 use lib.Seq.{drop-drop, drop-append-add, length-take-le}
-use Rattle.spec.specs.Step.{Image, erase, sector, apply}
+use Rattle.spec.specs.Step.{Image, Step, erase, sector, apply}
 use Rattle.spec.specs.Basics.{blank, keep}
 use Rattle.spec.specs.Geometry.{sectors}
 use Rattle.spec.specs.Mount.{dirty}
@@ -36,6 +36,10 @@ pub erased-behind : {s t : Image} {m r : Meter} (a k : ℕ) → a + 4096 ≤ k �
 erased-behind {s} a k h l d = ⊎-elim (λ e. ap (drop k) e ∙ erase-behind s a k h l) (λ e. ap (drop k) e) (did-one d)
 
 -- ---- a sector that is not all FF
+
+-- those of these sectors are erased
+abbrev pub dirty-erased : Image → List ℕ → List Step
+dirty-erased s starts = map erase (keep (dirty s) starts)
 
 pub dirty-same : (s t : Image) (a : ℕ) → drop a t ≡ drop a s → dirty t a ≡ dirty s a
 dirty-same s t a e =

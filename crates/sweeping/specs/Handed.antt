@@ -22,13 +22,13 @@ use Rattle.reading.specs.Read.{first-cursor}
 use Rattle.moving.specs.Kept.{kept}
 use Rattle.moving.specs.Clean.{cleaned-is}
 use Rattle.moving.specs.Close.{close-same, close-low}
-use Rattle.sweeping.specs.declared.Moved.{Moved}
+use Rattle.moving.specs.declared.NewHead.{NewHead}
 use Rattle.reading.specs.Way.{reached}
 use Rattle.reading.specs.FirstRecord.{apart, second-even}
 use Rattle.sweeping.specs.Steps.{hand-steps, hand-head, handing, heading}
 use Rattle.reading.specs.Standing.{Led, Taken, entries-are, stands}
 
-pub record Handed (s : Image) (h : ℕ) (m : Meter) (t : Image) (r : Moved) : Type 0 where
+pub record Handed (s : Image) (h : ℕ) (m : Meter) (t : Image) (r : NewHead) : Type 0 where
   pub did : Did s m (handing s h) t (r .meter)
   pub head : r .head ≡ heading s h
   pub led : r .meter .asked ≤ r .meter .allowance → Led t (r .head)

@@ -3,5 +3,5 @@ pub mod Steps
 pub mod Stuck
 pub mod Planned
 pub mod Handed
-pub mod Moving
+pub mod WholeMove
 pub mod Sweeping

@@ -47,12 +47,12 @@ pub record Copies (s : Image) (p : Place) (n d : ℕ) : Type 0 where
   pub named : n ≤ 63
 
 -- there is no further move
-pub record Stops (s : Image) (h : ℕ) (full : Bool) : Type 0 where
+pub record No-move (s : Image) (h : ℕ) (full : Bool) : Type 0 where
   pub stop : stuck (reading-from s h) ≡ true
   pub room : no-room (reading-from s h) (reading-from s h .entries) ≡ full
 
 abbrev pub Planned : Image → Place → Plan → Type 0
-Planned s p (Plan.Stop b) = Stops s (p .head) b
+Planned s p (Plan.Stop b) = No-move s (p .head) b
 Planned s p Plan.Leave = (stuck (reading-from s (p .head)) ≡ false) × (copying s (p .head) ≡ [])
 Planned s p (Plan.Copy n d) = Copies s p n d
 
@@ -81,7 +81,7 @@ full-is s p (Plan.Copy n d) w = sym (room-on (reading-from s (p .head)) (w .on))
 -- ---- how the code comes to it
 
 module _ {s : Image} {p : Place} (w : Headed s p) where
-  pub plan-none : {k : Cursor} (q : chain.Item) → k ≡ first-cursor s (p .head) → q ≡ advance s k → Not-record q → Stops s (p .head) false
+  pub plan-none : {k : Cursor} (q : chain.Item) → k ≡ first-cursor s (p .head) → q ≡ advance s k → Not-record q → No-move s (p .head) false
   plan-none {k} q f e z =
       let r : Reading = reading-from s (p .head) in
       let none : r .entries ≡ [] = entries-are s (p .head) (w .led)
@@ -106,7 +106,7 @@ module _ {s : Image} {p : Place} (w : Headed s p) where
       e : b ≡ live (rest s (first-cursor s (p .head)) .entries) (entry-of s x)
       e = f ∙ ap (λ (v : Cursor). live (rest s v .entries) (entry-of s x)) q
 
-      pub plan-full : {z : ℕ} {a : Placed} → b ≡ true → z ≡ size-of (x .n) (x .d) → a ≡ placed p z → a ≡ placed-as.Full → Stops s (p .head) true
+      pub plan-full : {z : ℕ} {a : Placed} → b ≡ true → z ≡ size-of (x .n) (x .d) → a ≡ placed p z → a ≡ placed-as.Full → No-move s (p .head) true
       plan-full l g i j =
           let r : Reading = reading-from s (p .head) in
           let no : fits (r .place) (size (entry-of s x)) ≡ false = fitting false
@@ -136,7 +136,7 @@ module _ {s : Image} {p : Place} (w : Headed s p) where
             named = omega (arith, t .passes .onward .name);
           }
 
-      pub plan-last : b ≡ false → (r : chain.Item) → r ≡ advance s c → Not-record r → Stops s (p .head) false
+      pub plan-last : b ≡ false → (r : chain.Item) → r ≡ advance s c → Not-record r → No-move s (p .head) false
       plan-last l r g z =
           let v : Reading = reading-from s (p .head) in
           record {
@@ -159,6 +159,11 @@ module _ {s : Image} {p : Place} (w : Headed s p) where
 
 -- ---- step (a)
 
+-- its steps, how many they are at most, and the byte at the head, which stays
+abbrev Copied : Image → Place → Meter → Image → Meter → Type 0
+Copied s p m t r =
+    Did s m (copying s (p .head)) t r × ((r .asked ≤ m .asked + (length s + 15)) × (getD t (p .head) 0 ≡ getD s (p .head) 0))
+
 module _ {s : Image} {p : Place} (w : Headed s p) where
   pub sound : Place-sound p
   sound =
@@ -180,8 +185,7 @@ module _ {s : Image} {p : Place} (w : Headed s p) where
       }
 
   module _ {t : Image} {m r : Meter} where
-    pub copied : {n d : ℕ} → Copies s p n d → Did s m (copy-of p (entry-at s (p .head) n d)) t r
-        → Did s m (copying s (p .head)) t r × (r .asked ≤ m .asked + length s + 15) × (getD t (p .head) 0 ≡ getD s (p .head) 0)
+    pub copied : {n d : ℕ} → Copies s p n d → Did s m (copy-of p (entry-at s (p .head) n d)) t r → Copied s p m t r
     copied {n} {d} c f =
         let x : Spot = record { at = p .head; n = n; d = d } in
         let long : p .length ≡ length s = subst (Standing (length s) (p .head) (p .head)) (sym (w .same)) (stands s (p .head) (w .led)) .whole in
@@ -190,10 +194,11 @@ module _ {s : Image} {p : Place} (w : Headed s p) where
         let dl : length (content-of (entry-of s x)) ≡ d = content-length-is s x v in
         let z : size (entry-of s x) ≡ size-of n d = ap₂ size-of nl dl in (
           rw (c .steps) f,
-          omega (arith, f .count, copy-few p (entry-of s x), nl, dl, v .fits),
-          copy-keeps-low p (entry-of s x) refl (rw z (c .ends)) (rw z (c .taken)) f,
+          (
+            omega (arith, f .count, copy-few p (entry-of s x), nl, dl, v .fits),
+            copy-keeps-low p (entry-of s x) refl (rw z (c .ends)) (rw z (c .taken)) f,
+          ),
         )
 
-  pub not-copied : {m : Meter} → copying s (p .head) ≡ [] → Did s m (copying s (p .head)) s m × (m .asked ≤ m .asked + length s + 15)
-      × (getD s (p .head) 0 ≡ getD s (p .head) 0)
-  not-copied {m} e = (rw e (did-none s m), omega arith, refl)
+  pub not-copied : {m : Meter} → copying s (p .head) ≡ [] → Copied s p m s m
+  not-copied {m} e = (rw e (did-none s m), (omega arith, refl))

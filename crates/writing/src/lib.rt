@@ -14,10 +14,11 @@ use spec::Status;
 ghost use mathlib.Core.Path.{_≡_};
 ghost use mathlib.Core.Bool.{true};
 ghost use mathlib.Core.List.{_++_};
-ghost use Prim.Native.Nat.{_+_, _<_, _≤_, _^_};
+ghost use Prim.Native.Nat.{_+_, _<_};
 ghost use lib.ListN.{length};
 ghost use Rattle.spec.specs.Write.{migrate-steps, delete-steps, put-steps};
 ghost use Rattle.flash.specs.Did.{Did};
+ghost use Rattle.writing.specs.Counts.{Counts};
 ghost use Rattle.writing.specs.Old.{old-entry, Lies};
 ghost use Rattle.writing.specs.Put.{marks, Ready};
 
@@ -27,9 +28,11 @@ pub enum Old {
     At(usize, Status),
 }
 
-// The old file's status FC to F8, if it is FC; then the marker, if one is needed.
+// What goes before the new record: the old file's status FC to F8, if it is FC; then the marker, if one is needed.
 pub fn prepare(image: &mut [u8], old: Old, tail: usize, marker: bool, m: Meter) -> Meter
-    requires { ⌜ Lies old (length (now image)) × (marker ≡ true → tail + 2 < length (now image)) × (m .asked + 4 ≤ 2 ^ 32) ⌝ }
+    requires { ⌜ Lies old (length (now image)) ⌝ }
+    requires { ⌜ (marker ≡ true → tail + 2 < length (now image)) ⌝ }
+    requires { ⌜ Counts m 4 ⌝ }
     ensures { λ r. ⌜ Did (now (image .entry)) m (migrate-steps (old-entry old) ++ marks marker tail) (now (image .exit)) r ⌝ }
 {
     let a = migrate(image, old, m);
@@ -39,8 +42,10 @@ pub fn prepare(image: &mut [u8], old: Old, tail: usize, marker: bool, m: Meter) 
     a
 }
 
+// FC to F8: the old file stays readable until it is deleted.
 fn migrate(image: &mut [u8], old: Old, m: Meter) -> Meter
-    requires { ⌜ Lies old (length (now image)) × (m .asked < 2 ^ 32) ⌝ }
+    requires { ⌜ Lies old (length (now image)) ⌝ }
+    requires { ⌜ Counts m 1 ⌝ }
     ensures { λ r. ⌜ Did (now (image .entry)) m (migrate-steps (old-entry old)) (now (image .exit)) r ⌝ }
 {
     let Old::At(at, status) = old else {
@@ -52,8 +57,10 @@ fn migrate(image: &mut [u8], old: Old, m: Meter) -> Meter
     m
 }
 
+// The old file's status 00.
 pub fn delete(image: &mut [u8], old: Old, m: Meter) -> Meter
-    requires { ⌜ Lies old (length (now image)) × (m .asked < 2 ^ 32) ⌝ }
+    requires { ⌜ Lies old (length (now image)) ⌝ }
+    requires { ⌜ Counts m 1 ⌝ }
     ensures { λ r. ⌜ Did (now (image .entry)) m (delete-steps (old-entry old)) (now (image .exit)) r ⌝ }
 {
     let Old::At(at, _) = old else {
@@ -71,8 +78,10 @@ pub fn write_file(
     content: &[u8],
     m: Meter,
 ) -> Meter
-    requires { ⌜ Ready place (length (now image)) (length (now name)) (length (now content)) (m .asked) × Lies old (length (now image)) ⌝ }
-    ensures { λ r. ⌜ Did (now (image .entry)) m (put-steps place (old-entry old) (now (name .entry)) (now (content .entry))) (now (image .exit)) r ⌝ }
+    requires { ⌜ Ready place (length (now image)) (length (now name)) (length (now content)) (m .asked) ⌝ }
+    requires { ⌜ Lies old (length (now image)) ⌝ }
+    ensures { λ r. ⌜ (let steps = put-steps place (old-entry old) (now (name .entry)) (now (content .entry)) in
+        Did (now (image .entry)) m steps (now (image .exit)) r) ⌝ }
 {
     let Placed::At(at, marker, _) = place.after(size(name.len(), content.len())) else {
         return m;

@@ -14,7 +14,7 @@ migrate-requires c κs = search needs
 write-marker-requires : tie.Need-write-marker-requires
 write-marker-requires c κs =
     let c7 = c .before .before .before .before .before .before .before in
-    omega (arith, c7 .pre .1 (c .before .if1 .taken), migrate-few (old-entry (c7 .args .old)))
+    omega (arith, c7 .pre .1 .0 (c .before .if1 .taken), migrate-few (old-entry (c7 .args .old)))
 
 same-length : tie.Need-same-length
 same-length c = search needs

@@ -44,7 +44,8 @@ prepare-requires c κs =
     let a = c9 .args in
     let r = c9 .pre .0 in
     let e = rw (c7 .size .ensures) at (sym (c6 .after .ensures) ∙ c .before .before .before .before .at .given .1) in
-    (omega (arith, r .whole, c9 .pre .1 .inside), (λ k. omega (arith, marker-spot (a .place) _ _ _ _ _ _ _ r e k)), omega (arith, r .few))
+    let lies = c9 .pre .1 .inside in
+    (omega (arith, r .whole), ((λ k. omega (arith, marker-spot (a .place) _ _ _ _ _ _ _ r e k)), omega (arith, r .few)))
 
 copy-record-requires : tie.Need-copy-record-requires
 copy-record-requires c κs =

@@ -52,9 +52,9 @@ loop-again c =
       omega arith,
       omega arith,
       omega arith,
-      e .2 (a + 4096) (omega arith)
+      e .1 .1 (a + 4096) (omega arith)
           ∙ later-on a (a + 4096) s (c5 .loop .image) (omega arith) (inv .4),
-      e .2 to (omega arith)
+      e .1 .1 to (omega arith)
           ∙ inv .5,
       toward-more (inv .6) (dirty-more s (c5 .loop .image) a to (omega arith) (inv .4)) (e .0),
     )
@@ -67,8 +67,7 @@ returns c =
     let inv = c .before .loop .inv in (
       toward-end (inv .6) (ap (λ l. map erase (keep (dirty (c .before .before .before .args .image .now)) l))
           (sectors-none (c .before .loop .a) (c .before .before .before .args .to) (omega arith))),
-      omega arith,
-      inv .5,
+      (omega arith, inv .5),
     )
 
 pub erase-dirty-spec : {M : Type 1} → statement M

@@ -28,7 +28,7 @@ loop-holds : tie.Need-loop-holds Inv-loop μ-loop
 loop-holds c =
     let a = c .before .before .before .args in (
       refl,
-      rw (c .first-cursor .ensures) (first-sound (a .image .now) (a .h) (omega arith) (c .before .before .before .pre .1)),
+      rw (c .first-cursor .ensures) (first-sound (a .image .now) (a .h) (omega arith) (c .before .before .before .pre .0 .2)),
       omega arith,
       dropping-start (a .image .now) (c .first-cursor .result) (a .m),
     )
@@ -57,9 +57,8 @@ drop-one-requires c κs =
     let t = passes (c4 .advance .ensures) (c2 .s .given .1) in
     let a = c10 .args in (
       sound-same (a .image .now) (c6 .loop .image) (c7 .first-cursor .result)
-          (rw (c7 .first-cursor .ensures) (first-sound (a .image .now) (a .h) (omega (arith, c10 .pre .0)) (c10 .pre .1))) (c6 .loop .inv .0),
-      t .whole,
-      omega (arith, c6 .loop .inv .2, ap left (c7 .first-cursor .ensures), t .onward .less, c10 .pre .2),
+          (rw (c7 .first-cursor .ensures) (first-sound (a .image .now) (a .h) (omega (arith, c10 .pre .0 .0)) (c10 .pre .0 .2))) (c6 .loop .inv .0),
+      (t .whole, omega (arith, c6 .loop .inv .2, ap left (c7 .first-cursor .ensures), t .onward .less, c10 .pre .1)),
     )
 
 loop-less : tie.Need-loop-less Inv-loop μ-loop
@@ -78,7 +77,7 @@ loop-again c =
       sound-same (c9 .loop .image) (c2 .drop-one .last .0) (c5 .s .given .0 .1 .0) (t .onward .sound) (omega arith),
       omega (arith, c9 .loop .inv .2, t .onward .less, c2 .drop-one .ensures .1),
       dropping-more (c9 .loop .inv .3) (c5 .s .given .0 .0)
-          (c5 .s .given .0 .1 .0) (rw (c10 .first-cursor .ensures) (tidy-first (a .image .now) (a .h) (omega (arith, c13 .pre .0))))
+          (c5 .s .given .0 .1 .0) (rw (c10 .first-cursor .ensures) (tidy-first (a .image .now) (a .h) (omega (arith, c13 .pre .0 .0))))
           (sym (c7 .advance .ensures .0) ∙ c5 .s .given .1) (t .whole .fits) (c2 .drop-one .ensures .0),
     )
 

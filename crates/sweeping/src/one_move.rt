@@ -1,7 +1,7 @@
 // One move: the head's record copied if it is live, then the head handed over to the record behind it.
-use crate::Moved;
 use crate::Plan;
 use flash::Meter;
+use moving::NewHead;
 use moving::close;
 use moving::copy::copy_head;
 use moving::to_clean;
@@ -19,11 +19,12 @@ ghost use lib.ListN.{length, getD};
 ghost use Rattle.spec.specs.Chain.{reading-from};
 ghost use Rattle.spec.specs.Sweep.{no-room};
 ghost use Rattle.flash.specs.Did.{Did};
+ghost use Rattle.writing.specs.Counts.{Counts};
 ghost use Rattle.sweeping.specs.Steps.{copying};
 ghost use Rattle.reading.specs.Standing.{Led};
 ghost use Rattle.sweeping.specs.Planned.{Headed, Planned, Going};
 ghost use Rattle.sweeping.specs.Handed.{Handed};
-ghost use Rattle.sweeping.specs.Moving.{Moved-as};
+ghost use Rattle.sweeping.specs.WholeMove.{Move-made};
 
 // A live head moves if its copy fits, a dead one if a record stands behind it.
 pub fn plan(image: &[u8], place: Place) -> Plan
@@ -49,7 +50,7 @@ pub fn plan(image: &[u8], place: Place) -> Plan
 // The head's record is live and does not fit.
 pub fn no_room(image: &[u8], place: Place) -> bool
     requires { ⌜ Headed (now image) place ⌝ }
-    ensures { λ r. ⌜ r ≡ no-room (reading-from (now (image .entry)) (place .head)) (reading-from (now (image .entry)) (place .head) .entries) ⌝ }
+    ensures { λ r. ⌜ (let v = reading-from (now (image .entry)) (place .head) in r ≡ no-room v (v .entries)) ⌝ }
 {
     let p = plan(image, place);
     match p {
@@ -61,8 +62,12 @@ pub fn no_room(image: &[u8], place: Place) -> bool
 
 // Step (a).
 fn copy(image: &mut [u8], place: Place, plan: Plan, m: Meter) -> Meter
-    requires { ⌜ Headed (now image) place × Going (now image) place plan × (m .asked ≤ 2 ^ 31) ⌝ }
-    ensures { λ r. ⌜ Did (now (image .entry)) m (copying (now (image .entry)) (place .head)) (now (image .exit)) r × (r .asked ≤ m .asked + length (now (image .entry)) + 15) × (getD (now (image .exit)) (place .head) 0 ≡ getD (now (image .entry)) (place .head) 0) ⌝ }
+    requires { ⌜ Headed (now image) place ⌝ }
+    requires { ⌜ Going (now image) place plan ⌝ }
+    requires { ⌜ m .asked ≤ 2 ^ 31 ⌝ }
+    ensures { λ r. ⌜ (let s = now (image .entry) in Did s m (copying s (place .head)) (now (image .exit)) r) ⌝ }
+    ensures { λ r. ⌜ r .asked ≤ m .asked + (length (now (image .entry)) + 15) ⌝ }
+    ensures { λ r. ⌜ getD (now (image .exit)) (place .head) 0 ≡ getD (now (image .entry)) (place .head) 0 ⌝ }
 {
     match plan {
         Plan::Stop(_) => m,
@@ -72,38 +77,41 @@ fn copy(image: &mut [u8], place: Place, plan: Plan, m: Meter) -> Meter
 }
 
 // Steps (b) to (f), of the first two records from the head on; with fewer there is nothing to do.
-fn hand_over(image: &mut [u8], head: usize, m: Meter) -> Moved
-    requires { ⌜ Led (now image) head × (m .asked + 2 * length (now image) + 4 ≤ 2 ^ 32) ⌝ }
+fn hand_over(image: &mut [u8], head: usize, m: Meter) -> NewHead
+    requires { ⌜ Led (now image) head ⌝ }
+    requires { ⌜ Counts m (2 * length (now image) + 4) ⌝ }
     ensures { λ r. ⌜ Handed (now (image .entry)) head m (now (image .exit)) r ⌝ }
 {
     let Item::Record(x, past) = advance(image, first_cursor(image, head)) else {
-        return Moved {
+        return NewHead {
             head: head,
             meter: m,
         };
     };
     let Item::Record(y, _) = advance(image, past) else {
-        return Moved {
+        return NewHead {
             head: head,
             meter: m,
         };
     };
     let a = to_clean(image, y, m);
     let b = close(image, x, y, CLEAN, a);
-    Moved {
+    NewHead {
         head: y.at,
         meter: b,
     }
 }
 
 // The whole move. Y may be X's own copy, so that it is looked for only after the copy is done.
-pub fn move_head(image: &mut [u8], place: Place, plan: Plan, m: Meter) -> Moved
-    requires { ⌜ Headed (now image) place × Going (now image) place plan × (m .asked ≤ 2 ^ 31) ⌝ }
-    ensures { λ r. ⌜ Moved-as (now (image .entry)) (place .head) m (now (image .exit)) r ⌝ }
+pub fn move_head(image: &mut [u8], place: Place, plan: Plan, m: Meter) -> NewHead
+    requires { ⌜ Headed (now image) place ⌝ }
+    requires { ⌜ Going (now image) place plan ⌝ }
+    requires { ⌜ m .asked ≤ 2 ^ 31 ⌝ }
+    ensures { λ r. ⌜ Move-made (now (image .entry)) (place .head) m (now (image .exit)) r ⌝ }
 {
     let a = copy(image, place, plan, m);
     if a.allowance < a.asked {
-        return Moved {
+        return NewHead {
             head: place.head,
             meter: a,
         };

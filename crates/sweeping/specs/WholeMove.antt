@@ -9,24 +9,24 @@ use Rattle.spec.specs.Chain.{reading-from}
 use Rattle.spec.specs.Move.{Work, begin, move}
 use Rattle.flash.specs.declared.Meter.{Meter}
 use Rattle.flash.specs.Did.{Did, did-all}
-use Rattle.sweeping.specs.declared.Moved.{Moved}
+use Rattle.moving.specs.declared.NewHead.{NewHead}
 use Rattle.flash.specs.Began.{Began, began-did, began-both, began-cut}
 use Rattle.sweeping.specs.Steps.{copying, handing, heading, move-is}
 use Rattle.reading.specs.Standing.{Led, stands}
 use Rattle.sweeping.specs.Handed.{Handed}
 
 -- the definition's move of s, read from h on
-abbrev pub moving : Image → ℕ → Work
-moving s h = move (begin s (reading-from s h))
+abbrev pub whole-move : Image → ℕ → Work
+whole-move s h = move (begin s (reading-from s h))
 
 -- what a finished move leaves: its image, and the head that it is read from
 pub record Left (s : Image) (h : ℕ) (t : Image) (next : ℕ) : Type 0 where
-  pub image : moving s h .image ≡ t
-  pub reading : moving s h .reading ≡ reading-from t next
+  pub image : whole-move s h .image ≡ t
+  pub reading : whole-move s h .reading ≡ reading-from t next
   pub led : Led t next
 
-pub record Moved-as (s : Image) (h : ℕ) (m : Meter) (t : Image) (r : Moved) : Type 0 where
-  pub begun : Began s m (moving s h .steps) t (r .meter)
+pub record Move-made (s : Image) (h : ℕ) (m : Meter) (t : Image) (r : NewHead) : Type 0 where
+  pub begun : Began s m (whole-move s h .steps) t (r .meter)
   pub left : r .meter .asked ≤ r .meter .allowance → Left s h t (r .head)
   pub few : r .meter .asked ≤ m .asked + 2 ^ 26
 
@@ -42,11 +42,11 @@ led-still w l e =
       small = omega (arith, w .small);
     }
 
-module _ {s t : Image} {h : ℕ} {m a : Meter} (w : Led s h) (d : Did s m (copying s h) t a) (few : a .asked ≤ m .asked + length s + 15) where
-  steps-are : moving s h .steps ≡ copying s h ++ handing (run s (copying s h)) h
+module _ {s t : Image} {h : ℕ} {m a : Meter} (w : Led s h) (d : Did s m (copying s h) t a) (few : a .asked ≤ m .asked + (length s + 15)) where
+  steps-are : whole-move s h .steps ≡ copying s h ++ handing (run s (copying s h)) h
   steps-are = ap (λ (v : Work). v .steps) (move-is s h (stands s h w .head))
 
-  pub moved-cut : {i : ℕ} → a .allowance < a .asked → Moved-as s h m t (record { head = i; meter = a })
+  pub moved-cut : {i : ℕ} → a .allowance < a .asked → Move-made s h m t (record { head = i; meter = a })
   moved-cut l =
       record {
         begun = rw steps-are (began-cut (began-did d) (handing (run s (copying s h)) h) l);
@@ -54,7 +54,7 @@ module _ {s t : Image} {h : ℕ} {m a : Meter} (w : Led s h) (d : Did s m (copyi
         few = omega (arith, w .small);
       }
 
-  pub moved-over : {u : Image} {r : Moved} → a .asked ≤ a .allowance → length t ≡ length s → Handed t h a u r → Moved-as s h m u r
+  pub moved-over : {u : Image} {r : NewHead} → a .asked ≤ a .allowance → length t ≡ length s → Handed t h a u r → Move-made s h m u r
   moved-over {u} {r} l k v =
       let e : t ≡ run s (copying s h) = did-all d l in
       record {

@@ -1,11 +1,11 @@
 -- By the second record: none, a CLEAN one, a START, another.
 use mathlib.Core.Path.{sym, _∙_}
 use native.Mathlib.Omega.{arith}
-use Rattle.recovery.specs.Pair.{handed-few, handed-clean, handed-start, handed-plain}
+use Rattle.recovery.specs.Pair.{finish-few, finish-clean, finish-start, finish-plain}
 use Rattle.recovery.specs.Repairs.{clean-told}
 use borrow.Author.Needs.{needs}
-use Rattle.recovery.proofs.hand.hand_over.Statement.{statement}
-use Rattle.recovery.proofs.hand.hand_over.Tie as tie
+use Rattle.recovery.proofs.finish.finish_move.Statement.{statement}
+use Rattle.recovery.proofs.finish.finish_move.Tie as tie
 
 survey-requires : tie.Need-survey-requires
 survey-requires c κs = search needs
@@ -18,7 +18,7 @@ same-length c = search needs
 
 returns : tie.Need-returns
 returns c =
-    rw (c .at-head .ensures) (handed-few (c .before .before .before .before .survey .ensures) (c .before .if1 .taken), omega arith, omega arith)
+    rw (c .at-head .ensures) (finish-few (c .before .before .before .before .survey .ensures) (c .before .if1 .taken), (omega arith, omega arith))
 
 low-of-requires : tie.Need-low-of-requires
 low-of-requires c κs = search needs
@@ -41,10 +41,9 @@ returns-2 c =
     let c11 = c7 .before .before .before .before in
     let w = c11 .before .before .before .survey .ensures in
     rw (c .at-head2 .ensures) (
-      handed-clean w (c11 .if1 .left) (clean-told (c7 .low-of .ensures) (c6 .is-clean .ensures) (c5 .if2 .taken))
+      finish-clean w (c11 .if1 .left) (clean-told (c7 .low-of .ensures) (c6 .is-clean .ensures) (c5 .if2 .taken))
           (rw (c7 .low-of .ensures) at (c .before .before .before .close .ensures .0)),
-      omega arith,
-      omega (arith, w .surveyed .tallied .spots .second .fits),
+      (omega arith, omega (arith, w .surveyed .tallied .spots .second .fits)),
     )
 
 add-program : tie.Need-add-program
@@ -65,10 +64,9 @@ returns-3 c =
     let c13 = c9 .before .before .before .before in
     let w = c13 .before .before .before .survey .ensures in
     rw (c .at-head3 .ensures) (
-      handed-start w (c13 .if1 .left) (clean-told (c9 .low-of .ensures) (c8 .is-clean .ensures) (c7 .if2 .left))
+      finish-start w (c13 .if1 .left) (clean-told (c9 .low-of .ensures) (c8 .is-clean .ensures) (c7 .if2 .left))
           (sym (c9 .low-of .ensures) ∙ c6 .if3 .taken) (c .before .before .before .program .ensures),
-      omega arith,
-      omega (arith, w .surveyed .tallied .spots .second .fits),
+      (omega arith, omega (arith, w .surveyed .tallied .spots .second .fits)),
     )
 
 at-head-requires-4 : tie.Need-at-head-requires-4
@@ -82,14 +80,13 @@ returns-4 c =
     let c2 = c .before .before in let c3 = c2 .before in let c4 = c3 .before in let c8 = c4 .before .before .before .before in
     let w = c8 .before .before .before .survey .ensures in
     rw (c .at-head4 .ensures) (
-      handed-plain w (c8 .if1 .left) (clean-told (c4 .low-of .ensures) (c3 .is-clean .ensures) (c2 .if2 .left))
+      finish-plain w (c8 .if1 .left) (clean-told (c4 .low-of .ensures) (c3 .is-clean .ensures) (c2 .if2 .left))
           (λ q. c .before .if3 .left (c4 .low-of .ensures ∙ q)),
-      omega arith,
-      omega (arith, c8 .before .before .before .before .before .before .pre .0),
+      (omega arith, omega (arith, c8 .before .before .before .before .before .before .pre .0 .0)),
     )
 
-pub hand-over-spec : {M : Type 1} → statement M
-hand-over-spec =
+pub finish-move-spec : {M : Type 1} → statement M
+finish-move-spec =
     tie.close
     (tie.spec
     survey-requires

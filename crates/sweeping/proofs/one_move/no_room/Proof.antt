@@ -2,8 +2,8 @@
 use mathlib.Core.Path.{sym, ap, _∙_}
 use Rattle.sweeping.specs.Planned.{full, full-is}
 use borrow.Author.Needs.{needs}
-use Rattle.sweeping.proofs.step.no_room.Statement.{statement}
-use Rattle.sweeping.proofs.step.no_room.Tie as tie
+use Rattle.sweeping.proofs.one_move.no_room.Statement.{statement}
+use Rattle.sweeping.proofs.one_move.no_room.Tie as tie
 
 plan-requires : tie.Need-plan-requires
 plan-requires c κs = search needs
