@@ -8,8 +8,10 @@ use record::up_8;
 use spec::HIGH;
 use spec::START;
 ghost use mathlib.Core.Path.{_≡_};
+ghost use mathlib.Core.Bool.{_||_};
 ghost use Prim.Native.Nat.{_+_, _≤_, _<_, _^_};
 ghost use lib.ListN.{length, take, drop};
+ghost use Rattle.spec.specs.Bytes.{is-start, is-clean, is-record};
 ghost use Rattle.spec.specs.Move.{mark-steps, clean-steps};
 ghost use Rattle.flash.specs.Did.{Did};
 ghost use Rattle.reading.specs.Rest.{entry-of};
@@ -17,20 +19,21 @@ ghost use Rattle.reading.specs.Fold.{Whole};
 ghost use Rattle.writing.specs.Counts.{Counts};
 ghost use Rattle.moving.specs.Clean.{is-mark, cleaned-steps};
 
+// The first byte of a head's magic, or of a record's.
+fn is_low(b: u8) -> bool
+    ensures { λ r. ⌜ r ≡ (is-start b || is-clean b || is-record b) ⌝ }
+{
+    if b == START {
+        return true;
+    }
+    is_clean(b) || is_record(b)
+}
+
 // Two bytes that could be taken for a head's magic, or for a record's.
 fn is_mark(b: u8, c: u8) -> bool
     ensures { λ r. ⌜ r ≡ is-mark b c ⌝ }
 {
-    if b == START {
-        return c == HIGH;
-    }
-    if is_clean(b) {
-        return c == HIGH;
-    }
-    if is_record(b) {
-        return c == HIGH;
-    }
-    false
+    is_low(b) && c == HIGH
 }
 
 // The pair at this address, if it is such a one, gets 00 as its second byte.

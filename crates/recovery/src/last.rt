@@ -112,9 +112,8 @@ fn finish_wrap(image: &mut [u8], ending: Ending, m: Meter) -> Meter
     ensures { λ r. ⌜ r .asked ≤ m .asked + 3 ⌝ }
 {
     match ending {
-        Ending::Tail => m,
         Ending::TornWrap(at) => write_marker(image, at, m),
-        Ending::Broken => m,
+        _ => m,
     }
 }
 

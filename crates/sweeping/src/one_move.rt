@@ -55,8 +55,7 @@ pub fn no_room(image: &[u8], place: Place) -> bool
     let p = plan(image, place);
     match p {
         Plan::Stop(full) => full,
-        Plan::Leave => false,
-        Plan::Copy(_, _) => false,
+        _ => false,
     }
 }
 
@@ -70,9 +69,8 @@ fn copy(image: &mut [u8], place: Place, plan: Plan, m: Meter) -> Meter
     ensures { λ r. ⌜ getD (now (image .exit)) (place .head) 0 ≡ getD (now (image .entry)) (place .head) 0 ⌝ }
 {
     match plan {
-        Plan::Stop(_) => m,
-        Plan::Leave => m,
         Plan::Copy(n, d) => copy_head(image, place, n, d, m),
+        _ => m,
     }
 }
 

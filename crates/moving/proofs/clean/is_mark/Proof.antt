@@ -1,44 +1,23 @@
--- The first byte by its three tests, then the second.
-use borrow.Author.Tests.{eq-eqb, ne-eqb}
-use Rattle.record.specs.Suffix.{flag}
-use Rattle.spec.specs.Bytes.{is-start, is-high}
+-- The first byte, then the second.
+use mathlib.Core.Path.{sym, ap, _∙_}
+use mathlib.Core.Bool.{_&&_}
+use Rattle.spec.specs.Bytes.{is-high}
 use borrow.Author.Needs.{needs}
 use Rattle.moving.proofs.clean.is_mark.Statement.{statement}
 use Rattle.moving.proofs.clean.is_mark.Tie as tie
 
-returns : tie.Need-returns
-unfolding is-start is-high
-returns c = search (eq-eqb, ne-eqb)
+is-low-requires : tie.Need-is-low-requires
+is-low-requires c κs = search needs
 
-is-clean-requires : tie.Need-is-clean-requires
-is-clean-requires c κs = search needs
+returns : tie.Need-returns
+unfolding is-high
+returns c =
+    ap (λ t. t && is-high (c .before .before .args .c)) (sym (c .if1 .taken) ∙ c .before .is-low .ensures)
 
 returns-2 : tie.Need-returns-2
-unfolding is-start is-high
-returns-2 c = search (eq-eqb, ne-eqb, flag (c .before .is-clean .ensures) (c .if2 .taken))
-
-is-record-requires : tie.Need-is-record-requires
-is-record-requires c κs = search needs
-
-returns-3 : tie.Need-returns-3
-unfolding is-start is-high
-returns-3 c =
-    search (
-      eq-eqb,
-      ne-eqb,
-      flag (c .before .before .before .is-clean .ensures) (c .before .before .if2 .left),
-      flag (c .before .is-record .ensures) (c .if3 .taken),
-    )
-
-returns-4 : tie.Need-returns-4
-unfolding is-start is-high
-returns-4 c =
-    search (
-      eq-eqb,
-      ne-eqb,
-      flag (c .before .before .before .is-clean .ensures) (c .before .before .if2 .left),
-      flag (c .before .is-record .ensures) (c .if3 .left),
-    )
+unfolding is-high
+returns-2 c =
+    c .if1 .left ∙ ap (λ t. t && is-high (c .before .before .args .c)) (sym (c .if1 .left) ∙ c .before .is-low .ensures)
 
 pub is-mark-spec : {M : Type 1} → statement M
-is-mark-spec = tie.close (tie.spec returns is-clean-requires returns-2 is-record-requires returns-3 returns-4)
+is-mark-spec = tie.close (tie.spec is-low-requires returns returns-2)
