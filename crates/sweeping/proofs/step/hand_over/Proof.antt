@@ -30,7 +30,7 @@ advance-requires-2 : tie.Need-advance-requires-2
 advance-requires-2 c κs =
     let c4 = c .before .before .before .before in let c5 = c4 .before in
     let t = taken (c5 .first-cursor .ensures) (c4 .advance .ensures .0) (c4 .advance .ensures .1) (c .before .before .x .given .1) in
-    t .turned .onward .sound
+    t .passes .onward .sound
 
 enum-known-y : tie.Need-enum-known-y
 enum-known-y c = search needs
@@ -49,7 +49,7 @@ program-requires : tie.Need-program-requires
 program-requires c κs =
     let c4 = c .before .before .before .before in let c13 = c4 .before .before .before .before .before .before .before .before .before in
     let u = taken refl (c4 .advance2 .ensures .0) (c4 .advance2 .ensures .1) (c .before .before .y .given .1) in
-    (omega (arith, u .turned .whole .fits), omega (arith, c13 .pre .1))
+    (omega (arith, u .passes .whole .fits), omega (arith, c13 .pre .1))
 
 close-requires : tie.Need-close-requires
 close-requires c κs =
@@ -57,8 +57,8 @@ close-requires c κs =
     let c13 = c11 .before .before in let c14 = c13 .before in let c17 = c14 .before .before .before in
     let t = taken (c14 .first-cursor .ensures) (c13 .advance .ensures .0) (c13 .advance .ensures .1) (c11 .x .given .1) in
     let u = taken refl (c8 .advance2 .ensures .0) (c8 .advance2 .ensures .1) (c6 .y .given .1) in (
-      record { fits = omega (arith, t .turned .whole .fits) },
-      record { fits = omega (arith, u .turned .whole .fits) },
+      record { fits = omega (arith, t .passes .whole .fits) },
+      record { fits = omega (arith, u .passes .whole .fits) },
       omega
           (arith, c17 .pre .0 .small),
       omega (arith, c17 .pre .1, c .before .before .before .program .ensures .count),

@@ -27,13 +27,13 @@ is-live-requires : tie.Need-is-live-requires
 is-live-requires c κs =
     let c3 = c .before .before .before in let c4 = c3 .before in let c6 = c4 .before .before in
     let t = taken (c4 .first-cursor .ensures) (c3 .advance .ensures .0) (c3 .advance .ensures .1) (c .before .x .given .1) in
-    (start-sound (c6 .pre .led) (c4 .first-cursor .ensures), t .turned .whole)
+    (start-sound (c6 .pre .led) (c4 .first-cursor .ensures), t .passes .whole)
 
 size-requires : tie.Need-size-requires
 size-requires c κs =
     let c5 = c .before .before .before .before .before in let c6 = c5 .before in
     let t = taken (c6 .first-cursor .ensures) (c5 .advance .ensures .0) (c5 .advance .ensures .1) (c .before .before .before .x .given .1) in
-    (omega (arith, t .turned .onward .name), t .turned .onward .data-len)
+    (omega (arith, t .passes .onward .name), t .passes .onward .data-len)
 
 after-requires : tie.Need-after-requires
 after-requires c κs = search needs
@@ -49,7 +49,7 @@ returns-2 c =
     let c4 = c .before .before .before .before in let c5 = c4 .before in let c7 = c5 .before .before in let c9 = c7 .before .before in
     let c10 = c9 .before in let c12 = c10 .before .before in
     let t = taken (c10 .first-cursor .ensures) (c9 .advance .ensures .0) (c9 .advance .ensures .1) (c7 .x .given .1) in
-    plan-full (c12 .pre) t (c10 .first-cursor .ensures) (c5 .is-live .ensures) (c4 .if1 .found) (c .before .before .before .size .ensures)
+    plan-full (c12 .pre) t (c10 .first-cursor .ensures) (c5 .is-live .ensures) (c4 .if1 .taken) (c .before .before .before .size .ensures)
     (c .before .before .after .ensures) (c .enum-told2 .given .1)
 
 returns-3 : tie.Need-returns-3
@@ -57,14 +57,14 @@ returns-3 c =
     let c4 = c .before .before .before .before in let c5 = c4 .before in let c7 = c5 .before .before in let c9 = c7 .before .before in
     let c10 = c9 .before in let c12 = c10 .before .before in
     let t = taken (c10 .first-cursor .ensures) (c9 .advance .ensures .0) (c9 .advance .ensures .1) (c7 .x .given .1) in
-    plan-copy (c12 .pre) t (c10 .first-cursor .ensures) (c5 .is-live .ensures) (c4 .if1 .found) (c .before .before .before .size .ensures)
+    plan-copy (c12 .pre) t (c10 .first-cursor .ensures) (c5 .is-live .ensures) (c4 .if1 .taken) (c .before .before .before .size .ensures)
     (c .before .before .after .ensures) (c .enum-told .given .1)
 
 advance-requires-2 : tie.Need-advance-requires-2
 advance-requires-2 c κs =
     let c5 = c .before .before .before .before .before in let c6 = c5 .before in
     let t = taken (c6 .first-cursor .ensures) (c5 .advance .ensures .0) (c5 .advance .ensures .1) (c .before .before .before .x .given .1) in
-    t .turned .onward .sound
+    t .passes .onward .sound
 
 enum-told-3 : tie.Need-enum-told-3
 enum-told-3 c = search needs
