@@ -1,7 +1,7 @@
 -- Step (c) of a move, word by word: where a mark stands, where none does, and where no data is left.
 use Prim.Native.Nat.{ℕ, zero, suc, _+_}
 use mathlib.Core.Path.{_≡_, refl, ap}
-use mathlib.Core.Bool.{Bool, true, false}
+use mathlib.Core.Bool.{true, false}
 use mathlib.Core.List.{List, [], _∷_, _++_}
 use lib.ListN.{drop}
 use Rattle.spec.specs.Step.{Step, program}

@@ -35,6 +35,7 @@ same-is [] (y ∷ t) h = cc
 same-is (x ∷ s) [] h = cc
 same-is (x ∷ s) (y ∷ t) h = go (eqb x y) refl (same-is s t) h
   where
-    go : (b : Bool) → eqb x y ≡ b → (same s t ≡ true → s ≡ t) → elim b as (λ b. Bool) [ true ↦ same s t | false ↦ false ] ≡ true → x ∷ s ≡ y ∷ t
+    go : (b : Bool) → eqb x y ≡ b → (same s t ≡ true → s ≡ t)
+        → elim b as (λ b. Bool) [ true ↦ same s t | false ↦ false ] ≡ true → x ∷ s ≡ y ∷ t
     go true e ih h = ap₂ _∷_ (eqb-true x y e) (ih h)
     go false e ih h = cc

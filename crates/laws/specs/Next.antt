@@ -44,8 +44,8 @@ module _ (s : List ℕ) (n d : ℕ) where
   sized-none false l e = rw (sized, e)
 
 -- the name's length read in the part from byte 8 on
-pub sized-as : (reserved : Bool) (s p : List ℕ) (n d : ℕ) {x : Next} → n ≡ name-length 64 reserved p → p ≡ take (length s - 8) (drop 8 s) → d ≡ data-len-of s
-    → sized s n d ≡ x → x ≡ record-at reserved s
+pub sized-as : (reserved : Bool) (s p : List ℕ) (n d : ℕ) {x : Next} → n ≡ name-length 64 reserved p → p ≡ take (length s - 8) (drop 8 s)
+    → d ≡ data-len-of s → sized s n d ≡ x → x ≡ record-at reserved s
 sized-as reserved s p n d name part data-len e =
     sym e ∙ ap₂ (sized s) (name ∙ ap (name-length 64 reserved) (part ∙ part-to-end s 8)) data-len
 
@@ -62,6 +62,7 @@ pub next-short : (s : List ℕ) → (length s ≡ 0 → ⊥) → length s < 8 �
 unfolding next
 next-short s h l = rw (next, long-le 1 s (omega arith), long-lt 8 s l)
 
-pub next-arm : (s : List ℕ) (k t : Kind) → 8 ≤ length s → k ≡ kind (low-of s) (high-of s) (status-of s) (spare-of s) → k ≡ t → next-at t s ≡ next s
+pub next-arm : (s : List ℕ) (k t : Kind) → 8 ≤ length s
+    → k ≡ kind (low-of s) (high-of s) (status-of s) (spare-of s) → k ≡ t → next-at t s ≡ next s
 unfolding next
 next-arm s k t l e f = rw (next, long-le 1 s (omega arith), long-le 8 s l, sym e, f)

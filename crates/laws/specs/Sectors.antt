@@ -31,7 +31,8 @@ unfolding sectors-by
 enough zero j a b h g = sectors-by-none zero a b (omega arith) ∙ sym (sectors-by-none j a b (omega arith))
 enough (suc k) zero a b h g = sectors-by-none (suc k) a b (omega arith) ∙ sym (sectors-by-none zero a b (omega arith))
 enough (suc k) (suc j) a b h g = go (leb (a + 4096) b) refl (enough k j (a + 4096) b (omega arith) (omega arith)) where
-  go : (t : Bool) → leb (a + 4096) b ≡ t → sectors-by k (a + 4096) b ≡ sectors-by j (a + 4096) b → sectors-by (suc k) a b ≡ sectors-by (suc j) a b
+  go : (t : Bool) → leb (a + 4096) b ≡ t → sectors-by k (a + 4096) b ≡ sectors-by j (a + 4096) b
+      → sectors-by (suc k) a b ≡ sectors-by (suc j) a b
   go true e ih = rw (e, sectors-by) (ap (λ (l : List ℕ). a ∷ l) ih)
   go false e ih = rw (e, sectors-by)
 

@@ -4,7 +4,7 @@ use Prim.Native.Nat.{ℕ, _+_}
 use native.Mathlib.Omega.{arith}
 use mathlib.Core.Path.{_≡_, refl, sym, ap, _∙_}
 use mathlib.Core.Bool.{Bool, true, false, _&&_, not, false≢true}
-use mathlib.Core.List.{List, [], _∷_, _++_, map, append-nil}
+use mathlib.Core.List.{List, [], _∷_, _++_, map}
 use lib.Dec.{eqb}
 use lib.ListN.{length}
 use Rattle.spec.specs.declared.Ending.{Ending}
@@ -17,9 +17,14 @@ use Rattle.spec.specs.Files.{superseded}
 use Rattle.spec.specs.Reading.{head-clean, marked}
 use Rattle.spec.specs.Write.{status-step}
 use Rattle.spec.specs.Move.{Work, begin, after, clean-steps, start-steps, forget-steps, vacated, vacate-steps, close-steps}
-use Rattle.spec.specs.Mount.{erase-steps, head-low, repair-1, repair-2, repair-2-on, missing-steps, void-steps, last-steps, torn-wrap-steps, repair-3, delete-step, drop-steps, repair-4, mended, settled}
+use Rattle.spec.specs.Mount.{erase-steps, head-low, repair-1, repair-2, repair-2-on, missing-steps, void-steps, last-steps, torn-wrap-steps}
+use Rattle.spec.specs.Mount.{repair-3, delete-step, drop-steps, repair-4, mended, settled}
 
 -- ---- lists of steps
+
+left-filled : {A : Type 0} (a b : List A) → empty a ≡ false → empty (a ++ b) ≡ false
+left-filled [] b e = absurd (false≢true (sym e))
+left-filled (x ∷ a) b e = refl
 
 pub right-filled : {A : Type 0} (a b : List A) → empty b ≡ false → empty (a ++ b) ≡ false
 right-filled [] b e = e
@@ -38,9 +43,9 @@ empty-both [] b = refl
 empty-both (x ∷ a) b = refl
 
 -- a CLEAN's way to START is one step or two
-pub start-filled : (a low : ℕ) (ts : List Step) → empty (start-steps a low ++ ts) ≡ false
-start-filled a low ts = go (eqb low 0xA0) refl where
-  go : (b : Bool) → eqb low 0xA0 ≡ b → empty (start-steps a low ++ ts) ≡ false
+pub start-filled : (a low : ℕ) → empty (start-steps a low) ≡ false
+start-filled a low = go (eqb low 0xA0) refl where
+  go : (b : Bool) → eqb low 0xA0 ≡ b → empty (start-steps a low) ≡ false
   go true e = rw (e, start-steps)
   go false e = rw (e, start-steps)
 
@@ -71,7 +76,7 @@ module _ (w : Work) where
       rw (e, repair-1)
       (after-busy w h (erase-steps (w .image) (w .reading .place) ++ start-steps h (head-low (w .reading .entries)))
       (right-filled (erase-steps (w .image) (w .reading .place)) (start-steps h (head-low (w .reading .entries)))
-      (sym (ap empty (append-nil (start-steps h (head-low (w .reading .entries))))) ∙ start-filled h (head-low (w .reading .entries)) [])))
+      (start-filled h (head-low (w .reading .entries)))))
 
   -- the head is not CLEAN
   pub repair-1-idle : head-clean (w .reading .entries) ≡ false → repair-1 w ≡ w
@@ -92,7 +97,7 @@ unfolding close-steps
 close-filled N x y low =
     right-filled (clean-steps (length (content-of x)) (data-at x) (content-of x)) (vacate-steps x y low (vacated N x y))
     (right-filled (map erase (vacated N x y)) (start-steps (y .at) low ++ forget-steps x (vacated N x y))
-    (start-filled (y .at) low (forget-steps x (vacated N x y))))
+    (left-filled (start-steps (y .at) low) (forget-steps x (vacated N x y)) (start-filled (y .at) low)))
 
 module _ (w : Work) where
   module _ (x y : Entry) (es : List Entry) where
@@ -100,7 +105,8 @@ module _ (w : Work) where
         → empty (repair-2 w (x ∷ (y ∷ es)) .steps) ≡ false
     unfolding repair-2
     two-busy true b p q m =
-        rw (p, repair-2) (after-busy w (y .at) (close-steps (w .reading .place .length) x y (y .it .low)) (close-filled (w .reading .place .length) x y (y .it .low)))
+        rw (p, repair-2) (after-busy w (y .at) (close-steps (w .reading .place .length) x y (y .it .low))
+        (close-filled (w .reading .place .length) x y (y .it .low)))
     two-busy false true p q m = rw (p, q, repair-2) (after-busy w (y .at) (program (x .at + 1) 0x00 ∷ []) refl)
     two-busy false false p q m = let e : false ≡ true = rw (p, q) at m in absurd (let z : _≡_ {A = ℕ} 0 1 = cc in omega arith)
 
@@ -157,7 +163,8 @@ void-idle : (image : Image) (e : Entry) (a b : Bool) → is-erased (e .it .statu
 unfolding void-steps is-unfinished
 void-idle image e true b p q = rw (void-steps, p)
 void-idle image e false true p q =
-    rw (void-steps, p, q) (right-filled (missing-steps image (e .at + (8 + length (name-of e)))) (status-step e 0x7E ∷ status-step e 0x00 ∷ []) refl)
+    rw (void-steps, p, q)
+    (right-filled (missing-steps image (e .at + (8 + length (name-of e)))) (status-step e 0x7E ∷ status-step e 0x00 ∷ []) refl)
 void-idle image e false false p q = rw (void-steps, p, q)
 
 last-idle : (image : Image) (e : Entry) (es : List Entry) → empty (last-steps image (e ∷ es)) ≡ not (last-pending e es)
@@ -215,7 +222,8 @@ module _ (w : Work) where
       after-idle w (w .reading .place .head) (drop-steps (w .reading .entries))
       (none-kept delete-step (superseded (w .reading .entries)) (w .reading .entries) ∙ ap not e)
 
-  ends-4 : (t : Bool) → any (superseded (w .reading .entries)) (w .reading .entries) ≡ t → empty (w .steps) ≡ true → empty (repair-4 w .steps) ≡ not t
+  ends-4 : (t : Bool) → any (superseded (w .reading .entries)) (w .reading .entries) ≡ t → empty (w .steps) ≡ true
+      → empty (repair-4 w .steps) ≡ not t
   unfolding repair-4 drop-steps
   ends-4 true e s =
       after-busy w (w .reading .place .head) (drop-steps (w .reading .entries))

@@ -2,7 +2,7 @@
 use Prim.Native.Nat.{ℕ, zero, suc, _+_, _-_, _≤_, _<_}
 use native.Mathlib.Omega.{arith}
 use native.Mathlib.Nat.{zero-add, suc-add, add-zero, sub-zero, zero-sub}
-use mathlib.Core.Path.{_≡_, refl, sym, ap, ap₂, _∙_}
+use mathlib.Core.Path.{_≡_, refl, sym, ap, _∙_}
 use mathlib.Core.List.{List, [], _∷_, _++_, append-assoc}
 use lib.ListN.{length, take, drop, set, getD, length-append, length-set, take-append-drop}
 use lib.Seq.{set-at, append-snoc, length-take-le, take-nil, take-append-add, drop-append-add}
@@ -56,8 +56,10 @@ erase-past p q i = rw (take-append-add, drop-append-add) (append-assoc p (take i
 -- steps behind p
 pub run-past : (p q : List ℕ) (ss : List Step) (a : ℕ) → length p ≡ a → run (p ++ q) (shifted a ss) ≡ p ++ run q ss
 run-past p q [] a e = refl
-run-past p q (program i b ∷ ss) a e = ap (λ (l : List ℕ). run l (shifted a ss)) (rw (← e) (set-past p q i b)) ∙ run-past p (set q i b) ss a e
-run-past p q (erase i ∷ ss) a e = ap (λ (l : List ℕ). run l (shifted a ss)) (rw (← e) (erase-past p q i)) ∙ run-past p (apply q (erase i)) ss a e
+run-past p q (program i b ∷ ss) a e =
+    ap (λ (l : List ℕ). run l (shifted a ss)) (rw (← e) (set-past p q i b)) ∙ run-past p (set q i b) ss a e
+run-past p q (erase i ∷ ss) a e =
+    ap (λ (l : List ℕ). run l (shifted a ss)) (rw (← e) (erase-past p q i)) ∙ run-past p (apply q (erase i)) ss a e
 
 -- steps on the part from a on
 pub run-part : (s : Image) (a : ℕ) (ss : List Step) → a ≤ length s → run s (shifted a ss) ≡ take a s ++ run (drop a s) ss

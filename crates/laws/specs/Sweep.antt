@@ -1,7 +1,8 @@
--- A sweep, by the first record and whether a second one stands behind it: what stops it, and what its next move copies. Its moves, one by one.
+-- A sweep, by the first record and whether a second one stands behind it: what stops it, and what its next move copies. Then its moves,
+-- one by one.
 use Prim.Native.Nat.{ℕ, zero, suc}
-use mathlib.Core.Path.{_≡_, refl}
-use mathlib.Core.Bool.{true, false, not}
+use mathlib.Core.Path.{_≡_, refl, sym, _∙_}
+use mathlib.Core.Bool.{Bool, true, false, not}
 use mathlib.Core.Option.{some}
 use mathlib.Core.List.{List, [], _∷_}
 use Rattle.spec.specs.Step.{Image}
@@ -12,6 +13,7 @@ use Rattle.spec.specs.Place.{fits}
 use Rattle.spec.specs.Write.{put-steps}
 use Rattle.spec.specs.Move.{begin, copy-steps, move}
 use Rattle.spec.specs.Sweep.{no-room, at-end, stuck, moves}
+use Rattle.laws.specs.Tests.{not-both}
 
 -- ---- what stops it
 
@@ -41,11 +43,23 @@ module _ (r : Reading) where
   unfolding stuck
   stuck-room e = rw (stuck, e)
 
+  -- where there is a move, the head is not the end
+  pub not-end : stuck r ≡ false → at-end (r .entries) ≡ false
+  not-end s = go (at-end (r .entries)) refl
+    where
+      go : (b : Bool) → at-end (r .entries) ≡ b → at-end (r .entries) ≡ false
+      go true e = absurd (not-both (stuck r) s (stuck-end e))
+      go false e = e
+
+  -- and there is room
+  pub room-on : stuck r ≡ false → no-room r (r .entries) ≡ false
+  room-on s = sym (stuck-room (not-end s)) ∙ s
+
   module _ (x : Entry) (es : List Entry) where
     -- a live head needs room
-    pub room-live : live (x ∷ es) x ≡ true → no-room r (x ∷ es) ≡ not (fits (r .place) (size x))
+    pub room-live : (t : Bool) → live (x ∷ es) x ≡ true → fits (r .place) (size x) ≡ t → no-room r (x ∷ es) ≡ not t
     unfolding no-room
-    room-live l = rw (no-room, l)
+    room-live t l f = rw (no-room, l, f)
 
     -- a dead one needs none
     pub room-dead : live (x ∷ es) x ≡ false → no-room r (x ∷ es) ≡ false
@@ -55,14 +69,15 @@ module _ (r : Reading) where
     -- ---- what a move begins with
 
     -- a live head is copied
-    pub copy-live : live (x ∷ es) x ≡ true → copy-steps r (x ∷ es) ≡ put-steps (r .place) (some x) (name-of x) (content-of x)
+    pub copy-live : {fs : List Entry} → fs ≡ x ∷ es → live (x ∷ es) x ≡ true
+        → copy-steps r fs ≡ put-steps (r .place) (some x) (name-of x) (content-of x)
     unfolding copy-steps
-    copy-live l = rw (copy-steps, l)
+    copy-live e l = rw (e, copy-steps, l)
 
     -- a dead one is not
-    pub copy-dead : live (x ∷ es) x ≡ false → copy-steps r (x ∷ es) ≡ []
+    pub copy-dead : {fs : List Entry} → fs ≡ x ∷ es → live (x ∷ es) x ≡ false → copy-steps r fs ≡ []
     unfolding copy-steps
-    copy-dead l = rw (copy-steps, l)
+    copy-dead e l = rw (e, copy-steps, l)
 
 -- ---- moves, one after another
 

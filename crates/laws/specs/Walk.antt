@@ -1,7 +1,7 @@
 -- The walk and the search for the head, one step at a time.
 use Prim.Native.Nat.{ℕ, zero, suc, _+_, _≤_, _<_}
 use mathlib.Core.Path.{_≡_, refl}
-use mathlib.Core.Bool.{Bool, true, false, _||_}
+use mathlib.Core.Bool.{true, false, _||_}
 use mathlib.Core.List.{List}
 use lib.ListN.{length, drop}
 use Rattle.spec.specs.declared.Next.{Next}

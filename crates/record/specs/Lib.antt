@@ -1,4 +1,2 @@
 pub mod Within
-pub mod Suffix
 pub mod NameLaws
-pub mod NextLaws

@@ -15,13 +15,9 @@ use Rattle.flash.specs.Did.{Did, did-one}
 use Rattle.flash.specs.Toward.{Toward, toward-same, toward-more, toward-end}
 use Rattle.recovery.specs.Sectors.{later-on}
 use Rattle.spec.specs.Move.{mark-here, mark-steps, clean-steps}
+use Rattle.laws.specs.Clean.{clean-nil}
 
 -- ---- how many pairs may be looked at doesn't matter, if they are enough
-
-clean-nil : (k a : ℕ) → clean-steps k a [] ≡ []
-unfolding clean-steps is-record is-start is-clean is-high
-clean-nil zero a = refl
-clean-nil (suc k) a = clean-nil k (a + 8)
 
 clean-empty : (k a : ℕ) (s : List ℕ) → length s ≤ 0 → clean-steps k a s ≡ []
 clean-empty k a [] h = clean-nil k a

@@ -17,7 +17,7 @@ use Rattle.flash.specs.Did.{Did, did-both}
 use Rattle.reading.specs.declared.Spot.{Spot}
 use Rattle.reading.specs.Rest.{entry-of}
 use Rattle.reading.specs.Fold.{Whole, name-length-is, content-length-is}
-use Rattle.flash.specs.Sectors.{sectors-none, sectors-more}
+use Rattle.laws.specs.Sectors.{sectors-none, sectors-more}
 
 -- ---- Y's and X's address
 

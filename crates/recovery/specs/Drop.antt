@@ -29,6 +29,7 @@ use Rattle.reading.specs.Read.{first-cursor}
 use Rattle.flash.specs.Toward.{Toward, toward-more, toward-end}
 use Rattle.recovery.specs.Trail.{way, stood-fits, Tidy, Ahead, tidy-next, window-kept, look-dropped, here-again, there-again}
 use Rattle.recovery.specs.Path.{Path, here, path-snoc, rest-path, path-tidy, path-kept, Passed, rest-kept}
+use Rattle.laws.specs.Tests.{and-left}
 
 -- ---- the steps of one record, and of the others
 
@@ -44,10 +45,6 @@ any-replace : (p : Entry → Bool) (before : List Entry) (e f : Entry) (es : Lis
 any-replace p [] e f es h = ap (λ (t : Bool). elim t [ true ↦ true | false ↦ any p es ]) h
 any-replace p (x ∷ before) e f es h = ap (λ (b : Bool). elim (p x) [ true ↦ true | false ↦ b ]) (any-replace p before e f es h)
 
-and-first : (a b : Bool) → (a && b) ≡ true → a ≡ true
-and-first true b h = refl
-and-first false b h = h
-
 unnamed : (st : ℕ) (e : Entry) → (e .it .status ≡ st → ⊥) → named st e ≡ false
 unfolding named
 unnamed st e h = ap (λ (t : Bool). t && not (empty (name-of e))) (ne-eqb (e .it .status) st h)
@@ -56,9 +53,9 @@ unnamed st e h = ap (λ (t : Bool). t && not (empty (name-of e))) (ne-eqb (e .it
 old-status : (t : Image) (es : List Entry) (e : Spot) → superseded es (entry-of t e) ≡ true → getD t (e .at + 2) 0 ≡ 0xF8
 unfolding superseded named
 old-status t es e h =
-    let f : named 0xF8 (entry-of t e) ≡ true = and-first (named 0xF8 (entry-of t e)) (has-named 0xFC es (entry-of t e)) h in
+    let f : named 0xF8 (entry-of t e) ≡ true = and-left (named 0xF8 (entry-of t e)) (has-named 0xFC es (entry-of t e)) h in
     sym (getD-drop (e .at) t 2 0)
-    ∙ eqb-true (entry-of t e .it .status) 0xF8 (and-first (eqb (entry-of t e .it .status) 0xF8) (not (empty (name-of (entry-of t e)))) f)
+    ∙ eqb-true (entry-of t e .it .status) 0xF8 (and-left (eqb (entry-of t e .it .status) 0xF8) (not (empty (name-of (entry-of t e)))) f)
 
 -- ---- what a step of the loop needs of the image u that it leaves
 

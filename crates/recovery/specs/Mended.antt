@@ -17,7 +17,7 @@ use Rattle.flash.specs.Did.{Did}
 use Rattle.reading.specs.declared.Item.{Item}
 use Rattle.reading.specs.Rest.{rest}
 use Rattle.reading.specs.Bridge.{shown, reading-is}
-use Rattle.reading.specs.SettledLaws.{close-filled}
+use Rattle.laws.specs.Settled.{close-filled}
 use Rattle.reading.specs.Read.{first-cursor}
 use Rattle.recovery.specs.Repairs.{steps-1, pair-steps, pair-head, steps-2, head-2, steps-3, repair-1-is, repair-2-is, repair-3-is, repair-4-is}
 use Rattle.recovery.specs.Pair.{Handed}

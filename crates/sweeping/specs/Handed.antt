@@ -30,6 +30,7 @@ use Rattle.reading.specs.Way.{reached}
 use Rattle.reading.specs.FirstRecord.{apart, second-even}
 use Rattle.sweeping.specs.Steps.{hand-steps, hand-head, handing, heading}
 use Rattle.reading.specs.Standing.{Led, Taken, entries-are, stands}
+use Rattle.laws.specs.Steps.{run-append}
 
 pub record Handed (s : Image) (h : ℕ) (m : Meter) (t : Image) (r : Moved) : Type 0 where
   pub did : Did s m (handing s h) t (r .meter)
@@ -38,11 +39,6 @@ pub record Handed (s : Image) (h : ℕ) (m : Meter) (t : Image) (r : Moved) : Ty
   pub few : r .meter .asked ≤ m .asked + 2 * length s + 4
 
 -- ---- the head's first byte is START then
-
-run-append : (s : Image) (a b : List Step) → run s (a ++ b) ≡ run (run s a) b
-run-append s [] b = refl
-run-append s (program i x ∷ a) b = run-append (run s (program i x ∷ [])) a b
-run-append s (erase i ∷ a) b = run-append (run s (erase i ∷ [])) a b
 
 zeroed : (s : Image) (y i : ℕ) → y < length s → getD (set (set s y 0) i 0) y 0 ≡ 0
 zeroed s y i h = go (eqb y i) refl where

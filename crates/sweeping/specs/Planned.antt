@@ -8,7 +8,7 @@ use lib.ListN.{length, getD}
 use Rattle.spec.specs.declared.Place.{Place}
 use Rattle.spec.specs.declared.Placed.{Placed}
 use Rattle.spec.specs.declared.Placed.the-variants as placed-as
-use Rattle.spec.specs.Step.{Image, Step}
+use Rattle.spec.specs.Step.{Image}
 use Rattle.spec.specs.Record.{size-of, size, Entry, name-of, content-of}
 use Rattle.spec.specs.Chain.{Reading, reading-from}
 use Rattle.spec.specs.Files.{live}
@@ -29,7 +29,8 @@ use Rattle.writing.specs.Put.{Ready}
 use Rattle.writing.specs.Head.{entry-at, copy-of, HeadEnds}
 use Rattle.sweeping.specs.declared.Plan.{Plan}
 use Rattle.sweeping.specs.Steps.{copying}
-use Rattle.sweeping.specs.Stuck.{stuck-empty, room-empty, room-on, room-live, room-dead, stuck-live, stuck-last, stuck-not, copy-live, copy-dead}
+use Rattle.sweeping.specs.Stuck.{stuck-empty, room-empty, stuck-live, stuck-last, stuck-not}
+use Rattle.laws.specs.Sweep.{room-on, room-live, room-dead, copy-live, copy-dead}
 use Rattle.sweeping.specs.Copy.{copy-few, copy-keeps-low}
 use Rattle.reading.specs.Standing.{Led, Taken, Standing, entries-are, stands, head-at, stands-past}
 

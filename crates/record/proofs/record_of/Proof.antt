@@ -1,6 +1,6 @@
 -- record_of: the name's end and the length bytes give the size, which fits in the part or doesn't.
 use mathlib.Core.Path.{refl}
-use Rattle.record.specs.NextLaws.{record-at-none, sized-as, sized-is, sized-short, sized-open}
+use Rattle.laws.specs.Next.{record-at-none, sized-as, sized-is, sized-short, sized-open}
 use native.Mathlib.Omega.{arith}
 use borrow.Author.Needs.{needs}
 use Rattle.record.proofs.record_of.Statement.{statement}

@@ -1,5 +1,5 @@
 -- name_ok: the rules one after the other.
-use Rattle.record.specs.Suffix.{flag}
+use Rattle.laws.specs.Flag.{flag}
 use Rattle.record.specs.NameLaws.{ok-empty, ok-long, ok-byte, ok-slash}
 use native.Mathlib.Omega.{arith}
 use borrow.Author.Needs.{needs}

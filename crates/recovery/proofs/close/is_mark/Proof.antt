@@ -1,6 +1,6 @@
 -- The first byte by its three tests, then the second.
 use borrow.Author.Tests.{eq-eqb, ne-eqb}
-use Rattle.record.specs.Suffix.{flag}
+use Rattle.laws.specs.Flag.{flag}
 use Rattle.spec.specs.Bytes.{is-start, is-high}
 use borrow.Author.Needs.{needs}
 use Rattle.recovery.proofs.close.is_mark.Statement.{statement}
