@@ -16,11 +16,12 @@ use Rattle.spec.specs.Answers.{Plan, doing, carry-out, found, file-of, removing
 use Rattle.spec.specs.Door.{admitted-named}
 use Rattle.spec.specs.History.{steps-of}
 use Rattle.spec.specs.Bounds.{At-most, Remove-exact, Remove-bound, Remove-kinds, format-count, Format-exact, Format-bound, Format-kinds}
-use Rattle.history.specs.Erase.{good-is, erases, sectors-are, length-erases}
+use Rattle.history.specs.Erase.{erases, sectors-are, length-erases}
 use Rattle.history.specs.StepCounts.{most-append, most-more, most-programs, most-erases}
 use Rattle.history.specs.RepairCounts.{sectors-few}
 use Rattle.history.specs.Used.{used-bound, used-kinds}
 use Rattle.laws.specs.Answer.{gave}
+use Rattle.laws.specs.Length.{good}
 
 -- a plan whose own count is the length of its list: n steps, of which at most p program a byte and e erase a sector
 record Counts (n p e : ℕ) (q : Plan) : Type 0 where
@@ -63,7 +64,7 @@ remove-kinds n im m = kinds 1 1 0 (remove-plan n im) (remove-counts n im) m
 format-length : (N : ℕ) → good-length N ≡ true → length (format-steps N) ≡ format-count N
 unfolding format-steps
 format-length N g =
-    let e : map erase (sectors 0 N) ≡ erases 0 (N / 4096) = sectors-are (N / 4096) 0 N (omega (arith, good-is N g .0)) in
+    let e : map erase (sectors 0 N) ≡ erases 0 (N / 4096) = sectors-are (N / 4096) 0 N (omega (arith, good N g .sectors)) in
     omega (arith, length-append (map erase (sectors 0 N)) first-steps, ap length e, length-erases 0 (N / 4096))
 
 format-most : (N : ℕ) → At-most 8 (N / 4096) (format-steps N)

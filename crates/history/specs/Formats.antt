@@ -1,5 +1,5 @@
 -- A finished format leaves a quiet image with no files: the start of every history.
-use Prim.Native.Nat.{ℕ, _+_, _-_, _*_, _/_, _%_, _≤_}
+use Prim.Native.Nat.{ℕ, _+_, _-_, _*_, _/_, _≤_}
 use native.Mathlib.Omega.{arith}
 use mathlib.Core.Path.{_≡_, refl, sym, ap, ap₂, _∙_, subst}
 use mathlib.Core.Bool.{Bool, true, false}
@@ -19,9 +19,10 @@ use Rattle.spec.specs.Numbers.{Outcome}
 use Rattle.history.specs.Blanks.{blanks, blank-split}
 use Rattle.history.specs.Store.{alive}
 use Rattle.history.specs.Lay.{onto, lay, length-lay, low-start, st-00}
-use Rattle.history.specs.Steps.{run-append}
+use Rattle.laws.specs.Steps.{run-append}
+use Rattle.laws.specs.Length.{Good, good}
 use Rattle.history.specs.Markless.{markless-blanks}
-use Rattle.history.specs.Erase.{erase-run, sectors-are, good-is}
+use Rattle.history.specs.Erase.{erase-run, sectors-are}
 use Rattle.history.specs.Seg.{seg-none}
 use Rattle.history.specs.Straight.{Straight}
 use Rattle.history.specs.Laid.{laid-straight, tail-clear}
@@ -100,12 +101,11 @@ fresh-inv f one g =
 
 whole-inv : (raw : Image) → good-length (length raw) ≡ true → Inv [] (run raw (format-steps (length raw)))
 whole-inv raw g =
-    let N : ℕ = length raw in
-    let p : (N % 4096 ≡ 0) × (8192 ≤ N) × (N ≤ 16777216) = good-is (length raw) g in
+    let p : Good (length raw) = good (length raw) g in
     let f : ℕ = (length raw - 16) / 8 in
-    let e : length raw ≡ 4096 * (length raw / 4096) = omega (arith, p .0) in
-    let h : length raw ≡ 16 + 8 * f = omega (arith, p .0, p .1) in
-    subst (Inv []) (sym (format-run raw (length raw / 4096) f e h)) (fresh-inv f (omega (arith, p .1)) (ap good-length (sym h) ∙ g))
+    let e : length raw ≡ 4096 * (length raw / 4096) = omega (arith, p .sectors) in
+    let h : length raw ≡ 16 + 8 * f = omega (arith, p .sectors, p .two) in
+    subst (Inv []) (sym (format-run raw (length raw / 4096) f e h)) (fresh-inv f (omega (arith, p .two)) (ap good-length (sym h) ∙ g))
 
 answer-of : {o u : Outcome} → o ≡ u → o .numbers .answer ≡ 0 → u .numbers .answer ≡ 0
 answer-of e a = sym (ap (λ (x : Outcome). x .numbers .answer) e) ∙ a

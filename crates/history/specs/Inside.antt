@@ -5,88 +5,25 @@ use mathlib.Core.Path.{_≡_, refl, _∙_, subst}
 use mathlib.Core.Bool.{Bool, true, false}
 use mathlib.Core.List.{List, [], _∷_, _++_}
 use lib.ListN.{length, take, drop, set, length-drop, length-take, length-set}
-use lib.Dec.{eqb, ltb}
-use Rattle.spec.specs.declared.Kind.{Kind}
+use lib.Dec.{eqb}
 use Rattle.spec.specs.declared.Next.{Next}
 use Rattle.spec.specs.Step.{Image, Step, program, erase, apply, run}
-use Rattle.spec.specs.Basics.{refuse, give, checked, Each, long, blank, numbered}
+use Rattle.spec.specs.Basics.{refuse, give, Each, numbered}
 use Rattle.spec.specs.Bytes.{is-unfinished}
 use Rattle.spec.specs.Geometry.{floor, up8}
-use Rattle.spec.specs.Record.{size-of, name-length, data-len-of, low-of, high-of, status-of, spare-of, rec-of, Entry, size}
-use Rattle.spec.specs.Next.{next, next-at, kind, sized, torn-at, torn-wrap-at, clear-at}
+use Rattle.spec.specs.Record.{size-of, status-of, rec-of, Entry, size}
+use Rattle.spec.specs.Next.{next}
 use Rattle.spec.specs.Chain.{Chain, add, stop, allowed, chain, from-head, from-zero, Reading, read-straight, read-turned, turn-torn, joined, read-on, reading-from}
 use Rattle.spec.specs.Head.{head}
 use Rattle.spec.specs.Reading.{legal, judged, read-at, reading}
 use Rattle.spec.specs.Mount.{settled}
 use Rattle.spec.specs.Door.{settled-reading}
 use Rattle.history.specs.Lists.{each-append}
-use Rattle.history.specs.Steps.{Programs}
+use Rattle.laws.specs.Steps.{Programs}
 use Rattle.history.specs.Erase.{erases-length}
 use Rattle.laws.specs.Answer.{gave, passed}
 use Rattle.laws.specs.Door.{settled-gives}
-
--- ---- what stands at the front of a list of l bytes
-
-abbrev Fits : Next → ℕ → Type 0
-Fits (Next.Record n d) l = size-of n d ≤ l
-Fits Next.Wrap l = Unit {0}
-Fits Next.TornWrap l = Unit {0}
-Fits Next.Clear l = Unit {0}
-Fits Next.Over l = Unit {0}
-Fits Next.Bad l = Unit {0}
-
-long-is : (k : ℕ) (s : List ℕ) → long k s ≡ true → k ≤ length s
-unfolding long
-long-is zero s h = omega arith
-long-is (suc k) [] h = absurd (let z : _≡_ {A = ℕ} 0 1 = cc in omega arith)
-long-is (suc k) (x ∷ s) h = let q = long-is k s h in omega arith
-
-module _ (s : List ℕ) where
-  sized-fits : (n d : ℕ) (t u : Bool) → ltb n 64 ≡ t → long (size-of n d) s ≡ u → Fits (sized s n d) (length s)
-  unfolding sized
-  sized-fits n d true true e f = rw (sized, e, f) (long-is (size-of n d) s f)
-  sized-fits n d true false e f = rw (sized, e, f) tt
-  sized-fits n d false u e f = rw (sized, e) tt
-
-  torn-fits : (t : Bool) → long 16 s ≡ t → Fits (torn-at s) (length s)
-  unfolding torn-at
-  torn-fits true e = rw (torn-at, e) (long-is 16 s e)
-  torn-fits false e = rw (torn-at, e) tt
-
-  torn-wrap-fits : (t : Bool) → blank (drop 3 s) ≡ t → Fits (torn-wrap-at s) (length s)
-  unfolding torn-wrap-at
-  torn-wrap-fits true e = rw (torn-wrap-at, e) tt
-  torn-wrap-fits false e = rw (torn-wrap-at, e) tt
-
-  clear-fits : (t : Bool) → blank (take 8 s) ≡ t → Fits (clear-at s) (length s)
-  unfolding clear-at
-  clear-fits true e = rw (clear-at, e) tt
-  clear-fits false e = rw (clear-at, e) tt
-
-  next-at-fits : (k : Kind) → Fits (next-at k s) (length s)
-  unfolding next-at
-  next-at-fits Kind.Record = sized-fits (name-length 64 false (drop 8 s)) (data-len-of s) _ _ refl refl
-  next-at-fits Kind.Reserved = sized-fits (name-length 64 true (drop 8 s)) (data-len-of s) _ _ refl refl
-  next-at-fits Kind.Torn = torn-fits _ refl
-  next-at-fits Kind.Marker = tt
-  next-at-fits Kind.TornMarker = torn-wrap-fits _ refl
-  next-at-fits Kind.Clear = clear-fits _ refl
-  next-at-fits Kind.Bad = tt
-
-  next-fits : (t u : Bool) → long 1 s ≡ t → long 8 s ≡ u → Fits (next s) (length s)
-  unfolding next
-  next-fits false u e f = rw (next, e) tt
-  next-fits true false e f = rw (next, e, f) tt
-  next-fits true true e f = rw (next, e, f) (next-at-fits (kind (low-of s) (high-of s) (status-of s) (spare-of s)))
-
-allowed-fits : (pending : Bool) (x : Next) (l : ℕ) → Fits x l → Fits (allowed pending x) l
-allowed-fits false x l f = f
-allowed-fits true (Next.Record n d) l f = tt
-allowed-fits true Next.Wrap l f = tt
-allowed-fits true Next.TornWrap l f = tt
-allowed-fits true Next.Clear l f = tt
-allowed-fits true Next.Over l f = tt
-allowed-fits true Next.Bad l f = tt
+use Rattle.laws.specs.Fits.{Fits, allowed-fits}
 
 -- ---- the chain
 
@@ -102,7 +39,7 @@ chain-within : (k : ℕ) (pending : Bool) (at : ℕ) (s : List ℕ) (N : ℕ) �
 unfolding chain
 chain-within zero pending at s N h = tt
 chain-within (suc k) pending at s N h =
-    go (allowed pending (next s)) (allowed-fits pending (next s) (length s) (next-fits s _ _ refl refl))
+    go (allowed pending (next s)) (allowed-fits pending s)
     (λ n d. chain-within k (is-unfinished (status-of s)) (at + size-of n d) (drop (size-of n d) s) N)
   where
     go : (x : Next) → Fits x (length s)
@@ -182,7 +119,6 @@ module _ (im : Image) (h : ℕ) where
       go true = record { same = refl; length-read = refl; within = high-within }
       go false = joined-seen (from-head im h) (from-zero im h (from-head im h .pending)) high-within (low-within (from-head im h .pending))
 
--- what a check lets pass is what was checked
 -- so of every image that mount does not refuse
 reading-seen : (im : Image) (r : Reading) → reading im ≡ give r → Seen (length im) im r
 unfolding reading judged

@@ -20,7 +20,7 @@ use Rattle.spec.specs.Answers.{Plan, format, carry-out, doing, sweeping, put, s
 use Rattle.spec.specs.Numbers.{Outcome}
 use Rattle.spec.specs.History.{File, Ledger, ledger, replay, steps-of, with-file, one-if-fc, three-if}
 use Rattle.spec.specs.Progress.{to-pass, fifths, Uncut, Answers-0, moves-made, Passes, Progress}
-use Rattle.history.specs.Lists.{not-both}
+use Rattle.laws.specs.Tests.{not-both}
 use Rattle.history.specs.Store.{alive, fc-alive, Unique}
 use Rattle.history.specs.Kinds.{Bytes, Inv, Rested}
 use Rattle.history.specs.OkLaws.{Old, old-none, old-some, old-file}

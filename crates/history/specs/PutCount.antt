@@ -19,7 +19,7 @@ use Rattle.spec.specs.Answers.{Plan, doing, put-into, put-plan}
 use Rattle.spec.specs.Door.{settled-reading, admitted-named}
 use Rattle.spec.specs.History.{three-if}
 use Rattle.spec.specs.Bounds.{At-most, old-count, put-count, Put-exact, Put-bound, Put-kinds}
-use Rattle.history.specs.Steps.{length-shifted}
+use Rattle.laws.specs.Steps.{length-shifted}
 use Rattle.history.specs.Put.{length-record}
 use Rattle.history.specs.StepCounts.{most-length, most-programs}
 use Rattle.history.specs.Landing.{put-programs}

@@ -10,8 +10,8 @@ use lib.ListN.{length}
 use lib.Dec.{eqb, leb}
 use borrow.Author.Tests.{leb-true}
 use Rattle.spec.specs.Step.{Image, Step, program, erase, run}
-use Rattle.spec.specs.Basics.{Answer, refuse, give, checked, onward, concat, Each, numbered}
-use Rattle.spec.specs.Geometry.{good-length, floor, sectors-by}
+use Rattle.spec.specs.Basics.{give, checked, concat, Each, numbered}
+use Rattle.spec.specs.Geometry.{floor, sectors-by}
 use Rattle.spec.specs.Record.{Entry, name-of, content-of, data-at}
 use Rattle.spec.specs.Chain.{Reading, reading-from}
 use Rattle.spec.specs.Files.{live}
@@ -22,10 +22,10 @@ use Rattle.spec.specs.Answers.{Plan, sweeping, sweep-of, sweep-plan}
 use Rattle.spec.specs.Door.{settled-reading, admitted}
 use Rattle.spec.specs.Bounds.{At-most, move-most, Sweep-bound, Sweep-kinds}
 use Rattle.history.specs.RepairCounts.{clean-programs, end-few, close-most}
-use Rattle.history.specs.Steps.{Programs}
+use Rattle.laws.specs.Steps.{Programs}
 use Rattle.history.specs.StepCounts.{most-length, most-none, most-append, most-more, most-programs}
 use Rattle.history.specs.Landing.{put-length}
-use Rattle.history.specs.Sweeps.{moves-stop, moves-on}
+use Rattle.laws.specs.Sweep.{moves-stuck, moves-next}
 use Rattle.history.specs.Used.{used-bound, used-kinds}
 use Rattle.history.specs.PutCount.{put-steps-most}
 use Rattle.history.specs.Inside.{Within, Seen, seen-from, settled-seen, Inner, programs-inner, inner-append, inner-length}
@@ -162,12 +162,12 @@ moves-most {N} (suc k) im r s = go (stuck r) refl (λ m. moves-most k (move (beg
         → At-most (k * move-most N) (k * (N / 4096)) (concat (moves k (move (begin im r) .image) (move (begin im r) .reading)))) →
         At-most (suc k * move-most N) (suc k * (N / 4096)) (concat (moves (suc k) im r))
     go true e ih =
-        subst (λ (ms : List (List Step)). At-most (suc k * move-most N) (suc k * (N / 4096)) (concat ms)) (sym (moves-stop k im r e))
+        subst (λ (ms : List (List Step)). At-most (suc k * move-most N) (suc k * (N / 4096)) (concat ms)) (sym (moves-stuck im r (suc k) e))
         (most-more most-none (omega arith) (omega arith))
     go false e ih =
         let w : Work = move (begin im r) in
         let m : Moved N (move-most N) (N / 4096) w = moved-most im r s in
-        subst (λ (ms : List (List Step)). At-most (suc k * move-most N) (suc k * (N / 4096)) (concat ms)) (sym (moves-on k im r e))
+        subst (λ (ms : List (List Step)). At-most (suc k * move-most N) (suc k * (N / 4096)) (concat ms)) (sym (moves-next im r k e))
         (most-more (most-append (w .steps) (concat (moves k (w .image) (w .reading))) (m .most) (ih (m .seen)))
         (omega (arith, suc-mul k (move-most N))) (omega (arith, suc-mul k (N / 4096))))
 

@@ -1,11 +1,11 @@
 -- The door, from both sides: what a call that is let in knows, and what is read where the tests pass or fail.
-use mathlib.Core.Path.{_≡_, refl, sym, ap, _∙_}
-use mathlib.Core.Bool.{Bool, true, false}
+use mathlib.Core.Path.{_≡_, sym, ap, _∙_}
+use mathlib.Core.Bool.{true, false}
 use mathlib.Core.List.{List}
 use Prim.Native.Nat.{ℕ}
 use lib.ListN.{length}
 use Rattle.spec.specs.Step.{Image}
-use Rattle.spec.specs.Basics.{Answer, refuse, give, numbered, checked, onward}
+use Rattle.spec.specs.Basics.{refuse, give, numbered, checked}
 use Rattle.spec.specs.Geometry.{good-length}
 use Rattle.spec.specs.Record.{name-ok}
 use Rattle.spec.specs.Chain.{Reading}

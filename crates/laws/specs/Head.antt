@@ -3,7 +3,7 @@ use Prim.Native.Nat.{ℕ, zero, suc, _+_, _%_, _<_}
 use native.Mathlib.Omega.{arith}
 use native.Mathlib.Nat.{add-zero}
 use mathlib.Core.Path.{_≡_, refl, sym, ap, _∙_}
-use mathlib.Core.Bool.{Bool, true, false, _&&_, _||_, and-eq-true-iff}
+use mathlib.Core.Bool.{Bool, true, false, _||_}
 use mathlib.Core.Logic.{_⊎_, inl, inr}
 use mathlib.Core.List.{List}
 use lib.ListN.{length, drop, getD, List·getD-eq-default}
@@ -16,6 +16,7 @@ use Rattle.spec.specs.Basics.{Answer, refuse, give, long}
 use Rattle.spec.specs.Bytes.{is-start, is-clean, is-high}
 use Rattle.spec.specs.Record.{low-of, high-of, start-here, clean-here, wrap-here, size-of}
 use Rattle.spec.specs.Head.{torn-here, walk-next, walk, search, sought, chosen, head}
+use Rattle.laws.specs.Tests.{and-left, and-right}
 
 -- the first byte of a head: START or CLEAN, with 80 as A0
 abbrev pub Low : ℕ → Type 0
@@ -34,7 +35,8 @@ unfolding walk
 walk-even zero at s e = e
 walk-even (suc k) at s e =
     go (torn-here s) (walk-next at s) refl refl (λ n d. walk-even k (at + size-of n d) (drop (size-of n d) s) (omega arith)) where
-      go : (t : Bool) (x : Next) → torn-here s ≡ t → walk-next at s ≡ x → ((n d : ℕ) → walk k (at + size-of n d) (drop (size-of n d) s) % 8 ≡ 0)
+      go : (t : Bool) (x : Next) → torn-here s ≡ t → walk-next at s ≡ x
+          → ((n d : ℕ) → walk k (at + size-of n d) (drop (size-of n d) s) % 8 ≡ 0)
           → walk (suc k) at s % 8 ≡ 0
       go true x h f ih = rw (h, walk) (omega arith)
       go false (Next.Record n d) h f ih = rw (h, f, walk) (ih n d)
@@ -72,23 +74,27 @@ module _ (image : Image) where
     go true h = ltb-true a (length image) h
     go false h =
         let q : getD (drop a image) 1 0 ≡ 0x5A = eqb-true (getD (drop a image) 1 0) 0x5A e in
-        let d : getD (drop a image) 1 0 ≡ 0 = getD-drop a image 1 0 ∙ List·getD-eq-default image 0 (omega (arith, ltb-false a (length image) h)) in
+        let d : getD (drop a image) 1 0 ≡ 0 = getD-drop a image 1 0 ∙ List·getD-eq-default image 0
+        (omega (arith, ltb-false a (length image) h)) in
         absurd (omega arith)
 
-  magic-inside : (a : ℕ) (low : Bool) → (low && is-high (high-of (drop a image))) ≡ true → a < length image
-  magic-inside a low e = high-inside a (and-eq-true-iff low (is-high (high-of (drop a image))) .0 e .1)
+  pub start-inside : (a : ℕ) → start-here (drop a image) ≡ true → a < length image
+  start-inside a e = high-inside a (and-right (is-start (low-of (drop a image))) (is-high (high-of (drop a image))) e)
+
+  pub clean-inside : (a : ℕ) → clean-here (drop a image) ≡ true → a < length image
+  clean-inside a e = high-inside a (and-right (is-clean (low-of (drop a image))) (is-high (high-of (drop a image))) e)
 
   low-start : (a : ℕ) → start-here (drop a image) ≡ true → Low (getD image a 0)
   unfolding is-start
   low-start a e =
       let q : getD (drop a image) 0 0 ≡ 0x00 = eqb-true (low-of (drop a image)) 0x00
-      (and-eq-true-iff (eqb (low-of (drop a image)) 0x00) (is-high (high-of (drop a image))) .0 e .0) in
+      (and-left (eqb (low-of (drop a image)) 0x00) (is-high (high-of (drop a image))) e) in
       inl (sym (getD-drop a image 0 0 ∙ ap (λ (i : ℕ). getD image i 0) (add-zero a)) ∙ q)
 
   low-clean : (a : ℕ) → clean-here (drop a image) ≡ true → Low (getD image a 0)
   low-clean a e =
       let q : is-clean (getD (drop a image) 0 0) ≡ true =
-      and-eq-true-iff (is-clean (low-of (drop a image))) (is-high (high-of (drop a image))) .0 e .0 in
+      and-left (is-clean (low-of (drop a image))) (is-high (high-of (drop a image))) e in
       inr (clean-two (getD image a 0) (sym (ap is-clean (getD-drop a image 0 0 ∙ ap (λ (i : ℕ). getD image i 0) (add-zero a))) ∙ q))
 
   abbrev Begun : Answer ℕ → Type 0
@@ -96,10 +102,10 @@ module _ (image : Image) where
   Begun (refuse x) = Unit {0}
 
   begin-start : (a : ℕ) → a % 8 ≡ 0 → start-here (drop a image) ≡ true → Begins image a
-  begin-start a e p = record { inside = magic-inside a (is-start (low-of (drop a image))) p; even = e; low = low-start a p }
+  begin-start a e p = record { inside = start-inside a p; even = e; low = low-start a p }
 
   begin-clean : (a : ℕ) → a % 8 ≡ 0 → clean-here (drop a image) ≡ true → Begins image a
-  begin-clean a e p = record { inside = magic-inside a (is-clean (low-of (drop a image))) p; even = e; low = low-clean a p }
+  begin-clean a e p = record { inside = clean-inside a p; even = e; low = low-clean a p }
 
   chosen-begins : (a : ℕ) → a % 8 ≡ 0 → Begun (chosen image a)
   unfolding chosen

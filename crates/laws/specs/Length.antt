@@ -1,11 +1,11 @@
 -- What a good length gives.
 use Prim.Native.Nat.{ℕ, _%_, _≤_, _^_}
-use native.Mathlib.Omega.{arith}
-use mathlib.Core.Path.{_≡_, refl}
-use mathlib.Core.Bool.{Bool, true, false}
+use mathlib.Core.Path.{_≡_}
+use mathlib.Core.Bool.{true, _&&_}
 use lib.Dec.{leb, eqb}
 use borrow.Author.Tests.{eqb-true, leb-true}
 use Rattle.spec.specs.Geometry.{good-length}
+use Rattle.laws.specs.Tests.{and-left, and-right}
 
 pub record Good (n : ℕ) : Type 0 where
   pub sectors : n % 4096 ≡ 0
@@ -14,8 +14,10 @@ pub record Good (n : ℕ) : Type 0 where
 
 pub good : (n : ℕ) → good-length n ≡ true → Good n
 unfolding good-length
-good n h = go (eqb (n % 4096) 0) (leb 8192 n) refl refl h where
-  go : (a b : Bool) → eqb (n % 4096) 0 ≡ a → leb 8192 n ≡ b → good-length n ≡ true → Good n
-  go true true p q h = record { sectors = eqb-true (n % 4096) 0 p; two = leb-true 8192 n q; most = leb-true n 16777216 (rw (good-length, p, q) at h) }
-  go true false p q h = absurd (let e : false ≡ true = rw (good-length, p, q) at h in let z : _≡_ {A = ℕ} 0 1 = cc in omega arith)
-  go false b p q h = absurd (let e : false ≡ true = rw (good-length, p) at h in let z : _≡_ {A = ℕ} 0 1 = cc in omega arith)
+good n h =
+    let a : (eqb (n % 4096) 0 && leb 8192 n) ≡ true = and-left (eqb (n % 4096) 0 && leb 8192 n) (leb n 16777216) h in
+    record {
+      sectors = eqb-true (n % 4096) 0 (and-left (eqb (n % 4096) 0) (leb 8192 n) a);
+      two = leb-true 8192 n (and-right (eqb (n % 4096) 0) (leb 8192 n) a);
+      most = leb-true n 16777216 (and-right (eqb (n % 4096) 0 && leb 8192 n) (leb n 16777216) h);
+    }

@@ -1,17 +1,16 @@
 -- Every refusal has one of document 01's numbers: 2, 5, 6, 16, 22 or 28, never 0 or 4, which say that a call was let in.
 use Prim.Native.Nat.{ℕ, suc}
-use mathlib.Core.Path.{_≡_, refl, sym, subst}
+use mathlib.Core.Path.{_≡_, refl}
 use mathlib.Core.Bool.{Bool, true, false}
-use mathlib.Core.Option.{Option, none, some}
 use mathlib.Core.List.{List}
 use lib.ListN.{length, drop}
 use Rattle.spec.specs.declared.Refusal.{Refusal}
 use Rattle.spec.specs.Step.{Image}
 use Rattle.spec.specs.Basics.{Answer, refuse, give, checked, onward}
 use Rattle.spec.specs.Geometry.{good-length}
-use Rattle.spec.specs.Record.{Entry, name-ok, start-here, clean-here, wrap-here}
+use Rattle.spec.specs.Record.{name-ok, start-here, clean-here, wrap-here}
 use Rattle.spec.specs.Head.{sought, walk, chosen, head}
-use Rattle.spec.specs.Chain.{Reading, reading-from}
+use Rattle.spec.specs.Chain.{reading-from}
 use Rattle.spec.specs.Reading.{legal, judged, read-at, reading}
 use Rattle.spec.specs.Mount.{settled}
 use Rattle.spec.specs.Door.{if-settled, settled-reading, accepted, admitted, admitted-named}
@@ -23,7 +22,8 @@ Refusing (give a) = Unit {0}
 
 -- ---- answers put together
 
-pub checked-refusing : {A : Type 0} (t : Bool) (x : Refusal) (a : Answer A) → is-refusal (x .number) ≡ true → Refusing a → Refusing (checked t x a)
+pub checked-refusing : {A : Type 0} (t : Bool) (x : Refusal) (a : Answer A) → is-refusal (x .number) ≡ true
+    → Refusing a → Refusing (checked t x a)
 checked-refusing true x a e r = r
 checked-refusing false x a e r = e
 

@@ -20,13 +20,9 @@ use Rattle.reading.specs.declared.Spot.{Spot}
 use Rattle.reading.specs.Rest.{entry-of}
 use Rattle.reading.specs.Fold.{Whole, name-length-is, content-length-is}
 use Rattle.moving.specs.Kept.{later-on}
+use Rattle.laws.specs.Clean.{clean-nil}
 
 -- ---- how many pairs may be looked at doesn't matter, if they are enough
-
-clean-nil : (k a : ℕ) → clean-steps k a [] ≡ []
-unfolding clean-steps is-record is-start is-clean is-high
-clean-nil zero a = refl
-clean-nil (suc k) a = clean-nil k (a + 8)
 
 clean-empty : (k a : ℕ) (s : List ℕ) → length s ≤ 0 → clean-steps k a s ≡ []
 clean-empty k a [] h = clean-nil k a

@@ -14,7 +14,7 @@ use Rattle.spec.specs.Record.{Entry}
 use Rattle.spec.specs.Move.{vacated-end, vacated, vacated-steps, start-steps, forget-steps, vacate-steps, close-steps}
 use Rattle.flash.specs.declared.Meter.{Meter}
 use Rattle.flash.specs.Did.{Did, did-both}
-use Rattle.flash.specs.Sectors.{sectors-none, sectors-more}
+use Rattle.laws.specs.Sectors.{sectors-none, sectors-more}
 use Rattle.reading.specs.declared.Spot.{Spot}
 use Rattle.reading.specs.Rest.{entry-of}
 use Rattle.moving.specs.Clean.{cleaned-steps}

@@ -4,18 +4,19 @@ use native.Mathlib.Omega.{arith}
 use mathlib.Core.Path.{_≡_, sym, ap, ap₂, _∙_}
 use mathlib.Core.List.{List, [], _∷_, _++_}
 use lib.ListN.{length, take, drop, getD, length-drop}
-use lib.Seq.{length-take-le, take-take, drop-drop, getD-take, getD-drop}
+use lib.Seq.{length-take-le, drop-drop, getD-take, getD-drop}
 use Rattle.spec.specs.Geometry.{up8}
 use Rattle.spec.specs.Step.{Image, Step, program, bytes-at, shifted}
 use Rattle.spec.specs.Record.{four, size-of, Entry, name-of, content-of}
 use Rattle.spec.specs.Write.{name-end-steps, header-steps, name-steps, data-steps, commit-steps, record-steps}
-use Rattle.flash.specs.Did.{Did, did-both, length-shifted}
+use Rattle.flash.specs.Did.{Did, did-both}
+use Rattle.laws.specs.Steps.{length-shifted, length-bytes, bytes-more, shifted-append, shifted-bytes}
 use Rattle.flash.specs.declared.Meter.{Meter}
-use Rattle.flash.specs.Bytes.{length-bytes, bytes-more}
 use Rattle.reading.specs.Rest.{entry-of}
 use Rattle.reading.specs.Fold.{name-length-is, content-length-is}
-use Rattle.writing.specs.Steps.{length-name, shifted-append, shifted-bytes}
-use Rattle.moving.specs.Kept.{Apart, off-part, take-drop, length-part, Avoids, kept, Inside, inside-bytes, inside-append, inside-shifted, inside-avoids}
+use Rattle.writing.specs.Steps.{length-name}
+use Rattle.moving.specs.Kept.{Apart, off-part, length-part, Avoids, kept, Inside, inside-bytes, inside-append, inside-shifted, inside-avoids}
+use Rattle.laws.specs.Parts.{take-drop, part-first}
 
 -- the record at this address, with n name bytes and d data bytes, as it is read
 abbrev pub entry-at : Image → ℕ → ℕ → ℕ → Entry
@@ -89,20 +90,17 @@ data-count s from to n d h =
 abbrev pub body : ℕ → ℕ → List ℕ → List ℕ
 body n d s = take (up8 (n + 1) + up8 d) (drop 8 s)
 
-part-of : (n j k : ℕ) (l : List ℕ) → j + k ≤ n → take k (drop j l) ≡ take k (drop j (take n l))
-part-of n j k l h = take-drop j k l ∙ sym (take-drop j k (take n l) ∙ ap (drop j) (take-take (j + k) n l h))
-
 pub same-name : (n d : ℕ) (s t : List ℕ) → body n d t ≡ body n d s → take n (drop 8 t) ≡ take n (drop 8 s)
 same-name n d s t e =
     let h : 0 + n ≤ up8 (n + 1) + up8 d = omega arith in
-    part-of (up8 (n + 1) + up8 d) 0 n (drop 8 t) h ∙ ap (take n) e ∙ sym (part-of (up8 (n + 1) + up8 d) 0 n (drop 8 s) h)
+    sym (part-first 0 n (up8 (n + 1) + up8 d) (drop 8 t) h) ∙ ap (take n) e ∙ part-first 0 n (up8 (n + 1) + up8 d) (drop 8 s) h
 
 pub same-content : (n d : ℕ) (s t : List ℕ) → body n d t ≡ body n d s
     → take d (drop (up8 (n + 1)) (drop 8 t)) ≡ take d (drop (up8 (n + 1)) (drop 8 s))
 same-content n d s t e =
     let h : up8 (n + 1) + d ≤ up8 (n + 1) + up8 d = omega arith in
-    part-of (up8 (n + 1) + up8 d) (up8 (n + 1)) d (drop 8 t) h ∙ ap (λ (w : List ℕ). take d (drop (up8 (n + 1)) w)) e
-    ∙ sym (part-of (up8 (n + 1) + up8 d) (up8 (n + 1)) d (drop 8 s) h)
+    sym (part-first (up8 (n + 1)) d (up8 (n + 1) + up8 d) (drop 8 t) h) ∙ ap (λ (w : List ℕ). take d (drop (up8 (n + 1)) w)) e
+    ∙ part-first (up8 (n + 1)) d (up8 (n + 1) + up8 d) (drop 8 s) h
 
 pub same-body : {s t : Image} {m r : Meter} {ss : List Step} (from n d : ℕ) → Did s m ss t r → Avoids (from + 8) (up8 (n + 1) + up8 d) ss
     → body n d (drop from t) ≡ body n d (drop from s)

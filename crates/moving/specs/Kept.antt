@@ -1,15 +1,15 @@
 -- The bytes that a list of steps leaves alone, and two stretches of an image that have no byte in common.
 use Prim.Native.Nat.{ℕ, zero, suc, _+_, _-_, _≤_, _<_}
 use native.Mathlib.Omega.{arith}
-use native.Mathlib.Nat.{zero-add}
-use mathlib.Core.Path.{_≡_, refl, sym, ap, _∙_}
+use mathlib.Core.Path.{_≡_, refl, _∙_, ap, sym}
 use mathlib.Core.Logic.{_⊎_, inl, inr, ⊎-elim}
 use mathlib.Core.List.{List, [], _∷_, _++_}
 use lib.ListN.{length, take, drop, set, length-drop}
-use lib.Seq.{length-take-le, take-set-le, drop-set-lt, drop-drop, take-nil}
+use lib.Seq.{length-take-le, drop-drop}
 use Rattle.spec.specs.Step.{Image, Step, program, erase, run, bytes-at, shifted}
 use Rattle.flash.specs.Did.{Did}
 use Rattle.flash.specs.declared.Meter.{Meter}
+use Rattle.laws.specs.Parts.{part-set}
 
 -- ---- stretches
 
@@ -24,11 +24,6 @@ Apart a b n = Off b (b + n) a n
 -- the same of parts of them
 pub off-part : (a b i n j k c e : ℕ) → Off a b i n → a ≤ c → e ≤ b → j + k ≤ n → Off c e (i + j) k
 off-part a b i n j k c e o h l p = ⊎-elim (λ (q : i + n ≤ a). inl (omega arith)) (λ (q : b ≤ i). inr (omega arith)) o
-
-pub take-drop : (i n : ℕ) (l : List ℕ) → take n (drop i l) ≡ drop i (take (i + n) l)
-take-drop zero n l = rw zero-add
-take-drop (suc i) n [] = take-nil n ∙ sym (ap (drop (suc i)) (take-nil (suc i + n)))
-take-drop (suc i) n (x ∷ l) = let e : suc i + n ≡ suc (i + n) = omega arith in rw e (take-drop i n l)
 
 pub length-part : (i n : ℕ) (l : List ℕ) → i + n ≤ length l → length (take n (drop i l)) ≡ n
 length-part i n l h = length-take-le n (drop i l) (rw length-drop (omega arith))
@@ -58,13 +53,9 @@ avoids-take (suc j) i n [] p = tt
 avoids-take (suc j) i n (program k x ∷ ss) p = (p .0, avoids-take j i n ss (p .1))
 avoids-take (suc j) i n (erase k ∷ ss) p = absurd p
 
-set-kept : (s : Image) (i n k x : ℕ) → (k < i) ⊎ (i + n ≤ k) → take n (drop i (set s k x)) ≡ take n (drop i s)
-set-kept s i n k x (inl h) = ap (take n) (drop-set-lt i s k x h)
-set-kept s i n k x (inr h) = take-drop i n (set s k x) ∙ ap (drop i) (take-set-le (i + n) s k x h) ∙ sym (take-drop i n s)
-
 run-kept : (s : Image) (i n : ℕ) (ss : List Step) → Avoids i n ss → take n (drop i (run s ss)) ≡ take n (drop i s)
 run-kept s i n [] p = refl
-run-kept s i n (program k x ∷ ss) p = run-kept (set s k x) i n ss (p .1) ∙ set-kept s i n k x (p .0)
+run-kept s i n (program k x ∷ ss) p = run-kept (set s k x) i n ss (p .1) ∙ part-set s i n k x (p .0)
 run-kept s i n (erase k ∷ ss) p = absurd p
 
 -- what the steps avoid stays as it was

@@ -4,7 +4,7 @@ use denote.Enum.Declared.{tagOf}
 use mathlib.Core.List.{[], _∷_}
 use Rattle.spec.proofs.Next.{the-type as next-type}
 use Rattle.spec.specs.declared.Next.{Next}
-use Rattle.reading.specs.HeadLaws.{Not-record}
+use Rattle.laws.specs.Next.{Not-record}
 use Rattle.reading.proofs.Item.{the-type as step-type}
 use Rattle.reading.specs.declared.Item.{Item}
 use Rattle.reading.specs.Fold.{Not-record as No-step}

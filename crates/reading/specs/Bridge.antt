@@ -6,7 +6,7 @@ use mathlib.Core.Path.{_≡_, refl, sym, ap, ap₂, _∙_}
 use mathlib.Core.Bool.{Bool, true, false}
 use mathlib.Core.List.{List, _++_}
 use lib.ListN.{length, take, drop}
-use lib.Seq.{drop-drop, getD-take, take-take, take-length}
+use lib.Seq.{drop-drop, getD-take, take-length}
 use lib.Dec.{ltb, eqb}
 use borrow.Author.Tests.{lt-ltb, eqb-true, eqb-false}
 use Rattle.spec.specs.declared.Next.{Next}
@@ -19,45 +19,25 @@ use Rattle.spec.specs.Chain.{Chain, add, stop, allowed, chain, Reading, ended, 
 use Rattle.reading.specs.declared.Cursor.{Cursor}
 use Rattle.reading.specs.declared.Item.{Item}
 use Rattle.reading.specs.Cursor.{start, window, look, goes-on, turn, past, torn-end, stops, unfinished-at, settle, advance}
-use Rattle.reading.specs.CursorLaws.{advance-on, advance-here, part-window}
-use Rattle.reading.specs.HeadLaws.{Not-record}
+use Rattle.reading.specs.CursorLaws.{advance-on, advance-here}
+use Rattle.laws.specs.Parts.{part-window, part-first}
+use Rattle.laws.specs.Next.{Not-record}
+use Rattle.laws.specs.Chain.{chain-record, chain-stop}
 use Rattle.reading.specs.Fits.{look-inside}
 use Rattle.reading.specs.Rest.{Run, entry-of, ahead, done, followed, rest, rest-step}
 
 -- ---- a record reads the same in a part that holds it
-
-cut : (a n m : ℕ) (s : List ℕ) → a + n ≤ m → take n (drop a (take m s)) ≡ take n (drop a s)
-cut a n m s h = rw (sym (part-window a m s (omega arith))) (take-take n (m - a) (drop a s) (omega arith))
 
 pub rec-part : (m n d : ℕ) (s : List ℕ) → size-of n d ≤ m → rec-of (take m s) n d ≡ rec-of s n d
 rec-part m n d s h =
     rw (
       getD-take m s 0 0 (omega arith),
       getD-take m s 2 0 (omega arith),
-      cut 8 n m s (omega arith),
+      part-first 8 n m s (omega arith),
       drop-drop (up8 (n + 1)) 8 (take m s),
-      cut
-          (8 + up8 (n + 1)) d m s (omega arith),
+      part-first (8 + up8 (n + 1)) d m s (omega arith),
       drop-drop (up8 (n + 1)) 8 s,
     )
-
--- ---- the definitions' chain, step by step
-
-module _ (k : ℕ) (pending : Bool) (at : ℕ) (s : List ℕ) where
-  chain-record : (n d : ℕ) → allowed pending (next s) ≡ Next.Record n d
-      → chain (suc k) pending at s ≡ add (record { at = at; it = rec-of s n d })
-      (chain k (is-unfinished (status-of s)) (at + size-of n d) (drop (size-of n d) s))
-  unfolding chain
-  chain-record n d e = rw (e, chain)
-
-  chain-stop : (x : Next) → Not-record x → allowed pending (next s) ≡ x → chain (suc k) pending at s ≡ stop pending at x
-  unfolding chain
-  chain-stop (Next.Record n d) z e = absurd z
-  chain-stop Next.Wrap z e = rw (e, chain)
-  chain-stop Next.TornWrap z e = rw (e, chain)
-  chain-stop Next.Clear z e = rw (e, chain)
-  chain-stop Next.Over z e = rw (e, chain)
-  chain-stop Next.Bad z e = rw (e, chain)
 
 -- ---- one stretch, and what follows where it ends
 

@@ -1,12 +1,10 @@
 -- The code's steps along the chain are the definitions', and stay in the image.
-use Prim.Native.Nat.{ℕ, zero, suc, _-_, _≤_}
+use Prim.Native.Nat.{ℕ, _-_, _≤_}
 use native.Mathlib.Omega.{arith}
-use native.Mathlib.Nat.{not-suc-le-zero, le-of-suc-le-suc, sub-zero}
 use mathlib.Core.Path.{_≡_, refl, sym, ap, subst, _∙_}
 use mathlib.Core.Bool.{Bool, true, false}
-use mathlib.Core.List.{List, [], _∷_}
+use mathlib.Core.List.{List}
 use lib.ListN.{length, take, drop}
-use lib.Seq.{take-nil}
 use lib.Dec.{ltb}
 use Rattle.spec.specs.declared.Next.{Next}
 use Rattle.spec.specs.Next.{next}
@@ -15,15 +13,7 @@ use Rattle.record.specs.Within.{Within}
 use Rattle.reading.specs.declared.Cursor.{Cursor}
 use Rattle.reading.specs.declared.Item.{Item}
 use Rattle.reading.specs.Cursor.{look, goes-on, turn, torn-end, settle, advance, Cursor-sound, left, Inside}
-
--- a part that the code lends is the definitions' part
-pub part-window : (a e : ℕ) (s : List ℕ) → a ≤ e → take (e - a) (drop a s) ≡ drop a (take e s)
-part-window zero e s h = rw sub-zero
-part-window (suc a) zero s h = absurd (not-suc-le-zero h)
-part-window (suc a) (suc e) [] h = take-nil (suc e - suc a)
-part-window (suc a) (suc e) (x ∷ s) h =
-    let q : suc e - suc a ≡ e - a = omega arith in
-    rw q (part-window a e s (le-of-suc-le-suc h))
+use Rattle.laws.specs.Parts.{part-window}
 
 -- ---- what stands at a cursor
 

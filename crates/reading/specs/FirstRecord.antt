@@ -1,11 +1,11 @@
 -- The first record of a chain stands at the head, if a START or CLEAN byte does; the second one stands clear of it.
 use Prim.Native.Nat.{ℕ, _+_, _-_, _%_, _≤_, _<_}
 use native.Mathlib.Omega.{arith}
-use native.Mathlib.Nat.{add-zero, not-suc-le-zero}
+use native.Mathlib.Nat.{add-zero}
 use mathlib.Core.Path.{_≡_, refl, sym, ap, _∙_}
 use mathlib.Core.Bool.{Bool, true, false, _||_, cond}
 use mathlib.Core.Logic.{_⊎_, inl, inr}
-use mathlib.Core.List.{List, [], _∷_}
+use mathlib.Core.List.{List}
 use lib.ListN.{length, drop, getD, length-drop}
 use lib.Seq.{take-length, getD-drop}
 use lib.Dec.{ltb, eqb}
@@ -17,6 +17,7 @@ use Rattle.spec.specs.Bytes.{clears, on-way, under-way, is-record, is-wrap, is-
 use Rattle.spec.specs.Record.{low-of, high-of, status-of, spare-of, data-len-of, size-of, name-length}
 use Rattle.spec.specs.Next.{is-torn-marker, kind, sized, next-at, next}
 use Rattle.laws.specs.Head.{Low}
+use Rattle.laws.specs.Parts.{long-le}
 use Rattle.reading.specs.declared.Cursor.{Cursor}
 use Rattle.reading.specs.declared.Spot.{Spot}
 use Rattle.reading.specs.Cursor.{look, goes-on, unfinished-at, past}
@@ -78,11 +79,6 @@ module _ (room : ℕ) (s : List ℕ) where
   next-plain true p e f = rw (next, e, f) (at-plain (kind (low-of s) (high-of s) (status-of s) (spare-of s)) p)
   next-plain false p e f = rw (next, e, f)
 
-one-long : (s : List ℕ) → 0 < length s → long 1 s ≡ true
-unfolding long
-one-long [] h = absurd (not-suc-le-zero h)
-one-long (x ∷ s) h = refl
-
 -- ---- the first record, and the second
 
 module _ (image : Image) (h : ℕ) (l : h < length image) (b : Low (getD image h 0)) where
@@ -92,7 +88,7 @@ module _ (image : Image) (h : ℕ) (l : h < length image) (b : Low (getD image h
       let s : List ℕ = drop h image in
       let e : low-of s ≡ getD image h 0 = getD-drop h image 0 0 ∙ ap (λ (i : ℕ). getD image i 0) (add-zero h) in
       ap (λ (t : List ℕ). goes-on (floor h) (next (drop h t))) (take-length image)
-      ∙ next-plain (floor h) s _ (low-plain (low-of s) (high-of s) (status-of s) (spare-of s) (rw e b)) (one-long s (rw length-drop (omega arith)))
+      ∙ next-plain (floor h) s _ (low-plain (low-of s) (high-of s) (status-of s) (spare-of s) (rw e b)) (long-le 1 s (rw length-drop (omega arith)))
       refl
 
   from-here : (d : Cursor) → From image (first-cursor image h) d → d ≡ first-cursor image h

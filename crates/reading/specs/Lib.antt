@@ -12,7 +12,6 @@ pub mod Tally
 pub mod Faithful
 pub mod TallyLaws
 pub mod NamesLaw
-pub mod SettledLaws
 pub mod FreeLaws
 pub mod Read
 pub mod Stows

@@ -26,7 +26,7 @@ use Rattle.reading.specs.Faithful.{Stands, faithful}
 use Rattle.reading.specs.Tally.{none-yet, tally}
 use Rattle.reading.specs.TallyLaws.{tally-records, tally-fine, second-is, clean-few, low-is, clean-is, marks-few, marks-are, pending-is}
 use Rattle.reading.specs.NamesLaw.{names-are}
-use Rattle.reading.specs.SettledLaws.{second-marked, last-open, wrap-torn, calm, settled-is}
+use Rattle.laws.specs.Settled.{second-marked, last-open, wrap-torn, calm, settled-is}
 use Rattle.reading.specs.FreeLaws.{free-by}
 use Rattle.reading.specs.Read.{Tallied}
 

@@ -8,7 +8,7 @@ use mathlib.Core.List.{List, [], _∷_}
 use lib.ListN.{length}
 use borrow.Author.Tests.{ne-eqb, lt-leb, lt-ltb}
 use Rattle.spec.specs.Basics.{any, all, Each}
-use Rattle.spec.specs.Bytes.{is-unfinished, is-clean}
+use Rattle.spec.specs.Bytes.{is-clean}
 use Rattle.spec.specs.Record.{Entry}
 use Rattle.spec.specs.Reading.{marked, second-ok, marks-ok, head-clean}
 use Rattle.spec.specs.Mount.{head-low}
@@ -18,6 +18,7 @@ use Rattle.reading.specs.Rest.{entry-of}
 use Rattle.reading.specs.Fold.{spot-of}
 use Rattle.reading.specs.Faithful.{Stands}
 use Rattle.reading.specs.Tally.{name-fine, none-yet, noted, tally}
+use Rattle.laws.specs.Settled.{last-pending}
 
 -- ---- for any tally so far
 
@@ -138,11 +139,6 @@ marks-are image (x ∷ (y ∷ es)) t q f h =
     let b : entry-of image (t .second) ≡ y = ap (λ (u : Tally). entry-of image (u .second)) q ∙ ap (entry-of image) (second-is x y es) ∙ f .1 .0 in
     let c : t .further ≡ any marked es = ap (λ (u : Tally). u .further) q ∙ further-is x y es in
     ap₂ (λ (v : Bool) (w : Bool). not v && w) c (ap₂ (second-ok all) a b) ∙ and-swap (not (any marked es)) (second-ok all x y)
-
--- the last record
-abbrev pub last-pending : Entry → List Entry → Bool
-last-pending e [] = is-unfinished (e .it .status)
-last-pending e (f ∷ es) = last-pending f es
 
 pub pending-is : (t : Tally) (e : Entry) (es : List Entry) → tally t (e ∷ es) .pending ≡ last-pending e es
 unfolding noted

@@ -9,7 +9,7 @@ use lib.Dec.{eqb}
 use Rattle.spec.specs.Basics.{all}
 use Rattle.spec.specs.Bytes.{ends-name, is-slash}
 use Rattle.spec.specs.Record.{name-length, ends-in-slash}
-use Rattle.record.specs.Suffix.{drop-next}
+use Rattle.laws.specs.Parts.{drop-next}
 
 -- ---- the end of a name, with n bytes of the window left: past the part, at an end, at another byte, past the window
 

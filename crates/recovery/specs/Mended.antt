@@ -14,10 +14,10 @@ use Rattle.spec.specs.Move.{Work, begin, after}
 use Rattle.spec.specs.Mount.{repair-1, repair-2-on, repair-3, drop-steps, repair-4, mended}
 use Rattle.flash.specs.declared.Meter.{Meter}
 use Rattle.flash.specs.Did.{Did}
-use Rattle.reading.specs.declared.Item.{Item as Ending-step}
+use Rattle.reading.specs.declared.Item.{Item}
 use Rattle.reading.specs.Rest.{rest}
 use Rattle.reading.specs.Bridge.{shown, reading-is}
-use Rattle.reading.specs.SettledLaws.{close-filled}
+use Rattle.laws.specs.Settled.{close-filled}
 use Rattle.reading.specs.Read.{first-cursor}
 use Rattle.recovery.specs.Repairs.{steps-1, pair-steps, pair-head, steps-2, head-2, steps-3, repair-1-is, repair-2-is, repair-3-is, repair-4-is}
 use Rattle.recovery.specs.Pair.{Move-finished}
@@ -26,17 +26,17 @@ use Rattle.recovery.specs.Mending.{Mending, mending-more, mending-stop}
 -- ---- the place of a reading
 
 module _ (image : Image) (h : ℕ) where
-  shown-head : (es : List Entry) (x : Ending-step) → shown image (length image) h es x .place .head ≡ h
-  shown-head es (Ending-step.Record e c) = refl
-  shown-head es (Ending-step.End t w) = refl
-  shown-head es (Ending-step.TornWrap t) = refl
-  shown-head es (Ending-step.Broken t w) = refl
+  shown-head : (es : List Entry) (x : Item) → shown image (length image) h es x .place .head ≡ h
+  shown-head es (Item.Record e c) = refl
+  shown-head es (Item.End t w) = refl
+  shown-head es (Item.TornWrap t) = refl
+  shown-head es (Item.Broken t w) = refl
 
-  shown-length : (es : List Entry) (x : Ending-step) → shown image (length image) h es x .place .length ≡ length image
-  shown-length es (Ending-step.Record e c) = refl
-  shown-length es (Ending-step.End t w) = refl
-  shown-length es (Ending-step.TornWrap t) = refl
-  shown-length es (Ending-step.Broken t w) = refl
+  shown-length : (es : List Entry) (x : Item) → shown image (length image) h es x .place .length ≡ length image
+  shown-length es (Item.Record e c) = refl
+  shown-length es (Item.End t w) = refl
+  shown-length es (Item.TornWrap t) = refl
+  shown-length es (Item.Broken t w) = refl
 
   module _ (l : h ≤ length image) where
     pub place-head : reading-from image h .place .head ≡ h

@@ -5,7 +5,7 @@ use mathlib.Core.Path.{_≡_, refl, sym, ap, ap₂, _∙_}
 use mathlib.Core.Logic.{⊎-elim}
 use mathlib.Core.Bool.{Bool, true, false, not}
 use mathlib.Core.List.{List, [], _∷_, _++_, map, append-assoc}
-use lib.ListN.{length, take, drop, length-append, length-replicate}
+use lib.ListN.{length, take, drop, length-append}
 use lib.Seq.{drop-drop, drop-append-add, length-take-le}
 use Rattle.spec.specs.Step.{Image, Step, erase, sector, apply}
 use Rattle.spec.specs.Basics.{blank, keep}
@@ -13,14 +13,10 @@ use Rattle.spec.specs.Geometry.{sectors}
 use Rattle.spec.specs.Mount.{dirty}
 use Rattle.flash.specs.declared.Meter.{Meter}
 use Rattle.flash.specs.Did.{Did, did-one}
-use Rattle.reading.specs.CursorLaws.{part-window}
-use Rattle.flash.specs.Sectors.{sectors-more}
+use Rattle.laws.specs.Parts.{part-window}
+use Rattle.laws.specs.Sectors.{sectors-more, length-sector}
 
 -- ---- what an erase leaves alone: the bytes behind the sector
-
-length-sector : length sector ≡ 4096
-unfolding sector
-length-sector = length-replicate {A = ℕ} 4096 0xFF
 
 erase-behind : (s : Image) (a k : ℕ) → a + 4096 ≤ k → a + 4096 ≤ length s → drop k (apply s (erase a)) ≡ drop k s
 erase-behind s a k h l =

@@ -6,7 +6,7 @@ use mathlib.Core.Logic.{_⊎_, inl, inr, ⊎-elim}
 use mathlib.Core.Bool.{Bool, true, false}
 use mathlib.Core.List.{List}
 use lib.ListN.{length, take, drop, set, getD, length-set, length-drop, length-take}
-use lib.Seq.{getD-take, getD-drop, getD-set-other, getD-set-same, take-set-le, drop-set-lt, drop-set-add}
+use lib.Seq.{getD-take, getD-drop, getD-set-other, getD-set-same}
 use lib.Dec.{ltb}
 use Rattle.spec.specs.declared.Next.{Next}
 use Rattle.spec.specs.Step.{Image}
@@ -18,7 +18,8 @@ use Rattle.reading.specs.declared.Cursor.{Cursor}
 use Rattle.reading.specs.declared.Spot.{Spot}
 use Rattle.reading.specs.declared.Item.{Item}
 use Rattle.reading.specs.Cursor.{window, look, goes-on, turn, past, torn-end, unfinished-at, settle, advance}
-use Rattle.reading.specs.CursorLaws.{part-window, advance-on, advance-here}
+use Rattle.laws.specs.Parts.{part-window, part-set}
+use Rattle.reading.specs.CursorLaws.{advance-on, advance-here}
 use Rattle.reading.specs.Fits.{look-inside}
 use Rattle.reading.specs.Rest.{entry-of}
 use Rattle.reading.specs.Bridge.{rec-part}
@@ -109,26 +110,18 @@ module _ (image : Image) (c : Cursor) (e : Spot) (behind : Cursor) (tidy : Tidy 
 -- ---- one byte is written
 
 module _ (s : Image) (a b : ℕ) where
-  pub part-kept : (i n : ℕ) → Off a i n → take n (drop i (set s a b)) ≡ take n (drop i s)
-  part-kept i n o =
-      ⊎-elim
-      (λ (h : a < i). ap (take n) (drop-set-lt i s a b h))
-      (λ (h : i + n ≤ a).
-      let j : a ≡ i + (a - i) = omega arith in
-      ap (λ (k : ℕ). take n (drop i (set s k b))) j ∙ ap (take n) (drop-set-add i s (a - i) b) ∙ take-set-le n (drop i s) (a - i) b (omega arith))
-      o
-
   pub window-kept : (c : Cursor) → c .at ≤ c .end → Off a (c .at) (c .end - c .at) → look (set s a b) c ≡ look s c
   unfolding look
   window-kept c l o =
       ap (λ (w : List ℕ). allowed (c .pending) (next w))
-      (sym (part-window (c .at) (c .end) (set s a b) l) ∙ part-kept (c .at) (c .end - c .at) o ∙ part-window (c .at) (c .end) s l)
+      (sym (part-window (c .at) (c .end) (set s a b) l) ∙ part-set s (c .at) (c .end - c .at) a b o ∙ part-window (c .at) (c .end) s l)
 
   pub entry-kept : (e : Spot) → Off a (e .at) (size-of (e .n) (e .d)) → entry-of (set s a b) e ≡ entry-of s e
   entry-kept e o =
       let z : ℕ = size-of (e .n) (e .d) in
       ap (λ (x : Rec). record { at = e .at; it = x })
-      (sym (rec-part z (e .n) (e .d) (drop (e .at) (set s a b)) (omega arith)) ∙ ap (λ (l : List ℕ). rec-of l (e .n) (e .d)) (part-kept (e .at) z o)
+      (sym (rec-part z (e .n) (e .d) (drop (e .at) (set s a b)) (omega arith))
+      ∙ ap (λ (l : List ℕ). rec-of l (e .n) (e .d)) (part-set s (e .at) z a b o)
       ∙ rec-part z (e .n) (e .d) (drop (e .at) s) (omega arith))
 
   pub unfinished-kept : (i : ℕ) → (i + 2 ≡ a → ⊥) → unfinished-at (set s a b) i ≡ unfinished-at s i

@@ -14,7 +14,7 @@ use Rattle.flash.specs.declared.Meter.{Meter}
 use Rattle.flash.specs.Did.{Did, did-none, did-both, did-all}
 use Rattle.reading.specs.declared.Cursor.{Cursor}
 use Rattle.reading.specs.declared.Spot.{Spot}
-use Rattle.reading.specs.declared.Item as chain
+use Rattle.reading.specs.declared.Item.{Item}
 use Rattle.reading.specs.Cursor.{advance}
 use Rattle.reading.specs.Rest.{Run, entry-of, rest}
 use Rattle.reading.specs.Fold.{Not-record, rest-done}
@@ -27,6 +27,7 @@ use Rattle.reading.specs.Way.{reached}
 use Rattle.reading.specs.FirstRecord.{apart, second-even}
 use Rattle.sweeping.specs.Steps.{hand-steps, hand-head, handing, heading}
 use Rattle.reading.specs.Standing.{Led, Taken, entries-are, stands}
+use Rattle.laws.specs.Steps.{run-append}
 
 pub record Handed (s : Image) (h : ℕ) (m : Meter) (t : Image) (r : NewHead) : Type 0 where
   pub did : Did s m (handing s h) t (r .meter)
@@ -48,7 +49,7 @@ module _ {s : Image} {h : ℕ} (w : Led s h) (m : Meter) where
         few = omega arith;
       }
 
-  pub hand-none : {k : Cursor} (q : chain.Item) → k ≡ first-cursor s h → q ≡ advance s k → Not-record q
+  pub hand-none : {k : Cursor} (q : Item) → k ≡ first-cursor s h → q ≡ advance s k → Not-record q
       → Handed s h m s (record { head = h; meter = m })
   hand-none q f e z =
       none-handed [] (entries-are s h w ∙ ap (λ (r : Run). r .entries) (rest-done s (first-cursor s h) q (e ∙ ap (advance s) f) z)) refl (λ N. refl)
@@ -57,7 +58,7 @@ module _ {s : Image} {h : ℕ} (w : Led s h) (m : Meter) where
     listed : reading-from s h .entries ≡ entry-of s x ∷ rest s c .entries
     listed = entries-are s h w ∙ ap (λ (r : Run). r .entries) (t .passes .split)
 
-    pub hand-one : (q : chain.Item) → q ≡ advance s c → Not-record q → Handed s h m s (record { head = h; meter = m })
+    pub hand-one : (q : Item) → q ≡ advance s c → Not-record q → Handed s h m s (record { head = h; meter = m })
     hand-one q e z =
         none-handed (entry-of s x ∷ []) (listed ∙ ap (λ (r : Run). entry-of s x ∷ r .entries) (rest-done s c q e z)) refl (λ N. refl)
 

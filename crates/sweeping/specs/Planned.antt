@@ -8,7 +8,7 @@ use lib.ListN.{length, getD}
 use Rattle.spec.specs.declared.Place.{Place}
 use Rattle.spec.specs.declared.Placed.{Placed}
 use Rattle.spec.specs.declared.Placed.the-variants as placed-as
-use Rattle.spec.specs.Step.{Image, Step}
+use Rattle.spec.specs.Step.{Image}
 use Rattle.spec.specs.Record.{size-of, size, Entry, name-of, content-of}
 use Rattle.spec.specs.Chain.{Reading, reading-from}
 use Rattle.spec.specs.Files.{live}
@@ -19,7 +19,7 @@ use Rattle.flash.specs.declared.Meter.{Meter}
 use Rattle.flash.specs.Did.{Did, did-none}
 use Rattle.reading.specs.declared.Cursor.{Cursor}
 use Rattle.reading.specs.declared.Spot.{Spot}
-use Rattle.reading.specs.declared.Item as chain
+use Rattle.reading.specs.declared.Item.{Item}
 use Rattle.reading.specs.Cursor.{advance}
 use Rattle.reading.specs.Rest.{Run, entry-of, rest}
 use Rattle.reading.specs.Fold.{Whole, name-length-is, content-length-is, Not-record, rest-done}
@@ -30,7 +30,8 @@ use Rattle.moving.specs.Copied.{entry-at}
 use Rattle.moving.specs.Copy.{copy-of, HeadEnds, copy-few, copy-keeps-low}
 use Rattle.sweeping.specs.declared.Plan.{Plan}
 use Rattle.sweeping.specs.Steps.{copying}
-use Rattle.sweeping.specs.Stuck.{stuck-empty, room-empty, room-on, room-live, room-dead, stuck-live, stuck-last, stuck-not, copy-live, copy-dead}
+use Rattle.laws.specs.Sweep.{room-on, room-live, room-dead, copy-live, copy-dead}
+use Rattle.sweeping.specs.Stuck.{stuck-empty, room-empty, stuck-live, stuck-last, stuck-not}
 use Rattle.reading.specs.Standing.{Led, Taken, Standing, entries-are, stands, head-at, stands-past}
 
 -- the place of the reading from its head on
@@ -81,7 +82,7 @@ full-is s p (Plan.Copy n d) w = sym (room-on (reading-from s (p .head)) (w .on))
 -- ---- how the code comes to it
 
 module _ {s : Image} {p : Place} (w : Headed s p) where
-  pub plan-none : {k : Cursor} (q : chain.Item) → k ≡ first-cursor s (p .head) → q ≡ advance s k → Not-record q → No-move s (p .head) false
+  pub plan-none : {k : Cursor} (q : Item) → k ≡ first-cursor s (p .head) → q ≡ advance s k → Not-record q → No-move s (p .head) false
   plan-none {k} q f e z =
       let r : Reading = reading-from s (p .head) in
       let none : r .entries ≡ [] = entries-are s (p .head) (w .led)
@@ -136,7 +137,7 @@ module _ {s : Image} {p : Place} (w : Headed s p) where
             named = omega (arith, t .passes .onward .name);
           }
 
-      pub plan-last : b ≡ false → (r : chain.Item) → r ≡ advance s c → Not-record r → No-move s (p .head) false
+      pub plan-last : b ≡ false → (r : Item) → r ≡ advance s c → Not-record r → No-move s (p .head) false
       plan-last l r g z =
           let v : Reading = reading-from s (p .head) in
           record {

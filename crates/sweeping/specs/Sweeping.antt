@@ -16,7 +16,7 @@ use Rattle.moving.specs.declared.NewHead.{NewHead}
 use Rattle.sweeping.specs.declared.MoveEnd.{MoveEnd}
 use Rattle.flash.specs.Began.{Began}
 use Rattle.sweeping.specs.Moves.{Moves, moves-none, moves-cut, moves-more}
-use Rattle.sweeping.specs.Steps.{moves-stuck, moves-next}
+use Rattle.laws.specs.Sweep.{moves-stuck, moves-next}
 use Rattle.sweeping.specs.Planned.{Headed}
 use Rattle.sweeping.specs.WholeMove.{whole-move, Left, Move-made}
 

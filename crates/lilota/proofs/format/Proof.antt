@@ -2,7 +2,7 @@
 use mathlib.Core.Path.{refl, _∙_}
 use native.Mathlib.Omega.{arith}
 use lib.ListN.{length}
-use Rattle.record.specs.Suffix.{flag}
+use Rattle.laws.specs.Flag.{flag}
 use Rattle.laws.specs.Length.{good}
 use Rattle.lilota.specs.Numbers.{bad-length}
 use Rattle.lilota.specs.Carry.{carried, spent-told}

@@ -2,7 +2,7 @@
 use mathlib.Core.Path.{_≡_, _∙_}
 use Rattle.spec.specs.declared.Kind.{Kind}
 use Rattle.spec.specs.Next.{next-at, next}
-use Rattle.record.specs.NextLaws.{next-none, next-short, next-arm}
+use Rattle.laws.specs.Next.{next-none, next-short, next-arm}
 use native.Mathlib.Omega.{arith}
 use borrow.Author.Needs.{needs}
 use Rattle.record.proofs.next_of.Statement.{statement}

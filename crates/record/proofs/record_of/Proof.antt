@@ -4,7 +4,7 @@ use mathlib.Core.Logic.{⊎-elim}
 use borrow.Author.Tests.{leb-true, leb-false}
 use Rattle.spec.specs.declared.Next.{Next}
 use Rattle.spec.specs.Next.{sized, record-at}
-use Rattle.record.specs.NextLaws.{record-at-none, sized-as, sized-is, sized-short, sized-open}
+use Rattle.laws.specs.Next.{record-at-none, sized-as, sized-is, sized-short, sized-open}
 use native.Mathlib.Omega.{arith}
 use borrow.Author.Needs.{needs}
 use Rattle.record.proofs.record_of.Statement.{statement}

@@ -2,7 +2,7 @@
 use mathlib.Core.Path.{refl, sym, _∙_}
 use mathlib.Core.Bool.{true, false}
 use lib.ListN.{length}
-use Rattle.record.specs.Suffix.{flag}
+use Rattle.laws.specs.Flag.{flag}
 use Rattle.reading.specs.Read.{reading-of}
 use Rattle.spec.specs.Basics.{numbered}
 use Rattle.lilota.specs.Numbers.{no-room}

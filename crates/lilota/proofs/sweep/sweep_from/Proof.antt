@@ -1,7 +1,7 @@
 -- No room for the first move is 28; else moves and steps are read off what the sweep counted.
 use mathlib.Core.Path.{refl, sym, _∙_}
 use mathlib.Core.Bool.{true, false}
-use Rattle.record.specs.Suffix.{flag}
+use Rattle.laws.specs.Flag.{flag}
 use Rattle.spec.specs.Basics.{numbered}
 use Rattle.lilota.specs.Numbers.{no-room}
 use Rattle.lilota.specs.Carry.{refused}

@@ -1,7 +1,7 @@
 -- The pair is the definition's: it gets its step, or none.
 use mathlib.Core.Path.{sym, _∙_}
 use native.Mathlib.Omega.{arith}
-use Rattle.record.specs.Suffix.{flag}
+use Rattle.laws.specs.Flag.{flag}
 use Rattle.flash.specs.Did.{did-none}
 use Rattle.moving.specs.Clean.{mark-at, marked, unmarked}
 use borrow.Author.Needs.{needs}

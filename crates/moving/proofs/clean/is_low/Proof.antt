@@ -1,6 +1,6 @@
 -- START, CLEAN, a record's, or none of them.
 use borrow.Author.Tests.{eq-eqb, ne-eqb}
-use Rattle.record.specs.Suffix.{flag}
+use Rattle.laws.specs.Flag.{flag}
 use Rattle.spec.specs.Bytes.{is-start}
 use borrow.Author.Needs.{needs}
 use Rattle.moving.proofs.clean.is_low.Statement.{statement}

@@ -6,7 +6,7 @@ use mathlib.Core.Path.{_≡_, refl}
 use lib.ListN.{length, take, drop}
 use lib.Seq.{take-all, length-take-le}
 use Rattle.spec.specs.Step.{bytes-at}
-use Rattle.flash.specs.Bytes.{length-bytes}
+use Rattle.laws.specs.Steps.{length-bytes}
 use borrow.Author.Needs.{needs}
 use Rattle.flash.specs.Did.{Did, did-none}
 use native.Mathlib.Omega.{arith}

@@ -5,7 +5,7 @@ use borrow.Rule.Slice.PartAt.{part-count}
 use Rattle.spec.specs.declared.Next.{Next}
 use Rattle.record.specs.Within.{Within}
 use Rattle.reading.specs.CursorLaws.{look-is}
-use Rattle.reading.specs.Fits.{allowed-keeps}
+use Rattle.laws.specs.Fits.{allowed-keeps}
 use borrow.Author.Needs.{needs}
 use Rattle.reading.proofs.chain.look.Statement.{statement}
 use Rattle.reading.proofs.chain.look.Tie as tie

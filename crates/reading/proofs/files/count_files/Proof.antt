@@ -1,5 +1,5 @@
 -- count_files: the count so far and the live files of the rest make the whole; there are fewer records than bytes, so no sum wraps.
-use Rattle.record.specs.Suffix.{flag}
+use Rattle.laws.specs.Flag.{flag}
 use Rattle.reading.specs.Fold.{passes}
 use Rattle.reading.specs.Seek.{Counted, count-start, count-over, count-one, count-none}
 use Rattle.spec.specs.Files.{live}

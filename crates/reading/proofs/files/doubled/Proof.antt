@@ -1,5 +1,5 @@
 -- doubled: what was passed doubles no name, so the answer is about the rest; a record is compared with those behind it only.
-use Rattle.record.specs.Suffix.{flag}
+use Rattle.laws.specs.Flag.{flag}
 use Rattle.reading.specs.Fold.{passes, Folded, fold-start}
 use Rattle.reading.specs.Seek.{doubled-of, doubled-over, doubled-found, doubled-onward}
 use Rattle.reading.proofs.Others.{other-step}

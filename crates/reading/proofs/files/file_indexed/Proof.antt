@@ -1,5 +1,5 @@
 -- file_indexed: `left` files are still to be passed among the rest.
-use Rattle.record.specs.Suffix.{flag}
+use Rattle.laws.specs.Flag.{flag}
 use Rattle.reading.specs.Fold.{passes, Folded, fold-start}
 use Rattle.reading.specs.FileLaws.{is-file}
 use Rattle.reading.specs.Seek.{nth-of, nth-over, nth-found, nth-onward, nth-skip}

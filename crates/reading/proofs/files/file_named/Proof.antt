@@ -1,5 +1,5 @@
 -- file_named: what was passed has no such file, so the answer is about the rest.
-use Rattle.record.specs.Suffix.{flag}
+use Rattle.laws.specs.Flag.{flag}
 use Rattle.reading.specs.Fold.{passes, Folded, fold-start}
 use Rattle.reading.specs.FileLaws.{is-file}
 use Rattle.reading.specs.Seek.{first-of, first-over, first-found, first-other, first-skip}

@@ -1,6 +1,6 @@
 -- marker_kind: by the callee's answer.
 use Rattle.spec.specs.Bytes.{is-wrapped}
-use Rattle.record.specs.Suffix.{flag}
+use Rattle.laws.specs.Flag.{flag}
 use borrow.Author.Needs.{needs}
 use Rattle.record.proofs.kind.marker_kind.Statement.{statement}
 use Rattle.record.proofs.kind.marker_kind.Tie as tie

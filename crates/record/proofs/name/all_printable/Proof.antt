@@ -4,7 +4,7 @@ use mathlib.Core.Path.{_≡_, refl, sym, _∙_}
 use lib.ListN.{length, drop}
 use Rattle.spec.specs.Basics.{all}
 use Rattle.spec.specs.Bytes.{is-printable}
-use Rattle.record.specs.Suffix.{flag}
+use Rattle.laws.specs.Flag.{flag}
 use Rattle.record.specs.NameLaws.{all-next, all-stop, all-over}
 use borrow.Author.Needs.{needs}
 use native.Mathlib.Omega.{arith}

@@ -3,7 +3,7 @@ use Prim.Native.Nat.{_+_, _-_, _≤_}
 use mathlib.Core.Path.{_≡_}
 use lib.ListN.{drop}
 use Rattle.spec.specs.Record.{name-length}
-use Rattle.record.specs.Suffix.{flag}
+use Rattle.laws.specs.Flag.{flag}
 use Rattle.record.specs.NameLaws.{name-end, name-hit, name-miss, name-out}
 use borrow.Author.Needs.{needs}
 use native.Mathlib.Omega.{arith}

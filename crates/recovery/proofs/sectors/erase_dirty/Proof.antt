@@ -10,7 +10,7 @@ use lib.ListN.{length, drop}
 use Rattle.spec.specs.Step.{erase}
 use Rattle.spec.specs.Geometry.{sectors}
 use Rattle.flash.specs.Toward.{Toward, toward-more, toward-end}
-use Rattle.flash.specs.Sectors.{sectors-none}
+use Rattle.laws.specs.Sectors.{sectors-none}
 use Rattle.moving.specs.Kept.{later-on}
 use Rattle.recovery.specs.Sectors.{dirty-more}
 use Rattle.recovery.proofs.sectors.erase_dirty.Statement.{statement}

@@ -1,6 +1,6 @@
 -- The record has its step if it is superseded.
 use native.Mathlib.Omega.{arith}
-use Rattle.record.specs.Suffix.{flag}
+use Rattle.laws.specs.Flag.{flag}
 use Rattle.flash.specs.Did.{did-none}
 use Rattle.reading.specs.Rest.{rest, entry-of}
 use Rattle.recovery.specs.Drop.{drop-this, drop-none}

@@ -1,4 +1,4 @@
--- What stands at the front of a part, as the code finds it out.
+-- What stands at the front of a list: a record of known lengths, too few bytes, or what its kind says.
 use Prim.Native.Nat.{ℕ, _-_, _≤_, _<_}
 use native.Mathlib.Omega.{arith}
 use mathlib.Core.Path.{_≡_, refl, sym, ap, ap₂, _∙_}
@@ -12,7 +12,16 @@ use Rattle.spec.specs.declared.Kind.{Kind}
 use Rattle.spec.specs.declared.Next.{Next}
 use Rattle.spec.specs.Record.{name-length, size-of, data-len-of, low-of, high-of, status-of, spare-of}
 use Rattle.spec.specs.Next.{kind, sized, record-at, next-at, next}
-use Rattle.record.specs.Suffix.{long-le, long-lt}
+use Rattle.laws.specs.Parts.{long-le, long-lt}
+
+-- anything but a record
+abbrev pub Not-record : Next → Type 0
+Not-record (Next.Record n d) = ⊥
+Not-record Next.Wrap = Unit {0}
+Not-record Next.TornWrap = Unit {0}
+Not-record Next.Clear = Unit {0}
+Not-record Next.Over = Unit {0}
+Not-record Next.Bad = Unit {0}
 
 -- ---- a record of known lengths
 
