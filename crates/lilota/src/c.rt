@@ -29,7 +29,8 @@ pub extern "C" fn lilota_mount(
     files: &mut usize,
     steps: &mut usize,
 ) -> u32
-    ensures { λ r. ⌜ outcome-of (of-mount r (report (now (head .exit)) (now (tail .exit)) (now (files .exit))) (now (steps .exit))) (now (image .exit))
+    ensures { λ r. ⌜ outcome-of
+        (of-mount r (report (now (head .exit)) (now (tail .exit)) (now (files .exit))) (now (steps .exit))) (now (image .exit))
         ≡ mount (now (image .entry)) allowance ⌝ }
 {
     let w = mount(image, allowance);
@@ -110,7 +111,8 @@ pub extern "C" fn lilota_sweep(
     moves: &mut usize,
     steps: &mut usize,
 ) -> u32
-    ensures { λ r. ⌜ outcome-of (of-sweep r (now (moves .exit)) (now (steps .exit))) (now (image .exit)) ≡ sweep (now (image .entry)) allowance ⌝ }
+    ensures { λ r. ⌜ outcome-of (of-sweep r (now (moves .exit)) (now (steps .exit))) (now (image .exit))
+        ≡ sweep (now (image .entry)) allowance ⌝ }
 {
     let w = sweep(image, allowance);
     *moves = w.moves();

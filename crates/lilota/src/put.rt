@@ -53,7 +53,8 @@ fn replace(image: &mut [u8], s: Survey, name: &[u8], content: &[u8], m: Meter) -
     requires { ⌜ Settled (now image) s × (length (now name) ≤ 63)
         × (fits (s .place) (size-of (length (now name)) (length (now content))) ≡ true) × (m .asked ≡ 0) ⌝ }
     ensures { λ r. ⌜ Did (now (image .entry)) m
-        (put-steps (s .place) (file-named (now (name .entry)) (reading-of (now (image .entry)) s .entries)) (now (name .entry)) (now (content .entry)))
+        (put-steps (s .place) (file-named (now (name .entry)) (reading-of (now (image .entry)) s .entries))
+        (now (name .entry)) (now (content .entry)))
         (now (image .exit)) r ⌝ }
 {
     let place = s.place;
@@ -65,7 +66,8 @@ fn replace(image: &mut [u8], s: Survey, name: &[u8], content: &[u8], m: Meter) -
 fn put_from(image: &mut [u8], s: Survey, name: &[u8], content: &[u8], allowance: usize) -> Written
     requires { ⌜ Settled (now image) s × (length (now name) ≤ 63) ⌝ }
     ensures { λ r. ⌜ (outcome-of (written r) (now (image .exit))
-        ≡ carry-out (now (image .entry)) allowance (put-into (now (name .entry)) (now (content .entry)) (reading-of (now (image .entry)) s)))
+        ≡ carry-out (now (image .entry)) allowance
+        (put-into (now (name .entry)) (now (content .entry)) (reading-of (now (image .entry)) s)))
         × Written-told r ⌝ }
 {
     if has_room(image, s, name, content.len()) {

@@ -198,7 +198,9 @@ pub fn is_file(image: &[u8], e: Spot) -> bool
 // The file of this name, where nothing is superseded.
 pub fn file_named(image: &[u8], start: Cursor, name: &[u8]) -> Found
     requires { ⌜ Cursor-sound (now image) start ⌝ }
-    ensures { λ r. ⌜ (found-in (now (image .entry)) r ≡ first-such (has-name (now (name .entry))) (keep is-file (rest (now (image .entry)) start .entries))) × Found-whole (now (image .entry)) r ⌝ }
+    ensures { λ r. ⌜ (found-in (now (image .entry)) r
+        ≡ first-such (has-name (now (name .entry))) (keep is-file (rest (now (image .entry)) start .entries)))
+        × Found-whole (now (image .entry)) r ⌝ }
 {
     let mut c = start;
     loop {
@@ -218,7 +220,8 @@ pub fn file_named(image: &[u8], start: Cursor, name: &[u8]) -> Found
 // The file with this index, where nothing is superseded.
 pub fn file_indexed(image: &[u8], start: Cursor, index: usize) -> Found
     requires { ⌜ Cursor-sound (now image) start ⌝ }
-    ensures { λ r. ⌜ (found-in (now (image .entry)) r ≡ getElem? (keep is-file (rest (now (image .entry)) start .entries)) index) × Found-whole (now (image .entry)) r ⌝ }
+    ensures { λ r. ⌜ (found-in (now (image .entry)) r ≡ getElem? (keep is-file (rest (now (image .entry)) start .entries)) index)
+        × Found-whole (now (image .entry)) r ⌝ }
 {
     let mut c = start;
     let mut left = index;

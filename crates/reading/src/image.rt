@@ -71,7 +71,8 @@ pub fn survey(image: &[u8], h: usize) -> Survey
 // What is read from the head h on.
 pub fn read_from(image: &[u8], h: usize) -> Read
     requires { ⌜ (h ≤ length (now image)) × (16 ≤ length (now image)) × (length (now image) ≤ 2 ^ 24) ⌝ }
-    ensures { λ r. ⌜ (answered (now (image .entry)) r ≡ judged (now (image .entry)) (reading-from (now (image .entry)) h)) × Told (now (image .entry)) r ⌝ }
+    ensures { λ r. ⌜ (answered (now (image .entry)) r ≡ judged (now (image .entry)) (reading-from (now (image .entry)) h))
+        × Told (now (image .entry)) r ⌝ }
 {
     let s = survey(image, h);
     if legal(image, first_cursor(image, h), s) {
@@ -95,7 +96,8 @@ pub fn read(image: &[u8]) -> Read
 // What a settled image reads as, with nothing superseded; 16 for one that is not settled.
 pub fn read_settled(image: &[u8]) -> Read
     requires { ⌜ (16 ≤ length (now image)) × (length (now image) ≤ 2 ^ 24) ⌝ }
-    ensures { λ r. ⌜ (answered (now (image .entry)) r ≡ settled-reading (now (image .entry))) × Told (now (image .entry)) r × Quiet (now (image .entry)) r ⌝ }
+    ensures { λ r. ⌜ (answered (now (image .entry)) r ≡ settled-reading (now (image .entry))) × Told (now (image .entry)) r
+        × Quiet (now (image .entry)) r ⌝ }
 {
     let x = read(image);
     let Read::Good(s) = x else {

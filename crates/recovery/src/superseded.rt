@@ -1,8 +1,8 @@
 // Repair 4: each F8 record that has an FC record of its name is deleted, in chain order.
 use flash::Meter;
 use reading::Cursor;
-use reading::Spot;
 use reading::Item;
+use reading::Spot;
 use reading::chain::advance;
 use reading::files::is_superseded;
 use reading::image::first_cursor;

@@ -13,14 +13,12 @@ write-marker-requires : tie.Need-write-marker-requires
 write-marker-requires c κs =
     let p = rw (c .before .before .ending .given .1) at (c .before .before .before .before .before .pre .0) in (omega arith, omega arith)
 
-
 same-length : tie.Need-same-length
 same-length c = search needs
 
 returns : tie.Need-returns
 returns c =
     (rw (c .before .before .before .before .before .ending .given .1) (c .before .before .write-marker .ensures), omega arith)
-
 
 returns-2 : tie.Need-returns-2
 returns-2 c =
