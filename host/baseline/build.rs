@@ -2,8 +2,8 @@
 use std::path::Path;
 use std::process::Command;
 
-const FILES: [&str; 8] = ["record", "head", "chain", "flash", "write", "mount", "sweep", "scan"];
-const FLAGS: [&str; 7] = ["-O2", "-std=c99", "-Wall", "-Wextra", "-Werror", "-pedantic", "-fPIC"];
+const FILES: [&str; 9] = ["place", "head", "chain", "reading", "read", "write", "move", "mount", "scan"];
+const FLAGS: [&str; 7] = ["-O2", "-std=c99", "-Wall", "-Wextra", "-Werror", "-pedantic", "-fPIE"];
 
 fn run(command: &mut Command) {
     let status = command.status().unwrap_or_else(|e| panic!("{command:?}: {e}"));
