@@ -35,6 +35,13 @@ static inline bool printable(uint64_t word)
     return ((word | below_21 | above_7e) & TOP_BITS) == 0;
 }
 
+/* Each bit of the result depends on most of the bits, and the low ones on all. */
+static inline uint64_t mixed(uint64_t bits)
+{
+    bits *= UINT64_C(0x9E3779B97F4A7C15);
+    return bits ^ bits >> 32;
+}
+
 /*
  * A number of the name at `name`, whose bytes may be read up to the end of the word with its 00. False: the name isn't
  * good. The bytes from the 00 on count as 00.
@@ -49,19 +56,18 @@ static inline bool name_key(const uint8_t *name, size_t length, uint64_t *key)
         word = word_at(name, i);
         if (!printable(word))
             return false;
-        sum = (sum ^ word) * UINT64_C(0x9E3779B97F4A7C15);
-        sum ^= sum >> 32;
+        sum = mixed(sum ^ word);
     }
     kept = (UINT64_C(1) << 8 * (length - i)) - 1;
     word = word_at(name, i) & kept;
-    if (!printable(word | (EACH_BYTE * 'a' & ~kept)))
-        return false;
-    sum = (sum ^ word) * UINT64_C(0x9E3779B97F4A7C15);
-    *key = sum ^ sum >> 32;
-    return true;
+    *key = mixed(mixed(sum ^ word));
+    return printable(word | (EACH_BYTE * 'a' & ~kept));
 }
 
-/* Which keys were seen: three bits for each, so that one that wasn't is seldom taken for one that was. */
+/*
+ * Which keys were seen: five bits for each. One that wasn't is seldom taken for one that was: among 2,048 of them once
+ * or not at all, among 256 hardly ever.
+ */
 typedef struct {
     uint64_t bits[512];
 } Seen;
@@ -69,9 +75,10 @@ typedef struct {
 /* Whether the key was perhaps seen before; from now on it was. */
 static inline bool seen(Seen *s, uint64_t key)
 {
+    uint64_t stride = key >> 32 | 1;
     bool before = true;
     int i;
-    for (i = 0; i < 3; i++, key >>= 15) {
+    for (i = 0; i < 5; i++, key += stride) {
         uint64_t *word = &s->bits[key >> 6 & 511], bit = UINT64_C(1) << (key & 63);
         before &= (*word & bit) != 0;
         *word |= bit;
