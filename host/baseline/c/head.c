@@ -31,14 +31,21 @@ static size_t walk(const uint8_t *m, size_t n)
     return p;
 }
 
-/* The first START or CLEAN from `from` on, or n. The search meets FF first most often, of which none is. */
+/* The first START or CLEAN from `from` on, or n. FF is neither; the first stretch of FF is noted. */
 static size_t search(const uint8_t *m, size_t n, size_t from, Stretch *blank)
 {
     size_t a = first_written(m, from, n);
     blank->from = from;
     blank->to = a;
-    while (a < n && !(m[a + 1] == 0x5A && is_mark(word_at(m, a))))
-        a += 8;
+    while (a < n) {
+        uint64_t word = word_at(m, a);
+        if (word == BLANK)
+            a = first_written(m, a, n);
+        else if (is_mark(word))
+            break;
+        else
+            a += 8;
+    }
     return a;
 }
 

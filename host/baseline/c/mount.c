@@ -1,12 +1,17 @@
 /* "What mount repairs, in this order". No repair changes what the reading said of the rest, so nothing is read again. */
 #include "store.h"
 
-static void erase_dirty(Flash *f, size_t from, size_t to)
+/* Erases the sectors wholly in [from, to) that aren't FF; `to` is the end of a sector. */
+static void erase_dirty(Flash *f, const Reading *s, size_t from, size_t to)
 {
-    size_t a;
-    for (a = floor_of(from + SECTOR - 1); a + SECTOR <= to; a += SECTOR)
-        if (!is_blank(f->m, a, a + SECTOR))
-            erase(f, a);
+    size_t a = floor_of(from + SECTOR - 1);
+    while (a < to) {
+        a = first_written(f->m, past_blank(s->blank, a, to), to);
+        if (a == to)
+            return;
+        erase(f, floor_of(a));
+        a = floor_of(a) + SECTOR;
+    }
 }
 
 /* 1: a CLEAN head. */
@@ -17,8 +22,8 @@ static void repair_clean(Flash *f, const Reading *s)
     if (magic_of(s->first.header) != CLEAN)
         return;
     if (!p->turned)
-        erase_dirty(f, 0, low);
-    erase_dirty(f, p->tail, p->turned ? low : p->length);
+        erase_dirty(f, s, 0, low);
+    erase_dirty(f, s, p->tail, p->turned ? low : p->length);
     bl_to_start(f, p->head);
 }
 

@@ -99,37 +99,34 @@ static bool marks_legal(const Reading *s)
     return magic_of(s->second.header) == CLEAN || floor_of(s->second.at) == floor_of(s->place.head);
 }
 
-/* [from, to) is FF; what is known to be is not read again. */
-static bool blank_beside(const uint8_t *m, size_t from, size_t to, Stretch known)
+/* [from, to) is FF; what is known to be isn't read again. */
+static bool free_blank(const Reading *s, size_t from, size_t to)
 {
-    if (known.from <= from && from < known.to)
-        from = known.to < to ? known.to : to;
-    return is_blank(m, from, to);
+    return is_blank(s->m, past_blank(s->blank, from, to), to);
 }
 
-static bool free_run_legal(const Reading *s, Stretch known)
+static bool free_run_legal(const Reading *s)
 {
     const Place *p = &s->place;
     size_t low = floor_of(p->head), end = p->turned ? low : p->length, next = floor_of(p->tail) + SECTOR;
     if (magic_of(s->first.header) == CLEAN)
-        return blank_beside(s->m, p->tail, next < end ? next : end, known);
-    return blank_beside(s->m, p->tail, end, known) && (p->turned || blank_beside(s->m, 0, low, known));
+        return free_blank(s, p->tail, next < end ? next : end);
+    return free_blank(s, p->tail, end) && (p->turned || free_blank(s, 0, low));
 }
 
 /* The reading, or refusal 22 for a bad length, 5 or 6. */
 uint32_t bl_read(const uint8_t *m, size_t n, Query *q, Reading *s)
 {
-    Stretch known;
     uint32_t answer;
     if (!good_length(n))
         return INVALID;
     memset(s, 0, sizeof *s);
     s->m = m;
     s->place.length = n;
-    answer = bl_head(m, n, &s->place.head, &known);
+    answer = bl_head(m, n, &s->place.head, &s->blank);
     if (answer != DONE)
         return answer;
-    return chain_legal(s, q) && marks_legal(s) && free_run_legal(s, known) ? DONE : BROKEN;
+    return chain_legal(s, q) && marks_legal(s) && free_run_legal(s) ? DONE : BROKEN;
 }
 
 static bool settled(const Reading *s)

@@ -45,11 +45,19 @@ typedef struct {
 bool bl_fit(Place *p, size_t size, Spot *spot);
 void bl_move_head(Place *p, const Record *y);
 
-/* head.c: the head, and a stretch that is FF, for the search has read it */
+/* head.c: the head, and a stretch that the search for it found to be FF */
 
 typedef struct {
     size_t from, to;
 } Stretch;
+
+/* Where [from, to) goes on behind what is known to be FF. */
+static inline size_t past_blank(Stretch blank, size_t from, size_t to)
+{
+    if (from < blank.from || from >= blank.to)
+        return from;
+    return blank.to < to ? blank.to : to;
+}
 
 uint32_t bl_head(const uint8_t *m, size_t n, size_t *head, Stretch *blank);
 
@@ -79,6 +87,7 @@ typedef struct {
 typedef struct {
     const uint8_t *m;
     Place place;
+    Stretch blank;
     size_t records, files;
     size_t largest;       /* the size of the largest file but the one asked for */
     size_t superseded;    /* how many F8 have an FC of their name */
