@@ -156,6 +156,39 @@ fn bytes_of_names() {
     }
 }
 
+/// A head that a move leaves, dead or superseded, with other superseded files behind it; the chain ends at N, or before.
+fn head_to_leave(r: &mut Rng, n: usize) -> Vec<u8> {
+    let mut img = vec![0xFF; n];
+    let end = n as u64;
+    let long = vec![0xA5; r.of(&[3, 4200, 5000])];
+    let head = r.of(&[0, 16, SECTOR + 24]);
+    let mut at = write_record(&mut img, head, [r.of(&[0x00, 0x00, 0xA0]), 0x5A, r.of(&[0xF8, 0x00])], b"a", &long);
+    let second = [r.of(&[0xA5, 0xA0, 0x80, 0x00]), 0x5A, r.of(&[0x00, 0xFC])];
+    at = write_record(&mut img, at, second, b"y", &[0x22; 11]);
+    let mut files: Vec<(&[u8], u8)> = vec![(b"a", 0xFC), (b"b", 0xFC), (b"b", 0xF8), (b"c", 0xFC), (b"c", 0xF8)];
+    for _ in 0..1 + r.below(5) {
+        let (name, status) = files.swap_remove(r.below(files.len() as u64) as usize);
+        at = write_record(&mut img, at, [0xA5, 0x5A, status], name, &[0x33; 9]);
+    }
+    if r.chance(60) {
+        // to N, or to the 8 or 16 bytes before it
+        let data = vec![0x44; (end - at - 16 - r.of(&[0, 0, 8, 16])) as usize];
+        write_record(&mut img, at, [0xA5, 0x5A, r.of(&[0x00, 0xFC, 0xFE])], b"z", &data);
+    }
+    img
+}
+
+#[test]
+fn heads_that_are_left() {
+    let (store, mut r) = (Library::new(functions()), Rng::new(15));
+    for _ in 0..3000 {
+        let n = r.of(&[3, 4]) * SECTOR as usize;
+        let img = head_to_leave(&mut r, n);
+        let name = r.of(&[&b"a"[..], b"b", b"y", b"z"]);
+        every_call(&store, &mut r, &img, name);
+    }
+}
+
 /// An image may begin at any address.
 #[test]
 fn any_alignment() {

@@ -7,7 +7,7 @@ mod stack;
 mod table;
 mod timing;
 
-use cases::{case, Kind, Shape};
+use cases::{case, Case, Kind, Shape};
 use options::{Options, USAGE};
 use testing::c_calls::Library;
 use timing::{times, Effort, Times};
@@ -48,7 +48,8 @@ fn measure_times(o: &Options, both: &Both) {
     for &kind in &o.calls {
         table::head(kind);
         for (shape, img) in &shapes {
-            let times = times(&both.library, &both.baseline, &case(kind, img, shape.files), effort);
+            let Some(case) = case(kind, img, shape.files) else { continue };
+            let times = times(&both.library, &both.baseline, &case, effort);
             table::row(*shape, &times);
             rows.push((kind, *shape, times));
         }
@@ -64,10 +65,9 @@ fn measure_stack(o: &Options, both: &Both) {
     let mut gauge = stack::Gauge::new();
     let shapes = shapes(o);
     for &kind in &o.calls {
-        let mut most = |store: &Library| {
-            let small = shapes.iter().filter(|(shape, _)| shape.n <= 1 << 20);
-            small.map(|(shape, img)| gauge.bytes(store, &case(kind, img, shape.files))).max().unwrap_or(0)
-        };
+        let small = shapes.iter().filter(|(shape, _)| shape.n <= 1 << 20);
+        let cases: Vec<Case> = small.filter_map(|(shape, img)| case(kind, img, shape.files)).collect();
+        let mut most = |store| cases.iter().map(|case| gauge.bytes(store, case)).max().unwrap_or(0);
         println!("| {} | {} | {} |", kind.title(), most(&both.library), most(&both.baseline));
     }
 }
@@ -81,6 +81,10 @@ fn machine() -> String {
 }
 
 fn main() {
+    if std::env::args().any(|word| word == "--help") {
+        println!("{USAGE}");
+        return;
+    }
     let o = Options::parse(std::env::args().skip(1)).unwrap_or_else(|wrong| {
         eprintln!("{wrong}\n{USAGE}");
         std::process::exit(2);

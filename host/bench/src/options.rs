@@ -6,7 +6,7 @@ pub const USAGE: &str = "bench [--quick] [--stack] [--size 64K|1M|16M] [--files 
   --quick   fewer and shorter runs
   --stack   the stack that each call needs, in place of times
   the others keep those rows alone; several go with a comma between, as in --size 64K,1M
-  CALL: mount, get, list, put, remove, sweep, mount-put, mount-move, mount-clean";
+  CALL: mount, get, list, put, put-long, remove, sweep, mount-put, mount-move, mount-clean";
 
 pub const SIZES: [(&str, usize); 3] = [("64K", 64 << 10), ("1M", 1 << 20), ("16M", 16 << 20)];
 pub const FILES: [usize; 4] = [1, 16, 256, 2048];
@@ -70,7 +70,7 @@ mod tests {
     #[test]
     fn words() {
         let all = parsed("").unwrap();
-        assert_eq!((all.sizes.len(), all.files.len(), all.calls.len(), all.quick), (3, 4, 9, false));
+        assert_eq!((all.sizes.len(), all.files.len(), all.calls.len(), all.quick), (3, 4, 10, false));
         let some = parsed("--quick --size 64K,16M --call mount-put,get --fill full --files 3").unwrap();
         assert_eq!((some.quick, some.sizes, some.files), (true, vec![64 << 10, 16 << 20], vec![3]));
         assert_eq!((some.calls, some.fills), (vec![Kind::MountPut, Kind::Get], vec![Fill::Full]));

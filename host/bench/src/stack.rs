@@ -122,11 +122,11 @@ impl Gauge {
         Gauge { stack: Box::new(Stack([0; SIZE])), noting: Library::new(noting) }
     }
 
-    /// The bytes of stack that the call needs, to some 20 bytes.
+    /// The bytes of stack that the call needs, to 16 bytes.
     pub fn bytes(&mut self, store: &Library, case: &Case) -> usize {
         deepest(&mut self.stack, &self.noting, case);
         let entry = ENTRY.load(Ordering::Relaxed);
-        entry - deepest(&mut self.stack, store, case)
+        (entry - deepest(&mut self.stack, store, case)).next_multiple_of(16)
     }
 }
 
@@ -148,7 +148,7 @@ mod tests {
         let mut gauge = Gauge::new();
         let store = Library::new(Functions { mount: deep, ..baseline::functions() });
         let img = settled(64 * 1024, 1, Fill::Empty).expect("it fits");
-        let bytes = gauge.bytes(&store, &case(Kind::Mount, &img, 1));
+        let bytes = gauge.bytes(&store, &case(Kind::Mount, &img, 1).expect("a mount is done"));
         assert!((4980..5100).contains(&bytes), "{bytes}");
     }
 }
