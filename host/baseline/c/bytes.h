@@ -30,7 +30,10 @@ static inline size_t up8(size_t a) { return (a + 7) / 8 * 8; }
 /* Header and name, with the name's 00 and padding. */
 static inline size_t size_before_data(size_t name_length) { return 8 + up8(name_length + 1); }
 
-/* The eight bytes at a, the first lowest. Every thing in an image begins at a multiple of 8, which the image itself need not. */
+/*
+ * The eight bytes at a, the first lowest. All that stands in an image begins at a multiple of 8; the image itself may
+ * begin anywhere.
+ */
 static inline uint64_t word_at(const uint8_t *m, size_t a)
 {
     uint64_t word;

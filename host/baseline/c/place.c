@@ -21,7 +21,7 @@ bool bl_fit(Place *p, size_t size, Spot *spot)
     return true;
 }
 
-/* The head goes on to y. Behind the turn the chain has none left; one that ends at N makes it once there is room for it. */
+/* The head goes on to y. Behind the turn the chain has none left; one that ends at N turns once it may. */
 void bl_move_head(Place *p, const Record *y)
 {
     p->head = y->at;

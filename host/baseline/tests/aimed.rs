@@ -54,8 +54,8 @@ fn different_names(r: &mut Rng, count: usize) -> Vec<Vec<u8>> {
     names
 }
 
-/// A chain of these files, FC and F8, with dead records between; from 0 or across the turn. Gives the image, or none if it
-/// is too short.
+/// A chain of these files, FC and F8, with dead records between; from 0 or across the turn. Gives the image, or none if
+/// it is too short.
 fn chain_of(r: &mut Rng, n: usize, files: &[(Vec<u8>, u8)]) -> Option<Vec<u8>> {
     let mut img = vec![0xFF; n];
     let head = r.of(&[0, 16, floor(n as u64 / 2), floor(n as u64 / 2) + 40, n as u64 - SECTOR]);
@@ -156,7 +156,8 @@ fn bytes_of_names() {
     }
 }
 
-/// A head that a move leaves, dead or superseded, with other superseded files behind it; the chain ends at N, or before.
+/// A head that a move leaves, dead or superseded, with other superseded files behind it; the chain ends at N, or
+/// before.
 fn head_to_leave(r: &mut Rng, n: usize) -> Vec<u8> {
     let mut img = vec![0xFF; n];
     let end = n as u64;

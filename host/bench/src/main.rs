@@ -37,12 +37,9 @@ fn shapes(o: &Options) -> Vec<(Shape, Vec<u8>)> {
 
 fn measure_times(o: &Options, both: &Both) {
     let effort = if o.quick { QUICK } else { WHOLE };
-    println!(
-        "Medians of {} runs, library, plain C and scan by turns, buffers warm; in brackets the least and the most. \
-         Processor time, on {}.",
-        effort.runs,
-        machine()
-    );
+    println!("# Rows of the benchmark\n");
+    println!("Medians of {} runs, with the least and the most; library, plain C and scan by turns.", effort.runs);
+    println!("Processor time, buffers warm; {}. docs/BENCHMARKS.md says what is measured.", machine());
     let shapes = shapes(o);
     let mut rows: Vec<(Kind, Shape, Times)> = Vec::new();
     for &kind in &o.calls {

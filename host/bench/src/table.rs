@@ -25,8 +25,9 @@ fn spread(s: Spread) -> String {
 }
 
 pub fn head(kind: Kind) {
-    println!("\n### {}\n", kind.title());
-    println!("| image | files | filled | library, µs | plain C, µs | scan, µs | library / plain C | library / scan |");
+    println!("\n## {}\n", kind.title());
+    let times = "library, µs | plain C, µs | scan, µs";
+    println!("| image | files | filled | {times} | library / plain C | library / scan |");
     println!("|---|---:|---|---:|---:|---:|---:|---:|");
 }
 
@@ -47,7 +48,7 @@ pub fn row(shape: Shape, t: &Times) {
 
 /// The least and the most of the rows' medians, for each call and size.
 pub fn summary(rows: &[(Kind, Shape, Times)]) {
-    println!("\n### Each call and size: the least and the most of its rows' medians\n");
+    println!("\n## Each call and size: the least and the most of its rows' medians\n");
     println!("| call | image | library / plain C | library / scan | plain C / scan |");
     println!("|---|---|---:|---:|---:|");
     let mut groups: Vec<(Kind, usize)> = rows.iter().map(|(kind, shape, _)| (*kind, shape.n)).collect();

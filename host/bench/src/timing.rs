@@ -139,20 +139,27 @@ impl Bench<'_> {
         })
     }
 
-    /// One call on each copy, over and over. What they wrote is restored between, which isn't counted.
+    /// One call on each copy, over and over; a first time that isn't long warms the buffers up and doesn't count.
     fn run_writing(&mut self, store: &Library, seconds: f64) -> f64 {
         let clock = clock();
-        let (mut took, mut calls) = (0.0, 0);
+        let first = self.call_each(store) - clock;
+        let (mut took, mut times) = if first < seconds { (0.0, 0) } else { (first, 1) };
         while took < seconds {
-            let start = now();
-            for img in &mut self.copies {
-                black_box(store.lend(black_box(img), &self.case.call));
-            }
-            took += (now() - start - clock).max(0.0);
-            calls += self.copies.len();
-            self.copies.iter_mut().for_each(|img| self.undo.restore(img));
+            took += (self.call_each(store) - clock).max(0.0);
+            times += 1;
         }
-        took / calls as f64
+        took / (times * self.copies.len()) as f64
+    }
+
+    /// The time of one call on each copy. What they wrote is restored after it, which isn't counted.
+    fn call_each(&mut self, store: &Library) -> f64 {
+        let start = now();
+        for img in &mut self.copies {
+            black_box(store.lend(black_box(img), &self.case.call));
+        }
+        let took = now() - start;
+        self.copies.iter_mut().for_each(|img| self.undo.restore(img));
+        took
     }
 
     fn scan(&self, seconds: f64) -> f64 {
