@@ -1,23 +1,19 @@
 -- How many FF bytes stand at the front.
 use Prim.Native.Nat.{ℕ, suc, _+_, _≤_, _<_}
 use native.Mathlib.Omega.{arith}
-use native.Mathlib.Numerals.{add-one}
 use mathlib.Core.Path.{_≡_, refl, ap}
 use mathlib.Core.Bool.{Bool, true, false}
 use mathlib.Core.List.{List, [], _∷_}
 use lib.ListN.{length, drop, getD, drop-of-length-le}
-use lib.Seq.{drop-cons}
 use lib.Dec.{eqb}
 use borrow.Author.Tests.{eq-eqb, ne-eqb, eqb-true, eqb-false}
 use Rattle.spec.specs.Basics.{blank}
+use Rattle.laws.specs.Parts.{drop-next}
 
 -- the place of the first byte that is not FF, or the length
 unfoldable pub blank-run : List ℕ → ℕ
 blank-run [] = 0
 blank-run (x ∷ s) = elim (eqb x 0xFF) [ true ↦ suc (blank-run s) | false ↦ 0 ]
-
-drop-next : (s : List ℕ) (i : ℕ) → i < length s → drop i s ≡ getD s i 0 ∷ drop (i + 1) s
-drop-next s i h = rw (add-one, drop-cons s i 0)
 
 -- at a byte that is FF, at one that is not, and at the end
 pub run-on : (s : List ℕ) (i : ℕ) → i < length s → getD s i 0 ≡ 0xFF → blank-run (drop i s) ≡ blank-run (drop (i + 1) s) + 1

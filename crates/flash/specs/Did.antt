@@ -1,16 +1,17 @@
 -- What a function that writes did: a list of steps, as many of them as the allowance let through.
 use Prim.Native.Nat.{ℕ, zero, suc, _+_, _-_, _≤_, _<_}
 use native.Mathlib.Omega.{arith}
-use native.Mathlib.Nat.{add-zero, sub-zero, zero-sub}
-use mathlib.Core.Path.{_≡_, refl, sym, ap, ap₂, _∙_}
+use native.Mathlib.Nat.{add-zero}
+use mathlib.Core.Path.{_≡_, refl, sym, ap, _∙_}
 use mathlib.Core.Logic.{_⊎_, inl, inr, ⊎-elim}
-use mathlib.Core.List.{List, [], _∷_, _++_, append-nil, append-assoc}
-use lib.ListN.{length, take, drop, set, length-append, take-append-drop, drop-of-length-le, length-drop}
-use lib.Seq.{length-take-le, take-nil, take-all, take-append-add, drop-append-add}
+use mathlib.Core.List.{List, [], _∷_, _++_, append-nil}
+use lib.ListN.{length, take, drop, length-append, drop-of-length-le, length-drop}
+use lib.Seq.{take-nil, take-all}
 use borrow.Rule.Slice.PartMut.{putMid}
 use borrow.Rule.Slice.PartAt.{part-to-end}
-use Rattle.spec.specs.Step.{Image, Step, program, erase, sector, apply, run, moved}
+use Rattle.spec.specs.Step.{Image, Step, apply, run, shifted}
 use Rattle.flash.specs.declared.Meter.{Meter}
+use Rattle.laws.specs.Steps.{run-cut, take-shifted, length-shifted, run-part}
 
 -- from the image s and the meter m, the steps ss gave the image t and the meter r
 pub record Did (s : Image) (m : Meter) (ss : List Step) (t : Image) (r : Meter) : Type 0 where
@@ -38,13 +39,6 @@ did-one {s} {t} {m} {r} {x} d =
 
 -- ---- phases
 
-run-cut : (s : Image) (k : ℕ) (a b : List Step) → run s (take k (a ++ b)) ≡ run (run s (take k a)) (take (k - length a) b)
-run-cut s k [] b = rw (take-nil, sub-zero k)
-run-cut s zero (x ∷ a) b = rw zero-sub
-run-cut s (suc k) (x ∷ a) b =
-    let e : k - length a ≡ suc k - suc (length a) = omega arith in
-    run-cut (apply s x) k a b ∙ ap (λ (i : ℕ). run (run (apply s x) (take k a)) (take i b)) e
-
 pub did-none : (s : Image) (m : Meter) → Did s m [] s m
 did-none s m = record { bytes = ap (run s) (sym (take-nil (m .allowance - m .asked))); count = sym (add-zero (m .asked)); same = refl }
 
@@ -68,48 +62,19 @@ did-all {s} {t} {m} {r} {ss} d h =
 
 -- ---- a part that begins at address a
 
-take-moved : (k a : ℕ) (ss : List Step) → take k (moved a ss) ≡ moved a (take k ss)
-take-moved zero a ss = refl
-take-moved (suc k) a [] = refl
-take-moved (suc k) a (program i b ∷ ss) = ap (λ (l : List Step). program (a + i) b ∷ l) (take-moved k a ss)
-take-moved (suc k) a (erase i ∷ ss) = ap (λ (l : List Step). erase (a + i) ∷ l) (take-moved k a ss)
-
-pub length-moved : (a : ℕ) (ss : List Step) → length (moved a ss) ≡ length ss
-length-moved a [] = refl
-length-moved a (program i b ∷ ss) = ap suc (length-moved a ss)
-length-moved a (erase i ∷ ss) = ap suc (length-moved a ss)
-
-pub set-past : (p q : List ℕ) (i b : ℕ) → set (p ++ q) (length p + i) b ≡ p ++ set q i b
-set-past [] q i b = let e : 0 + i ≡ i = omega arith in rw e
-set-past (x ∷ p) q i b =
-    let e : suc (length p) + i ≡ suc (length p + i) = omega arith in
-    rw e (ap (λ (l : List ℕ). x ∷ l) (set-past p q i b))
-
-erase-past : (p q : List ℕ) (i : ℕ) → apply (p ++ q) (erase (length p + i)) ≡ p ++ apply q (erase i)
-erase-past p q i = rw (take-append-add, drop-append-add) (append-assoc p (take i q) (sector ++ drop 4096 (drop i q)))
-
-run-past : (p q : List ℕ) (ss : List Step) → run (p ++ q) (moved (length p) ss) ≡ p ++ run q ss
-run-past p q [] = refl
-run-past p q (program i b ∷ ss) = ap (λ (l : List ℕ). run l (moved (length p) ss)) (set-past p q i b) ∙ run-past p (set q i b) ss
-run-past p q (erase i ∷ ss) = ap (λ (l : List ℕ). run l (moved (length p) ss)) (erase-past p q i) ∙ run-past p (apply q (erase i)) ss
-
-run-part : (s : Image) (a : ℕ) (ss : List Step) → a ≤ length s → run s (moved a ss) ≡ take a s ++ run (drop a s) ss
-run-part s a ss h =
-    ap₂ (λ (l : List ℕ) (n : ℕ). run l (moved n ss)) (sym (take-append-drop a s)) (sym (length-take-le a s h)) ∙ run-past (take a s) (drop a s) ss
-
 did-part : (s : Image) (a : ℕ) {t : Image} {m r : Meter} {ss : List Step} → a ≤ length s → Did (drop a s) m ss t r
-    → Did s m (moved a ss) (take a s ++ t) r
+    → Did s m (shifted a ss) (take a s ++ t) r
 did-part s a {t} {m} {r} {ss} h d =
     let k : ℕ = m .allowance - m .asked in
     record {
-      bytes = ap (λ (l : List ℕ). take a s ++ l) (d .bytes) ∙ sym (ap (run s) (take-moved k a ss) ∙ run-part s a (take k ss) h);
-      count = d .count ∙ ap (λ (i : ℕ). m .asked + i) (sym (length-moved a ss));
+      bytes = ap (λ (l : List ℕ). take a s ++ l) (d .bytes) ∙ sym (ap (run s) (take-shifted k a ss) ∙ run-part s a (take k ss) h);
+      count = d .count ∙ ap (λ (i : ℕ). m .asked + i) (sym (length-shifted a ss));
       same = d .same;
     }
 
 -- what was done to the part lent as `&mut s[a..]`, as steps of the whole
 pub did-tail : (s : Image) (a : ℕ) {t : Image} {m r : Meter} {ss : List Step} → a ≤ length s
-    → Did (take (length s - a) (drop a s)) m ss t r → Did s m (moved a ss) (putMid a (length s - a) s t) r
+    → Did (take (length s - a) (drop a s)) m ss t r → Did s m (shifted a ss) (putMid a (length s - a) s t) r
 did-tail s a {t} {m} {r} {ss} h d =
     let e : drop (length s - a) (drop a s) ≡ [] = drop-of-length-le (drop a s) {i = length s - a} (omega (arith, length-drop a s)) in
     rw (e, append-nil t) (did-part s a h (rw (part-to-end s a) at d))

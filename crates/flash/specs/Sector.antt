@@ -7,7 +7,7 @@ use mathlib.Core.List.{List, [], _∷_, _++_}
 use lib.ListN.{length, take, drop, set, replicate, take-append-drop, length-append, length-replicate, length-drop}
 use lib.Seq.{length-take-le}
 use Rattle.spec.specs.Step.{Image, erase, sector, apply}
-use Rattle.flash.specs.Did.{set-past}
+use Rattle.laws.specs.Steps.{set-past}
 
 -- s with FF in the first i bytes from address a on
 unfoldable pub erased : Image → ℕ → ℕ → Image

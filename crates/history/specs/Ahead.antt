@@ -18,17 +18,20 @@ use Rattle.spec.specs.Place.{fits, fits-all, place-after, address}
 use Rattle.spec.specs.Write.{put-steps}
 use Rattle.spec.specs.Move.{Work, begin, reread, close-steps, moved-on, move}
 use Rattle.spec.specs.History.{Ledger}
-use Rattle.history.specs.Lists.{keep-yes, keep-no, each-map}
+use Rattle.laws.specs.Lists.{keep-yes, keep-no}
+use Rattle.history.specs.Lists.{each-map}
 use Rattle.history.specs.Store.{alive, live-alive}
 use Rattle.history.specs.Kinds.{Ok, Rested}
-use Rattle.history.specs.Settled.{after-none, after-some}
+use Rattle.history.specs.Settled.{after-some}
 use Rattle.history.specs.Vacant.{relow-alive, relowed}
 use Rattle.history.specs.PutOld.{gone, gone-dead}
 use Rattle.history.specs.Places.{all-fit, fits-all-is, Some, lands-fit, fit-first, fit-next}
 use Rattle.history.specs.Put.{file}
 use Rattle.history.specs.Copying.{copy-some, copied}
 use Rattle.history.specs.Landing.{Led, replaced-led, put-length, handed-reads, handed-length}
-use Rattle.history.specs.Sweeps.{two-on, copy-live, copy-dead, move-by}
+use Rattle.history.specs.Sweeps.{two-on, move-by}
+use Rattle.laws.specs.Sweep.{copy-live, copy-dead}
+use Rattle.laws.specs.Settled.{after-idle}
 
 -- ---- what is ahead
 
@@ -136,8 +139,8 @@ module _ {l : Ledger} {im : Image} {r : Reading} (q : Rested l im r) (x y : Entr
       → Ahead (suc (length front)) (move (begin im r) .reading)
   dead-ahead a f =
       subst (λ (w : Work). Ahead (suc (length front)) (w .reading))
-      (sym (move-by im r (x ∷ es) [] (begin im r) entries-is (copy-dead r x es (rest-ok x es ok ∙ a))
-      (after-none (begin im r) (r .place .head))))
+      (sym (move-by im r (x ∷ es) [] (begin im r) entries-is (copy-dead r x es refl (rest-ok x es ok ∙ a))
+      (after-idle (begin im r) (r .place .head) [] refl)))
       (hand-ahead (begin im r) q x y front rest i a there
       (sym (ap (λ (p : Place). all-fit (floor (p .head)) (p .length) (p .tail) (p .turned) (live-sizes (y ∷ front)))
       (ap (λ (y : Reading). y .place) (q .is)))
@@ -171,6 +174,6 @@ module _ {l : Ledger} {im : Image} {r : Reading} (q : Rested l im r) (x y : Entr
       ap (λ (z : Reading). all-fit (floor (z .place .head)) (length J) (z .place .tail) (z .place .turned) (live-sizes (y ∷ front))) R
       ∙ e₁ in
       subst (λ (v : Work). Ahead (suc (length front)) (v .reading))
-      (sym (move-by im r (x ∷ es) ss w entries-is (copy-live r x es (rest-ok x es ok ∙ a))
+      (sym (move-by im r (x ∷ es) ss w entries-is (copy-live r x es refl (rest-ok x es ok ∙ a))
       (after-some (begin im r) ss (r .place .head) (copy-some q x es i a room))))
       (hand-ahead w p (gone x) y front (rest ++ (new ∷ [])) j (gone-dead x) t e₂)

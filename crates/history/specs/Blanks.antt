@@ -1,4 +1,4 @@
--- Runs of FF, the bytes of erased flash: in parts, in front of other bytes, and the test that finds them blank.
+-- Runs of FF, the bytes of erased flash: in parts, in front of other bytes, written over, and the test that finds them blank.
 use Prim.Native.Nat.{ℕ, zero, suc, _+_, _-_, _≤_}
 use native.Mathlib.Nat.{not-suc-le-zero, le-of-suc-le-suc}
 use native.Mathlib.Omega.{arith}
@@ -6,10 +6,12 @@ use mathlib.Core.Path.{_≡_, refl, sym, ap, ap₂, _∙_}
 use mathlib.Core.Bool.{Bool, true, false}
 use mathlib.Core.List.{List, [], _∷_, _++_, append-assoc}
 use lib.ListN.{length, take, drop, replicate, length-replicate, replicate-append-replicate}
-use lib.Seq.{drop-at}
+use lib.Seq.{drop-at, length-take-le}
 use lib.Dec.{eqb}
 use borrow.Author.Tests.{eqb-true}
+use Rattle.spec.specs.Step.{run, bytes-at}
 use Rattle.spec.specs.Basics.{blank}
+use Rattle.laws.specs.Steps.{take-bytes, write-over}
 
 -- k bytes of FF
 abbrev pub blanks : ℕ → List ℕ
@@ -38,6 +40,13 @@ take-blanks (suc j) (suc m) s h = ap (λ (l : List ℕ). 0xFF ∷ l) (take-blank
 -- past all of them
 pub drop-blanks : (k : ℕ) (s : List ℕ) → drop k (blanks k ++ s) ≡ s
 drop-blanks k s = drop-at (blanks k) s k (length-replicate k 0xFF)
+
+-- j bytes written over FF
+pub write-blank : (p w s : List ℕ) (a j m k : ℕ) → length p ≡ a → j ≤ length w → k ≡ j + m
+    → run (p ++ (blanks k ++ s)) (take j (bytes-at a w)) ≡ p ++ (take j w ++ (blanks m ++ s))
+write-blank p w s a j m k e h l =
+    rw (take-bytes j a w, blank-split j m k l, append-assoc (blanks j) (blanks m) s)
+    (write-over p (blanks j) (take j w) (blanks m ++ s) a e (length-replicate j 0xFF ∙ sym (length-take-le j w h)))
 
 -- ---- the test
 

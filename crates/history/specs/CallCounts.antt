@@ -2,24 +2,26 @@
 use Prim.Native.Nat.{ℕ, _/_, _≤_}
 use native.Mathlib.Omega.{arith}
 use mathlib.Core.Path.{_≡_, refl, ap, subst}
-use mathlib.Core.Bool.{Bool, true, false, _&&_}
+use mathlib.Core.Bool.{Bool, true, false}
 use mathlib.Core.Option.{Option, none, some}
 use mathlib.Core.List.{List, map}
 use lib.ListN.{length, take, length-append}
 use Rattle.spec.specs.Step.{Image, erase}
-use Rattle.spec.specs.Basics.{Answer, refuse, give, checked, onward}
+use Rattle.spec.specs.Basics.{Answer, give, checked, numbered}
 use Rattle.spec.specs.Geometry.{good-length, sectors}
-use Rattle.spec.specs.Record.{name-ok, Entry}
-use Rattle.spec.specs.Chain.{Reading}
+use Rattle.spec.specs.Record.{Entry}
 use Rattle.spec.specs.Files.{file-named}
 use Rattle.spec.specs.Write.{first-steps, format-steps}
-use Rattle.spec.specs.Answers.{Plan, doing, carry-out, found, file-of, removing, file-plan, remove-plan, format-plan, settled-reading}
+use Rattle.spec.specs.Answers.{Plan, doing, carry-out, found, file-of, removing, file-plan, remove-plan, format-plan}
+use Rattle.spec.specs.Door.{admitted-named}
 use Rattle.spec.specs.History.{steps-of}
 use Rattle.spec.specs.Bounds.{At-most, Remove-exact, Remove-bound, Remove-kinds, format-count, Format-exact, Format-bound, Format-kinds}
-use Rattle.history.specs.Erase.{good-is, erases, sectors-are, length-erases}
+use Rattle.history.specs.Erase.{erases, sectors-are, length-erases}
 use Rattle.history.specs.StepCounts.{most-append, most-more, most-programs, most-erases}
 use Rattle.history.specs.RepairCounts.{sectors-few}
 use Rattle.history.specs.Used.{used-bound, used-kinds}
+use Rattle.laws.specs.Answer.{gave}
+use Rattle.laws.specs.Length.{good}
 
 -- a plan whose own count is the length of its list: n steps, of which at most p program a byte and e erase a sector
 record Counts (n p e : ℕ) (q : Plan) : Type 0 where
@@ -42,14 +44,11 @@ found-counts q (some x) e =
     let i : removing x ≡ q = cc in
     subst (Counts 1 1 0) i (record { own = refl; exact = refl; kinds = most-programs (removing x .steps) tt (omega arith) })
 
-remove-by : (n : List ℕ) (q : Plan) (b : Bool) (a : Answer Reading) → checked b 22 (onward a (file-of n removing)) ≡ give q → Counts 1 1 0 q
-remove-by n q false a e = absurd (let z : _≡_ {A = ℕ} 0 1 = cc in omega arith)
-remove-by n q true (refuse k) e = absurd (let z : _≡_ {A = ℕ} 0 1 = cc in omega arith)
-remove-by n q true (give r) e = found-counts q (file-named n (r .entries)) e
-
 remove-counts : (n : List ℕ) (im : Image) (q : Plan) → remove-plan n im ≡ give q → Counts 1 1 0 q
 unfolding remove-plan file-plan
-remove-counts n im q e = remove-by n q (good-length (length im) && name-ok n) (settled-reading im) e
+remove-counts n im q e =
+    let g = gave (admitted-named n im) (file-of n removing) q e in
+    found-counts q (file-named n (g .value .entries)) (g .on)
 
 pub remove-exact : Remove-exact
 remove-exact n im q e = remove-counts n im q e .exact
@@ -65,7 +64,7 @@ remove-kinds n im m = kinds 1 1 0 (remove-plan n im) (remove-counts n im) m
 format-length : (N : ℕ) → good-length N ≡ true → length (format-steps N) ≡ format-count N
 unfolding format-steps
 format-length N g =
-    let e : map erase (sectors 0 N) ≡ erases 0 (N / 4096) = sectors-are (N / 4096) 0 N (omega (arith, good-is N g .0)) in
+    let e : map erase (sectors 0 N) ≡ erases 0 (N / 4096) = sectors-are (N / 4096) 0 N (omega (arith, good N g .sectors)) in
     omega (arith, length-append (map erase (sectors 0 N)) first-steps, ap length e, length-erases 0 (N / 4096))
 
 format-most : (N : ℕ) → At-most 8 (N / 4096) (format-steps N)
@@ -77,10 +76,10 @@ format-most N =
     (omega arith) (omega arith)
 
 format-by : (im : Image) (q : Plan) (b : Bool) → good-length (length im) ≡ b
-    → checked b 22 (give (doing (format-steps (length im)) 0 0 0)) ≡ give q → Counts (format-count (length im)) 8 (length im / 4096) q
+    → checked b (numbered 22) (give (doing (format-steps (length im)))) ≡ give q → Counts (format-count (length im)) 8 (length im / 4096) q
 format-by im q false g e = absurd (let z : _≡_ {A = ℕ} 0 1 = cc in omega arith)
 format-by im q true g e =
-    let i : doing (format-steps (length im)) 0 0 0 ≡ q = cc in
+    let i : doing (format-steps (length im)) ≡ q = cc in
     subst (Counts (format-count (length im)) 8 (length im / 4096)) i
     (record { own = refl; exact = format-length (length im) g; kinds = format-most (length im) })
 

@@ -14,16 +14,16 @@ use Rattle.history.specs.StraightEdit.{sizes-append, fine-append, fine-l
 
 module _ {A : Type 0} where
   -- where an element of two lists, one behind the other, stands
-  pub data Found (ps qs xs : List A) (e : A) (ys : List A) : Type 0 where
-    in-first : (zs : List A) → ps ≡ xs ++ (e ∷ zs) → ys ≡ zs ++ qs → Found ps qs xs e ys
-    in-second : (zs : List A) → xs ≡ ps ++ zs → qs ≡ zs ++ (e ∷ ys) → Found ps qs xs e ys
+  pub data Split (ps qs xs : List A) (e : A) (ys : List A) : Type 0 where
+    in-first : (zs : List A) → ps ≡ xs ++ (e ∷ zs) → ys ≡ zs ++ qs → Split ps qs xs e ys
+    in-second : (zs : List A) → xs ≡ ps ++ zs → qs ≡ zs ++ (e ∷ ys) → Split ps qs xs e ys
 
-  found-on : {a x e : A} {ps qs xs ys : List A} → a ≡ x → Found ps qs xs e ys → Found (a ∷ ps) qs (x ∷ xs) e ys
+  found-on : {a x e : A} {ps qs xs ys : List A} → a ≡ x → Split ps qs xs e ys → Split (a ∷ ps) qs (x ∷ xs) e ys
   found-on p (in-first zs q r) = in-first zs (ap₂ (λ (b : A) (l : List A). b ∷ l) p q) r
   found-on p (in-second zs q r) = in-second zs (ap₂ (λ (b : A) (l : List A). b ∷ l) (sym p) q) r
 
   -- it stands in the first or in the second
-  pub find : (ps qs xs ys : List A) (e : A) → ps ++ qs ≡ xs ++ (e ∷ ys) → Found ps qs xs e ys
+  pub find : (ps qs xs ys : List A) (e : A) → ps ++ qs ≡ xs ++ (e ∷ ys) → Split ps qs xs e ys
   find [] qs xs ys e h = in-second xs refl h
   find (a ∷ ps) qs [] ys e h = in-first ps (ap (λ (b : A). b ∷ ps) (cons-first h)) (sym (cons-rest h))
   find (a ∷ ps) qs (x ∷ xs) ys e h = found-on (cons-first h) (find ps qs xs ys e (cons-rest h))

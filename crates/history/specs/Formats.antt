@@ -1,5 +1,5 @@
 -- A finished format leaves a quiet image with no files: the start of every history.
-use Prim.Native.Nat.{ℕ, _+_, _-_, _*_, _/_, _%_, _≤_}
+use Prim.Native.Nat.{ℕ, _+_, _-_, _*_, _/_, _≤_}
 use native.Mathlib.Omega.{arith}
 use mathlib.Core.Path.{_≡_, refl, sym, ap, ap₂, _∙_, subst}
 use mathlib.Core.Bool.{Bool, true, false}
@@ -9,18 +9,20 @@ use lib.Seq.{drop-length}
 use lib.Dec.{leb}
 use borrow.Author.Tests.{leb-true, leb-false}
 use Rattle.spec.specs.Step.{Image, erase, run}
-use Rattle.spec.specs.Basics.{Answer, refuse, give, checked}
+use Rattle.spec.specs.Basics.{Answer, refuse, give, checked, numbered}
 use Rattle.spec.specs.Geometry.{good-length, sectors}
 use Rattle.spec.specs.Record.{Rec, Entry}
 use Rattle.spec.specs.Files.{named}
 use Rattle.spec.specs.Write.{first-steps, format-steps}
-use Rattle.spec.specs.Answers.{Plan, Outcome, doing, carry-out, format-plan, format}
+use Rattle.spec.specs.Answers.{Plan, doing, carry-out, format-plan, format}
+use Rattle.spec.specs.Numbers.{Outcome}
 use Rattle.history.specs.Blanks.{blanks, blank-split}
 use Rattle.history.specs.Store.{alive}
 use Rattle.history.specs.Lay.{onto, lay, length-lay, low-start, st-00}
-use Rattle.history.specs.Steps.{run-append}
+use Rattle.laws.specs.Steps.{run-append}
+use Rattle.laws.specs.Length.{Good, good}
 use Rattle.history.specs.Markless.{markless-blanks}
-use Rattle.history.specs.Erase.{erase-run, sectors-are, good-is}
+use Rattle.history.specs.Erase.{erase-run, sectors-are}
 use Rattle.history.specs.Seg.{seg-none}
 use Rattle.history.specs.Straight.{Straight}
 use Rattle.history.specs.Laid.{laid-straight, tail-clear}
@@ -99,12 +101,11 @@ fresh-inv f one g =
 
 whole-inv : (raw : Image) → good-length (length raw) ≡ true → Inv [] (run raw (format-steps (length raw)))
 whole-inv raw g =
-    let N : ℕ = length raw in
-    let p : (N % 4096 ≡ 0) × (8192 ≤ N) × (N ≤ 16777216) = good-is (length raw) g in
+    let p : Good (length raw) = good (length raw) g in
     let f : ℕ = (length raw - 16) / 8 in
-    let e : length raw ≡ 4096 * (length raw / 4096) = omega (arith, p .0) in
-    let h : length raw ≡ 16 + 8 * f = omega (arith, p .0, p .1) in
-    subst (Inv []) (sym (format-run raw (length raw / 4096) f e h)) (fresh-inv f (omega (arith, p .1)) (ap good-length (sym h) ∙ g))
+    let e : length raw ≡ 4096 * (length raw / 4096) = omega (arith, p .sectors) in
+    let h : length raw ≡ 16 + 8 * f = omega (arith, p .sectors, p .two) in
+    subst (Inv []) (sym (format-run raw (length raw / 4096) f e h)) (fresh-inv f (omega (arith, p .two)) (ap good-length (sym h) ∙ g))
 
 answer-of : {o u : Outcome} → o ≡ u → o .numbers .answer ≡ 0 → u .numbers .answer ≡ 0
 answer-of e a = sym (ap (λ (x : Outcome). x .numbers .answer) e) ∙ a
@@ -117,13 +118,13 @@ done-image raw k p e = go (leb (length (p .steps)) k) refl
     go true h = ap (λ (x : Outcome). x .image) (carried-done raw k p (leb-true (length (p .steps)) k h))
     go false h = absurd (let z : _≡_ {A = ℕ} 4 0 = answer-of (carried-cut raw k p (leb-false (length (p .steps)) k h)) e in omega arith)
 
-refused : (raw : Image) (k n : ℕ) → carry-out raw k (refuse n) .numbers .answer ≡ n
+refused : (raw : Image) (k n : ℕ) → carry-out raw k (refuse (numbered n)) .numbers .answer ≡ n
 unfolding carry-out
 refused raw k n = refl
 
-plan-is : (raw : Image) (b : Bool) → good-length (length raw) ≡ b → format-plan raw ≡ checked b 22 (give (doing (format-steps (length raw)) 0 0 0))
+plan-is : (raw : Image) (b : Bool) → good-length (length raw) ≡ b → format-plan raw ≡ checked b (numbered 22) (give (doing (format-steps (length raw))))
 unfolding format-plan
-plan-is raw b e = ap (λ (c : Bool). checked c 22 (give (doing (format-steps (length raw)) 0 0 0))) e
+plan-is raw b e = ap (λ (c : Bool). checked c (numbered 22) (give (doing (format-steps (length raw))))) e
 
 -- the start of every history
 pub formatted : (raw : Image) (k : ℕ) → format raw k .numbers .answer ≡ 0 → Inv [] (format raw k .image)
@@ -134,7 +135,7 @@ formatted raw k e = go (good-length (length raw)) refl
 
     go : (b : Bool) → good-length (length raw) ≡ b → Inv [] (format raw k .image)
     go true g =
-        let P : Plan = doing (format-steps (length raw)) 0 0 0 in
+        let P : Plan = doing (format-steps (length raw)) in
         let i : format-plan raw ≡ give P = plan-is raw true g in
         subst (Inv []) (sym (ap (λ (x : Answer Plan). carry-out raw k x .image) i ∙ done-image raw k P (at (give P) i))) (whole-inv raw g)
-    go false g = absurd (let z : _≡_ {A = ℕ} 22 0 = sym (refused raw k 22) ∙ at (refuse 22) (plan-is raw false g) in omega arith)
+    go false g = absurd (let z : _≡_ {A = ℕ} 22 0 = sym (refused raw k 22) ∙ at (refuse (numbered 22)) (plan-is raw false g) in omega arith)

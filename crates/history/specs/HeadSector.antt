@@ -11,7 +11,8 @@ use Rattle.spec.specs.Step.{Image}
 use Rattle.spec.specs.Basics.{Each, keep}
 use Rattle.spec.specs.Geometry.{floor}
 use Rattle.spec.specs.Record.{Rec, Entry}
-use Rattle.history.specs.Lists.{keep-yes, keep-append, keep-none}
+use Rattle.laws.specs.Lists.{keep-yes}
+use Rattle.history.specs.Lists.{keep-append, keep-none}
 use Rattle.history.specs.Lay.{rsize, sizes, entries-of}
 use Rattle.history.specs.Seg.{seg-none}
 use Rattle.history.specs.Laid.{Laid, laid-straight, laid-turned}

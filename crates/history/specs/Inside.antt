@@ -5,87 +5,25 @@ use mathlib.Core.Path.{_≡_, refl, _∙_, subst}
 use mathlib.Core.Bool.{Bool, true, false}
 use mathlib.Core.List.{List, [], _∷_, _++_}
 use lib.ListN.{length, take, drop, set, length-drop, length-take, length-set}
-use lib.Dec.{eqb, ltb}
-use Rattle.spec.specs.declared.Kind.{Kind}
+use lib.Dec.{eqb}
 use Rattle.spec.specs.declared.Next.{Next}
 use Rattle.spec.specs.Step.{Image, Step, program, erase, apply, run}
-use Rattle.spec.specs.Basics.{Answer, refuse, give, checked, onward, Each, long, blank}
+use Rattle.spec.specs.Basics.{refuse, give, Each, numbered}
 use Rattle.spec.specs.Bytes.{is-unfinished}
 use Rattle.spec.specs.Geometry.{floor, up8}
-use Rattle.spec.specs.Record.{size-of, name-length, data-len-of, low-of, high-of, status-of, spare-of, rec-of, Entry, size}
-use Rattle.spec.specs.Next.{next, next-at, kind, sized, torn-at, torn-wrap-at, clear-at}
-use Rattle.spec.specs.Chain.{Chain, add, stop, allowed, chain, from-head, from-zero}
-use Rattle.spec.specs.Chain.{Reading, unturned, turned, turn-torn, joined, read-on, reading-from}
+use Rattle.spec.specs.Record.{size-of, status-of, rec-of, Entry, size}
+use Rattle.spec.specs.Next.{next}
+use Rattle.spec.specs.Chain.{Chain, add, stop, allowed, chain, from-head, from-zero, Reading, read-straight, read-turned, turn-torn, joined, read-on, reading-from}
 use Rattle.spec.specs.Head.{head}
 use Rattle.spec.specs.Reading.{legal, judged, read-at, reading}
 use Rattle.spec.specs.Mount.{settled}
-use Rattle.spec.specs.Answers.{if-settled, settled-reading}
+use Rattle.spec.specs.Door.{settled-reading}
 use Rattle.history.specs.Lists.{each-append}
-use Rattle.history.specs.Steps.{Programs}
+use Rattle.laws.specs.Steps.{Programs}
 use Rattle.history.specs.Erase.{erases-length}
-
--- ---- what stands at the front of a list of l bytes
-
-abbrev Fits : Next → ℕ → Type 0
-Fits (Next.Record n d) l = size-of n d ≤ l
-Fits Next.Wrap l = Unit {0}
-Fits Next.TornWrap l = Unit {0}
-Fits Next.Clear l = Unit {0}
-Fits Next.Over l = Unit {0}
-Fits Next.Bad l = Unit {0}
-
-long-is : (k : ℕ) (s : List ℕ) → long k s ≡ true → k ≤ length s
-unfolding long
-long-is zero s h = omega arith
-long-is (suc k) [] h = absurd (let z : _≡_ {A = ℕ} 0 1 = cc in omega arith)
-long-is (suc k) (x ∷ s) h = let q = long-is k s h in omega arith
-
-module _ (s : List ℕ) where
-  sized-fits : (n d : ℕ) (t u : Bool) → ltb n 64 ≡ t → long (size-of n d) s ≡ u → Fits (sized s n d) (length s)
-  unfolding sized
-  sized-fits n d true true e f = rw (sized, e, f) (long-is (size-of n d) s f)
-  sized-fits n d true false e f = rw (sized, e, f) tt
-  sized-fits n d false u e f = rw (sized, e) tt
-
-  torn-fits : (t : Bool) → long 16 s ≡ t → Fits (torn-at s) (length s)
-  unfolding torn-at
-  torn-fits true e = rw (torn-at, e) (long-is 16 s e)
-  torn-fits false e = rw (torn-at, e) tt
-
-  torn-wrap-fits : (t : Bool) → blank (drop 3 s) ≡ t → Fits (torn-wrap-at s) (length s)
-  unfolding torn-wrap-at
-  torn-wrap-fits true e = rw (torn-wrap-at, e) tt
-  torn-wrap-fits false e = rw (torn-wrap-at, e) tt
-
-  clear-fits : (t : Bool) → blank (take 8 s) ≡ t → Fits (clear-at s) (length s)
-  unfolding clear-at
-  clear-fits true e = rw (clear-at, e) tt
-  clear-fits false e = rw (clear-at, e) tt
-
-  next-at-fits : (k : Kind) → Fits (next-at k s) (length s)
-  unfolding next-at
-  next-at-fits Kind.Record = sized-fits (name-length 64 false (drop 8 s)) (data-len-of s) _ _ refl refl
-  next-at-fits Kind.Reserved = sized-fits (name-length 64 true (drop 8 s)) (data-len-of s) _ _ refl refl
-  next-at-fits Kind.Torn = torn-fits _ refl
-  next-at-fits Kind.Marker = tt
-  next-at-fits Kind.TornMarker = torn-wrap-fits _ refl
-  next-at-fits Kind.Clear = clear-fits _ refl
-  next-at-fits Kind.Bad = tt
-
-  next-fits : (t u : Bool) → long 1 s ≡ t → long 8 s ≡ u → Fits (next s) (length s)
-  unfolding next
-  next-fits false u e f = rw (next, e) tt
-  next-fits true false e f = rw (next, e, f) tt
-  next-fits true true e f = rw (next, e, f) (next-at-fits (kind (low-of s) (high-of s) (status-of s) (spare-of s)))
-
-allowed-fits : (held : Bool) (x : Next) (l : ℕ) → Fits x l → Fits (allowed held x) l
-allowed-fits false x l f = f
-allowed-fits true (Next.Record n d) l f = tt
-allowed-fits true Next.Wrap l f = tt
-allowed-fits true Next.TornWrap l f = tt
-allowed-fits true Next.Clear l f = tt
-allowed-fits true Next.Over l f = tt
-allowed-fits true Next.Bad l f = tt
+use Rattle.laws.specs.Answer.{gave, passed}
+use Rattle.laws.specs.Door.{settled-gives}
+use Rattle.laws.specs.Fits.{Fits, allowed-fits}
 
 -- ---- the chain
 
@@ -96,12 +34,12 @@ Within N e = e .at + size e ≤ N
 rec-size : (s : List ℕ) (at n d : ℕ) → size (record { at = at; it = rec-of s n d }) ≤ size-of n d
 rec-size s at n d = omega (arith, length-take n (drop 8 s), length-take d (drop (up8 (n + 1)) (drop 8 s)))
 
-chain-within : (k : ℕ) (held : Bool) (at : ℕ) (s : List ℕ) (N : ℕ) → (1 ≤ length s → at + length s ≤ N)
-    → Each (Within N) (chain k held at s .entries)
+chain-within : (k : ℕ) (pending : Bool) (at : ℕ) (s : List ℕ) (N : ℕ) → (1 ≤ length s → at + length s ≤ N)
+    → Each (Within N) (chain k pending at s .entries)
 unfolding chain
-chain-within zero held at s N h = tt
-chain-within (suc k) held at s N h =
-    go (allowed held (next s)) (allowed-fits held (next s) (length s) (next-fits s _ _ refl refl))
+chain-within zero pending at s N h = tt
+chain-within (suc k) pending at s N h =
+    go (allowed pending (next s)) (allowed-fits pending s)
     (λ n d. chain-within k (is-unfinished (status-of s)) (at + size-of n d) (drop (size-of n d) s) N)
   where
     go : (x : Next) → Fits x (length s)
@@ -110,11 +48,11 @@ chain-within (suc k) held at s N h =
         Each (Within N) ((elim x as (λ y. Chain) [
           | Next.Record n d ↦
               add (record { at = at; it = rec-of s n d }) (chain k (is-unfinished (status-of s)) (at + size-of n d) (drop (size-of n d) s))
-          | Next.Wrap ↦ stop held at Next.Wrap
-          | Next.TornWrap ↦ stop held at Next.TornWrap
-          | Next.Clear ↦ stop held at Next.Clear
-          | Next.Over ↦ stop held at Next.Over
-          | Next.Bad ↦ stop held at Next.Bad
+          | Next.Wrap ↦ stop pending at Next.Wrap
+          | Next.TornWrap ↦ stop pending at Next.TornWrap
+          | Next.Clear ↦ stop pending at Next.Clear
+          | Next.Over ↦ stop pending at Next.Over
+          | Next.Bad ↦ stop pending at Next.Bad
         ]) .entries)
     go (Next.Record n d) f ih =
         let inside : at + length s ≤ N = h (omega arith) in (
@@ -139,9 +77,9 @@ module _ (im : Image) (h : ℕ) where
   high-within : Each (Within (length im)) (from-head im h .entries)
   high-within = chain-within (suc (length im)) false h (drop h im) (length im) (λ z. omega (arith, length-drop h im))
 
-  low-within : (held : Bool) → Each (Within (length im)) (from-zero im h held .entries)
-  low-within held =
-      chain-within (suc (length im)) held 0 (take (floor h) im) (length im) (λ z. omega (arith, length-take (floor h) im))
+  low-within : (pending : Bool) → Each (Within (length im)) (from-zero im h pending .entries)
+  low-within pending =
+      chain-within (suc (length im)) pending 0 (take (floor h) im) (length im) (λ z. omega (arith, length-take (floor h) im))
 
   -- before the turn and behind it
   joined-seen : (c d : Chain) → Each (Within (length im)) (c .entries) → Each (Within (length im)) (d .entries)
@@ -149,19 +87,19 @@ module _ (im : Image) (h : ℕ) where
   unfolding joined
   joined-seen c d p q = go (c .last)
     where
-      alone : Seen (length im) im (unturned (length im) h c)
+      alone : Seen (length im) im (read-straight (length im) h c)
       alone = record { same = refl; length-read = refl; within = p }
 
-      both : Seen (length im) im (turned (length im) h c d)
+      both : Seen (length im) im (read-turned (length im) h c d)
       both = record { same = refl; length-read = refl; within = each-append (Within (length im)) (c .entries) (d .entries) p q }
 
       go : (x : Next) → Seen (length im) im (elim x as (λ y. Reading) [
-        | Next.Record n l ↦ unturned (length im) h c
-        | Next.Wrap ↦ turned (length im) h c d
+        | Next.Record n l ↦ read-straight (length im) h c
+        | Next.Wrap ↦ read-turned (length im) h c d
         | Next.TornWrap ↦ turn-torn (length im) h c
-        | Next.Clear ↦ unturned (length im) h c
-        | Next.Over ↦ turned (length im) h c d
-        | Next.Bad ↦ unturned (length im) h c
+        | Next.Clear ↦ read-straight (length im) h c
+        | Next.Over ↦ read-turned (length im) h c d
+        | Next.Bad ↦ read-straight (length im) h c
       ])
       go (Next.Record n l) = alone
       go Next.Wrap = both
@@ -175,33 +113,23 @@ module _ (im : Image) (h : ℕ) where
   seen-from = go (eqb (floor h) 0)
     where
       go : (b : Bool) → Seen (length im) im (elim b as (λ x. Reading) [
-        | true ↦ unturned (length im) h (from-head im h)
-        | false ↦ joined (length im) h (from-head im h) (from-zero im h (from-head im h .held))
+        | true ↦ read-straight (length im) h (from-head im h)
+        | false ↦ joined (length im) h (from-head im h) (from-zero im h (from-head im h .pending))
       ])
       go true = record { same = refl; length-read = refl; within = high-within }
-      go false = joined-seen (from-head im h) (from-zero im h (from-head im h .held)) high-within (low-within (from-head im h .held))
-
--- what a check lets pass is what was checked
-passed : {A : Type 0} (b : Bool) (n : ℕ) (x y : A) → checked b n (give x) ≡ give y → x ≡ y
-passed true n x y e = cc
-passed false n x y e = absurd (let z : _≡_ {A = ℕ} 0 1 = cc in omega arith)
+      go false = joined-seen (from-head im h) (from-zero im h (from-head im h .pending)) high-within (low-within (from-head im h .pending))
 
 -- so of every image that mount does not refuse
-reading-seen : (im : Image) (r : Reading) (a : Answer ℕ) → onward a (read-at im) ≡ give r → Seen (length im) im r
-unfolding judged
-reading-seen im r (refuse n) e = absurd (let z : _≡_ {A = ℕ} 0 1 = cc in omega arith)
-reading-seen im r (give h) e =
-    subst (Seen (length im) im) (passed (legal im (reading-from im h)) 5 (reading-from im h) r e) (seen-from im h)
-
-settled-by : (im : Image) (r : Reading) (a : Answer Reading) → reading im ≡ a → onward a (if-settled im) ≡ give r → Seen (length im) im r
-unfolding if-settled reading
-settled-by im r (refuse n) f e = absurd (let z : _≡_ {A = ℕ} 0 1 = cc in omega arith)
-settled-by im r (give q) f e = subst (Seen (length im) im) (passed (settled im q) 16 q r e) (reading-seen im q (head im) f)
+reading-seen : (im : Image) (r : Reading) → reading im ≡ give r → Seen (length im) im r
+unfolding reading judged
+reading-seen im r e =
+    let g = gave (head im) (read-at im) r e in
+    let h = g .value in
+    subst (Seen (length im) im) (passed (legal im (reading-from im h)) (numbered 5) (reading-from im h) r (g .on) .1) (seen-from im h)
 
 -- and of every settled one
 pub settled-seen : (im : Image) (r : Reading) → settled-reading im ≡ give r → Seen (length im) im r
-unfolding settled-reading
-settled-seen im r e = settled-by im r (reading im) refl e
+settled-seen im r e = reading-seen im r (settled-gives im r e .0)
 
 -- ---- steps keep the length
 

@@ -15,10 +15,11 @@ use Rattle.spec.specs.Mount.{free-sectors, dirty, erase-steps}
 use Rattle.history.specs.Lists.{keep-append, none-at}
 use Rattle.history.specs.Blanks.{blanks, take-blanks, split-front}
 use Rattle.history.specs.Lay.{lay}
-use Rattle.history.specs.Steps.{run-append}
+use Rattle.laws.specs.Steps.{run-append}
+use Rattle.laws.specs.Sectors.{sectors-none}
+use Rattle.laws.specs.Length.{good}
 use Rattle.history.specs.Safe.{Safe, safe-map}
 use Rattle.history.specs.Markless.{markless-ff, Markless}
-use Rattle.history.specs.Erase.{sectors-are, good-is, no-map}
 use Rattle.history.specs.Seg.{seg-none, seg-onto}
 use Rattle.history.specs.Turned.{opens-blanks}
 use Rattle.history.specs.Laid.{Laid, laid-straight, laid-turned, Hole, Tail, tail-clear, tail-floor, tail-N, tail-turn, Bare, clear-ff, place}
@@ -155,9 +156,6 @@ module _ {im : Image} {h S : ℕ} {es : List Entry} (g : length im % 4096 ≡ 0)
       })
 
 -- with nothing free there is nothing to erase
-sectors-nil : (a b : ℕ) → a ≡ b → sectors a b ≡ []
-sectors-nil a b e = no-map (sectors a b) (sectors-are 0 a b (omega arith))
-
 both-nil : {h S : ℕ} {t : Bool} {es : List Entry} {im : Image} {below free : List ℕ} → below ≡ [] → free ≡ [] → Laid im h S t es seg-none below free
     → Tail h S t seg-none below free S t → Bare h es im
 both-nil {h} {S} {t} {es} {im} b f d e =
@@ -176,11 +174,11 @@ full-steps : {im : Image} {h S : ℕ} {es : List Entry} {below free : List ℕ} 
 unfolding erase-steps free-sectors
 full-steps {im} {h} {S} {free = free} true d f g z =
     let L : floor h ≡ S + length free = limit-is d in
-    ap (λ (zs : List ℕ). map erase (keep (dirty im) zs)) (sectors-nil (ceiling S) (floor h) (omega (arith, ap length f)))
+    ap (λ (zs : List ℕ). map erase (keep (dirty im) zs)) (sectors-none (ceiling S) (floor h) (omega (arith, ap length f)))
 full-steps {im} {h} {S} {free = free} false d f g z =
     let L : length im ≡ S + length free = limit-is d in
-    ap₂ (λ (xs ys : List ℕ). map erase (keep (dirty im) (xs ++ ys))) (sectors-nil 0 (floor h) (sym (z refl)))
-    (sectors-nil (ceiling S) (length im) (omega (arith, ap length f)))
+    ap₂ (λ (xs ys : List ℕ). map erase (keep (dirty im) (xs ++ ys))) (sectors-none 0 (floor h) (omega (arith, z refl)))
+    (sectors-none (ceiling S) (length im) (omega (arith, ap length f)))
 
 full-below : {im : Image} {h S : ℕ} {es : List Entry} {below free : List ℕ} (t : Bool) → Laid im h S t es seg-none below free
     → (t ≡ false → floor h ≡ 0) → below ≡ []
@@ -212,7 +210,7 @@ repair-laid {im} {h} {S} {t} {es} {below} {free} g d e b = go e
   where
     full : free ≡ [] → (t ≡ false → floor h ≡ 0) → Repaired im h S t es
     full f z =
-        let none : [] ≡ erase-steps im (place im h S t) = sym (full-steps t d f (good-is (length im) g .0) z) in
+        let none : [] ≡ erase-steps im (place im h S t) = sym (full-steps t d f (good (length im) g .sectors) z) in
         record {
           safe =
               subst (λ (ss : List Step). Safe (Vacates (length im) h S t es) im ss) none (record {
@@ -242,7 +240,7 @@ repair-laid {im} {h} {S} {t} {es} {below} {free} g d e b = go e
               }) im
               (erase-steps im (place im h S t))
               (erase-safe (record { len = refl; vac = v; ends = sym (limit-is (v .laid)) }));
-          bare = vacant-bare (good-is (length im) g .0) t v;
+          bare = vacant-bare (good (length im) g .sectors) t v;
         }
     go (tail-floor f t₁ p q) = full f (λ u. let n : _≡_ {A = ℕ} 0 1 = cc in absurd (omega arith))
     go (tail-N f t₁ z p q) = full f (λ u. z)

@@ -8,7 +8,8 @@ use lib.ListN.{length}
 use Rattle.spec.specs.Basics.{same, keep, Each}
 use Rattle.spec.specs.Record.{Entry, name-of, content-of}
 use Rattle.spec.specs.History.{File, Ledger, not-named, without}
-use Rattle.history.specs.Lists.{keep-yes, keep-no, keep-append}
+use Rattle.laws.specs.Lists.{keep-yes, keep-no}
+use Rattle.history.specs.Lists.{keep-append}
 use Rattle.history.specs.Store.{alive}
 
 -- an entry as a file

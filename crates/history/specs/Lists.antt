@@ -1,46 +1,13 @@
--- Laws of lists and tests that know nothing of flash: any, all, keep and first-such over facts on each element (Each),
--- on each pair (Pairwise), and with one element more or less.
+-- Laws of lists that know nothing of flash: any, all and keep over facts on each element (Each), on each pair (Pairwise), and with one
+-- element more or less.
 use Prim.Native.Nat.{ℕ}
 use native.Mathlib.Omega.{arith}
 use mathlib.Core.Path.{_≡_, refl, sym, ap, _∙_}
-use mathlib.Core.Bool.{Bool, true, false, _&&_, _||_}
-use mathlib.Core.Option.{some}
+use mathlib.Core.Bool.{Bool, true, false}
 use mathlib.Core.List.{List, [], _∷_, _++_}
 use lib.ListN.{length}
-use Rattle.spec.specs.Basics.{any, all, keep, first-such, Each}
-
--- ---- tests
-
--- a test does not come out both ways; cc finds an equation of numbers from contradictory facts, hence 0 ≡ 1
-pub not-both : (b : Bool) → b ≡ false → b ≡ true → ⊥
-not-both b p q = let z : _≡_ {A = ℕ} 0 1 = cc in omega arith
-
--- both, so the first
-pub and-left : (a b : Bool) → (a && b) ≡ true → a ≡ true
-and-left true b h = refl
-and-left false b h = h
-
--- both, so the second
-pub and-right : (a b : Bool) → (a && b) ≡ true → b ≡ true
-and-right true b h = h
-and-right false b h = cc
-
--- neither, so not the first
-pub or-left : (a b : Bool) → (a || b) ≡ false → a ≡ false
-or-left true b h = h
-or-left false b h = refl
-
--- nor the second
-pub or-right : (a b : Bool) → (a || b) ≡ false → b ≡ false
-or-right true b h = cc
-or-right false b h = h
-
--- not both
-pub and-no : (a b : Bool) → (a ≡ true → b ≡ false) → (a && b) ≡ false
-and-no true b h = h refl
-and-no false b h = refl
-
--- ---- lists
+use Rattle.spec.specs.Basics.{any, all, keep, Each}
+use Rattle.laws.specs.Lists.{any-yes, any-no, keep-yes, keep-no}
 
 module _ {A : Type 0} where
   -- equal lists have equal first elements
@@ -51,21 +18,20 @@ module _ {A : Type 0} where
   pub cons-rest : {x y : A} {xs ys : List A} → x ∷ xs ≡ y ∷ ys → xs ≡ ys
   cons-rest h = cc
 
-  any-no : (p : A → Bool) (x : A) (xs : List A) → p x ≡ false → any p (x ∷ xs) ≡ any p xs
-  any-no p x xs e = rw (e, any)
-
-  -- an element that is not kept
-  pub keep-no : (p : A → Bool) (x : A) (xs : List A) → p x ≡ false → keep p (x ∷ xs) ≡ keep p xs
-  keep-no p x xs e = rw (e, keep)
-
-  -- an element that is kept
-  pub keep-yes : (p : A → Bool) (x : A) (xs : List A) → p x ≡ true → keep p (x ∷ xs) ≡ x ∷ keep p xs
-  keep-yes p x xs e = rw (e, keep)
-
   -- none passes
   pub any-none : (p : A → Bool) (xs : List A) → Each (λ x. p x ≡ false) xs → any p xs ≡ false
   any-none p [] h = refl
   any-none p (x ∷ xs) h = any-no p x xs (h .0) ∙ any-none p xs (h .1)
+
+  -- none passes, so each does not
+  pub any-none-each : (p : A → Bool) (xs : List A) → any p xs ≡ false → Each (λ x. p x ≡ false) xs
+  any-none-each p [] h = tt
+  any-none-each p (x ∷ xs) h = go (p x) refl h (any-none-each p xs)
+    where
+      go : (b : Bool) → p x ≡ b → elim b as (λ b. Bool) [ true ↦ true | false ↦ any p xs ] ≡ false
+          → (any p xs ≡ false → Each (λ x. p x ≡ false) xs) → Each (λ x. p x ≡ false) (x ∷ xs)
+      go true k e f = absurd (let z : _≡_ {A = ℕ} 0 1 = cc in omega arith)
+      go false k e f = (k, f e)
 
   -- from one fact to another, on each
   pub each-map : {P Q : A → Type 0} (xs : List A) → ((x : A) → P x → Q x) → Each P xs → Each Q xs
@@ -130,11 +96,8 @@ module _ {A : Type 0} where
   any-insert p [] ys o e = any-no p o ys e
   any-insert p (x ∷ xs) ys o e = go (p x) refl (any-insert p xs ys o e)
     where
-      any-yes : (zs : List A) → p x ≡ true → any p (x ∷ zs) ≡ true
-      any-yes zs h = rw (h, any)
-
       go : (b : Bool) → p x ≡ b → any p (xs ++ (o ∷ ys)) ≡ any p (xs ++ ys) → any p (x ∷ (xs ++ (o ∷ ys))) ≡ any p (x ∷ (xs ++ ys))
-      go true h i = any-yes (xs ++ (o ∷ ys)) h ∙ sym (any-yes (xs ++ ys) h)
+      go true h i = any-yes p x (xs ++ (o ∷ ys)) h ∙ sym (any-yes p x (xs ++ ys) h)
       go false h i = any-no p x (xs ++ (o ∷ ys)) h ∙ i ∙ sym (any-no p x (xs ++ ys) h)
 
   -- each passes
@@ -178,14 +141,6 @@ module _ {A : Type 0} where
   pub each-all : (P : A → Type 0) → ((x : A) → P x) → (xs : List A) → Each P xs
   each-all P f [] = tt
   each-all P f (x ∷ xs) = (f x, each-all P f xs)
-
-  -- the first element passes
-  pub first-yes : (p : A → Bool) (x : A) (xs : List A) → p x ≡ true → first-such p (x ∷ xs) ≡ some x
-  first-yes p x xs e = rw (e, first-such)
-
-  -- the first element does not pass
-  pub first-no : (p : A → Bool) (x : A) (xs : List A) → p x ≡ false → first-such p (x ∷ xs) ≡ first-such p xs
-  first-no p x xs e = rw (e, first-such)
 
   -- ---- one element among others
 
@@ -247,22 +202,17 @@ module _ {A : Type 0} where
 
   -- the last passes
   pub any-last : (p : A → Bool) (xs : List A) (e : A) → p e ≡ true → any p (xs ++ (e ∷ [])) ≡ true
-  any-last p [] e h = rw (h, any)
+  any-last p [] e h = any-yes p e [] h
   any-last p (x ∷ xs) e h = go (p x) refl (any-last p xs e h)
     where
       go : (b : Bool) → p x ≡ b → any p (xs ++ (e ∷ [])) ≡ true → any p (x ∷ (xs ++ (e ∷ []))) ≡ true
-      go true k i = rw (k, any)
+      go true k i = any-yes p x (xs ++ (e ∷ [])) k
       go false k i = any-no p x (xs ++ (e ∷ [])) k ∙ i
 
 -- a list with an element in it is not empty
 pub some-behind : {A : Type 0} (xs ys : List A) (y : A) → xs ++ (y ∷ ys) ≡ [] → ⊥
 some-behind [] ys y e = let z : _≡_ {A = ℕ} 0 1 = cc in omega arith
 some-behind (x ∷ xs) ys y e = let z : _≡_ {A = ℕ} 0 1 = cc in omega arith
-
--- a list with some behind it is not empty
-pub some-append : {A : Type 0} (xs ys : List A) → (ys ≡ [] → ⊥) → xs ++ ys ≡ [] → ⊥
-some-append [] ys n e = n e
-some-append (x ∷ xs) ys n e = let z : _≡_ {A = ℕ} 0 1 = cc in omega arith
 
 -- a list without length has no element
 pub none-at : (s : List ℕ) → length s ≡ 0 → s ≡ []

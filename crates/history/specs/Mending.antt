@@ -16,7 +16,7 @@ use Rattle.spec.specs.Mount.{repair-1, repair-2-on, repair-3, repair-4, mended}
 use Rattle.spec.specs.History.{Ledger}
 use Rattle.spec.specs.Bounds.{At-most, head-most, head-data}
 use Rattle.history.specs.Safe.{Safe}
-use Rattle.history.specs.Erase.{good-is}
+use Rattle.laws.specs.Length.{good}
 use Rattle.history.specs.Kinds.{Inv, Rested}
 use Rattle.history.specs.Settled.{rested-idle, idle-2, idle-3, idle-4, after-some}
 use Rattle.history.specs.Closes.{Rests}
@@ -38,7 +38,7 @@ pub record Few (im : Image) (r : Reading) (ss : List Step) : Type 0 where
 pub nine-few : {im : Image} {r : Reading} (ss : List Step) → good-length (length im) ≡ true → At-most 9 0 ss → Few im r ss
 nine-few {im} ss g h =
     record {
-      by-length = most-more h (omega (arith, good-is (length im) g .1)) (omega arith);
+      by-length = most-more h (omega (arith, good (length im) g .two)) (omega arith);
       by-head = most-more h (omega arith) (omega arith);
     }
 

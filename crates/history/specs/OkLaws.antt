@@ -1,21 +1,23 @@
 -- What a change of one record does to the live files (Ok): a file added, replaced, removed, or left as it is. On lists of records alone.
 use Prim.Native.Nat.{ℕ}
-use mathlib.Core.Path.{_≡_, refl, sym, ap, ap₂, _∙_, subst}
+use mathlib.Core.Path.{_≡_, refl, sym, ap, _∙_, subst}
 use mathlib.Core.Bool.{Bool, true, false, not}
 use mathlib.Core.Option.{Option, none, some}
-use mathlib.Core.List.{List, [], _∷_, _++_, map, append-nil, append-assoc, List·Permᴰ, List·Permᴰ·cons, List·Permᴰ·trans, Permᴰ·symm, Permᴰ·middle}
+use mathlib.Core.List.{List, [], _∷_, _++_, map, append-nil, append-assoc, List·Permᴰ, List·Permᴰ·cons, List·Permᴰ·trans, Permᴰ·symm}
+use mathlib.Core.List.{Permᴰ·middle}
 use mathlib.Core.List.{Permᴰ·append-nil}
-use lib.Dec.{eqb}
-use borrow.Author.Tests.{eqb-true, eq-eqb}
+use borrow.Author.Tests.{eq-eqb}
 use Rattle.spec.specs.Basics.{same, keep, first-such}
 use Rattle.spec.specs.Record.{name-ok, Entry, name-of, content-of}
 use Rattle.spec.specs.Files.{named, named-as, has-named, has-name, file-named}
 use Rattle.spec.specs.History.{File, Ledger, not-named, without, with-file}
-use Rattle.history.specs.Lists.{keep-no, keep-yes, each-map, each-end, each-swap, each-insert, each-without, each-at, each-append, each-all}
-use Rattle.history.specs.Lists.{pairwise-end, pairwise-without, pairwise-before, pairwise-behind, pairwise-insert, any-last, first-yes}
-use Rattle.history.specs.Lists.{first-no, not-both}
+use Rattle.laws.specs.Lists.{keep-no, keep-yes, first-yes, first-no, same-is}
+use Rattle.history.specs.Lists.{each-map, each-end, each-swap, each-insert, each-without, each-at, each-append, each-all}
+use Rattle.history.specs.Lists.{pairwise-end, pairwise-without, pairwise-before, pairwise-behind, pairwise-insert, any-last}
+use Rattle.laws.specs.Tests.{not-both}
 use Rattle.history.specs.Store.{same-sym, alive, Apart, Unique, Well-named, fc-alive, f8-alive, dead-apart, dead-named, files-alive}
-use Rattle.history.specs.Ledger.{as-file, contents, Matches, Absent, perm-keep, keep-contents, contents-append, contents-one, matches-dead}
+use Rattle.history.specs.Ledger.{as-file, contents, Matches, Absent, perm-keep, keep-contents, contents-append, contents-one}
+use Rattle.history.specs.Ledger.{matches-dead}
 use Rattle.history.specs.Shadow.{Shadowed}
 use Rattle.history.specs.Kinds.{Ok, Bytes, Live-bytes}
 
@@ -26,18 +28,6 @@ pub same-refl : (s : List ℕ) → same s s ≡ true
 unfolding same
 same-refl [] = refl
 same-refl (x ∷ s) = rw (same, eq-eqb x x refl) (same-refl s)
-
--- names that are the same are equal
-pub same-is : (s t : List ℕ) → same s t ≡ true → s ≡ t
-unfolding same
-same-is [] [] h = refl
-same-is [] (y ∷ t) h = cc
-same-is (x ∷ s) [] h = cc
-same-is (x ∷ s) (y ∷ t) h = go (eqb x y) refl (same-is s t) h
-  where
-    go : (b : Bool) → eqb x y ≡ b → (same s t ≡ true → s ≡ t) → elim b as (λ b. Bool) [ true ↦ same s t | false ↦ false ] ≡ true → x ∷ s ≡ y ∷ t
-    go true e ih h = ap₂ _∷_ (eqb-true x y e) (ih h)
-    go false e ih h = cc
 
 -- ---- the files, with one record among others
 

@@ -2,7 +2,7 @@
 use Prim.Native.Nat.{ℕ, zero, suc, _-_, _≤_, min, pred}
 use native.Mathlib.Omega.{arith}
 use mathlib.Core.Path.{_≡_, refl, sym, ap, _∙_, subst}
-use mathlib.Core.Bool.{Bool, true, false, _&&_, not}
+use mathlib.Core.Bool.{Bool, true, false, not}
 use mathlib.Core.List.{List, [], _∷_, _++_, map}
 use lib.ListN.{length}
 use Rattle.spec.specs.Step.{Image, Step, run}
@@ -14,13 +14,15 @@ use Rattle.spec.specs.Place.{fits, fits-all}
 use Rattle.spec.specs.Move.{Work, begin, move}
 use Rattle.spec.specs.Sweep.{no-room, at-end, stuck, moves}
 use Rattle.spec.specs.History.{File, Ledger}
-use Rattle.history.specs.Lists.{keep-yes, keep-no, not-both}
+use Rattle.laws.specs.Lists.{keep-yes, keep-no}
+use Rattle.laws.specs.Tests.{not-both}
 use Rattle.history.specs.Store.{alive}
 use Rattle.history.specs.Ledger.{as-file, Matches, perm-length, contents}
-use Rattle.history.specs.Steps.{run-append}
+use Rattle.laws.specs.Steps.{run-append}
 use Rattle.history.specs.Kinds.{Ok, Rested}
 use Rattle.history.specs.Places.{fit-first}
-use Rattle.history.specs.Sweeps.{Done, stuck-room, move-done, moves-stop, moves-on}
+use Rattle.history.specs.Sweeps.{Done, move-done}
+use Rattle.laws.specs.Sweep.{end-live, end-two, stuck-room, room-live, room-dead, moves-stuck, moves-next}
 use Rattle.history.specs.Ahead.{There, live-sizes, Ahead, none-ahead, rest-ok, dead-ahead, live-ahead}
 
 -- ---- a move is made, and passes one
@@ -29,26 +31,6 @@ some-there : {l : Ledger} {f : File} (x : Entry) → alive x ≡ false → Match
 some-there x a m =
     let n : length (contents (x ∷ [])) ≡ 0 = ap (λ (es : List Entry). length (map as-file es)) (keep-no alive x [] a) in
     omega (arith, perm-length m)
-
-alone-on : (x : Entry) → live (x ∷ []) x ≡ true → at-end (x ∷ []) ≡ false
-unfolding at-end
-alone-on x e = rw (at-end, e)
-
-two-not-end : (x y : Entry) (es : List Entry) → at-end (x ∷ y ∷ es) ≡ false
-unfolding at-end
-two-not-end x y es = refl
-
-room-live : (r : Reading) (x : Entry) (es : List Entry) → fits (r .place) (size x) ≡ true → no-room r (x ∷ es) ≡ false
-unfolding no-room
-room-live r x es f = go (live (x ∷ es) x)
-  where
-    go : (b : Bool) → (b && not (fits (r .place) (size x))) ≡ false
-    go true = ap not f
-    go false = refl
-
-room-dead : (r : Reading) (x : Entry) (es : List Entry) → live (x ∷ es) x ≡ false → no-room r (x ∷ es) ≡ false
-unfolding no-room
-room-dead r x es f = rw (no-room, f)
 
 module _ {l : Ledger} {f : File} {im : Image} {r : Reading} (q : Rested (f ∷ l) im r) where
   read-is : r .entries ≡ q .es
@@ -60,11 +42,12 @@ module _ {l : Ledger} {f : File} {im : Image} {r : Reading} (q : Rested (f ∷ l
   on-first x es i g = subst (λ (fs : List Entry). (at-end fs ≡ false) × (no-room r fs ≡ false)) (sym (read-is ∙ i)) (go es i (alive x) refl)
     where
       go : (es : List Entry) → q .es ≡ x ∷ es → (b : Bool) → alive x ≡ b → (at-end (x ∷ es) ≡ false) × (no-room r (x ∷ es) ≡ false)
-      go [] i true a = (alone-on x (rest-ok x [] (subst (λ (fs : List Entry). Ok fs (f ∷ l)) i (q .ok)) ∙ a), room-live r x [] (g a))
+      go es i true a =
+          let e : live (x ∷ es) x ≡ true = rest-ok x es (subst (λ (fs : List Entry). Ok fs (f ∷ l)) i (q .ok)) ∙ a in
+          (end-live x es e, room-live r x es true e (g a))
       go [] i false a = absurd (some-there x a (subst (λ (fs : List Entry). Matches fs (f ∷ l)) i (q .ok .matches)))
-      go (y ∷ es) i true a = (two-not-end x y es, room-live r x (y ∷ es) (g a))
       go (y ∷ es) i false a =
-          (two-not-end x y es, room-dead r x (y ∷ es) (rest-ok x (y ∷ es) (subst (λ (fs : List Entry). Ok fs (f ∷ l)) i (q .ok)) ∙ a))
+          (end-two x y es, room-dead r x (y ∷ es) (rest-ok x (y ∷ es) (subst (λ (fs : List Entry). Ok fs (f ∷ l)) i (q .ok)) ∙ a))
 
   first-room : (x : Entry) (es : List Entry) → fits-all (r .place) (live-sizes (x ∷ es)) ≡ true
       → alive x ≡ true → fits (r .place) (size x) ≡ true
@@ -134,12 +117,12 @@ passes (suc k) j {l} {f} {im} {r} q h = go j h (stuck r) refl (λ i d. passes k 
           left = p .left;
           rested = subst (λ (z : Image). Rested (f ∷ l) z (p .left)) (sym at-end-of) (p .rested);
           ahead = subst (λ (n : ℕ). Ahead n (p .left)) (let z : i - k ≡ j - suc k = omega arith in z) (p .ahead);
-          made = omega (arith, p .made, ap length (moves-on k im r s));
+          made = omega (arith, p .made, ap length (moves-next im r k s));
         }
       where
         at-end-of : run im (concat (moves (suc k) im r)) ≡ run (w .image) (concat (moves k (w .image) (w .reading)))
         at-end-of =
-            ap (λ (ms : List (List Step)). run im (concat ms)) (moves-on k im r s)
+            ap (λ (ms : List (List Step)). run im (concat ms)) (moves-next im r k s)
             ∙ run-append im (w .steps) (concat (moves k (w .image) (w .reading)))
             ∙ ap (λ (z : Image). run z (concat (moves k (w .image) (w .reading)))) (sym (d .image))
 
@@ -148,7 +131,7 @@ passes (suc k) j {l} {f} {im} {r} q h = go j h (stuck r) refl (λ i d. passes k 
     go zero h true s ih =
         record {
           left = r;
-          rested = subst (λ (ms : List (List Step)). Rested (f ∷ l) (run im (concat ms)) r) (sym (moves-stop k im r s)) q;
+          rested = subst (λ (ms : List (List Step)). Rested (f ∷ l) (run im (concat ms)) r) (sym (moves-stuck im r (suc k) s)) q;
           ahead = subst (λ (n : ℕ). Ahead n r) (let z : 0 ≡ 0 - suc k = omega arith in z) h;
           made = omega arith;
         }

@@ -9,17 +9,18 @@ use lib.ListN.{length, length-append}
 use lib.Dec.{eqb, leb}
 use borrow.Author.Tests.{eq-eqb, leb-true, leb-false}
 use Rattle.spec.specs.Step.{Image, Step, run}
-use Rattle.spec.specs.Basics.{Answer, refuse, give, keep, concat}
+use Rattle.spec.specs.Basics.{Answer, refuse, give, keep, concat, numbered}
 use Rattle.spec.specs.Record.{Entry, size-of, name-ok}
 use Rattle.spec.specs.Chain.{Reading, read}
 use Rattle.spec.specs.Files.{files, file-named}
 use Rattle.spec.specs.Place.{fits, with-marker, address, other-name, room}
 use Rattle.spec.specs.Write.{put-steps}
 use Rattle.spec.specs.Sweep.{moves}
-use Rattle.spec.specs.Answers.{Plan, Outcome, format, carry-out, success, doing, sweeping, put, sweep, sweep-plan}
+use Rattle.spec.specs.Answers.{Plan, format, carry-out, doing, sweeping, put, sweep, sweep-plan}
+use Rattle.spec.specs.Numbers.{Outcome}
 use Rattle.spec.specs.History.{File, Ledger, ledger, replay, steps-of, with-file, one-if-fc, three-if}
 use Rattle.spec.specs.Progress.{to-pass, fifths, Uncut, Answers-0, moves-made, Passes, Progress}
-use Rattle.history.specs.Lists.{not-both}
+use Rattle.laws.specs.Tests.{not-both}
 use Rattle.history.specs.Store.{alive, fc-alive, Unique}
 use Rattle.history.specs.Kinds.{Bytes, Inv, Rested}
 use Rattle.history.specs.OkLaws.{Old, old-none, old-some, old-file}
@@ -42,7 +43,7 @@ use Rattle.history.specs.PutAhead.{live-new, live-over, put-ahead}
 -- a sweep where j records are ahead
 record On (l : Ledger) (j : ℕ) (o : Outcome) : Type 0 where
   pub answer : o .numbers .answer ≡ 0
-  pub made : min j 5 ≤ o .numbers .first
+  pub made : min j 5 ≤ o .numbers .moves
   pub left : Reading
   pub rested : Rested l (o .image) left
   pub ahead : Ahead (j - 5) left
@@ -58,7 +59,7 @@ sweep-on {l} {f} {im} {r} j k q h need =
     let plan : sweep-plan im ≡ give (sweeping ms) =
     sweep-is im (give r) (q .good) (rested-settled q) ∙ sweep-by im r false (goes-on q h .1) in
     let enough : length (concat ms) ≤ k = subst (λ (p : Answer Plan). length (steps-of p) ≤ k) plan need in
-    let e : sweep im k ≡ record { numbers = success (length ms) 0 0 (concat ms); image = run im (concat ms) } =
+    let e : sweep im k ≡ record { numbers = sweeping ms .done; image = run im (concat ms) } =
     ap (carry-out im k) plan ∙ carried-done im k (sweeping ms) enough in
     let p : Passed (f ∷ l) m (suc j) im r = passes m (suc j) q h in
     let c : suc j ≤ length (r .entries) = ahead-count h in
@@ -83,18 +84,18 @@ sweeps (k ∷ ks) (suc j) q h c u =
 -- ---- the theorem
 
 -- a put that is not cut has done its steps
-done-image : (im : Image) (m : ℕ) (ss : List Step) → carry-out im m (give (doing ss 0 0 0)) .numbers .answer ≡ 0
-    → carry-out im m (give (doing ss 0 0 0)) .image ≡ run im ss
+done-image : (im : Image) (m : ℕ) (ss : List Step) → carry-out im m (give (doing ss)) .numbers .answer ≡ 0
+    → carry-out im m (give (doing ss)) .image ≡ run im ss
 done-image im m ss e = go (leb (length ss) m) refl
   where
-    go : (b : Bool) → leb (length ss) m ≡ b → carry-out im m (give (doing ss 0 0 0)) .image ≡ run im ss
-    go true k = ap (λ (o : Outcome). o .image) (carried-done im m (doing ss 0 0 0) (leb-true (length ss) m k))
+    go : (b : Bool) → leb (length ss) m ≡ b → carry-out im m (give (doing ss)) .image ≡ run im ss
+    go true k = ap (λ (o : Outcome). o .image) (carried-done im m (doing ss) (leb-true (length ss) m k))
     go false k =
-        let o : carry-out im m (give (doing ss 0 0 0)) .numbers .answer ≡ 4 =
-        ap (λ (o : Outcome). o .numbers .answer) (carried-cut im m (doing ss 0 0 0) (leb-false (length ss) m k)) in
+        let o : carry-out im m (give (doing ss)) .numbers .answer ≡ 4 =
+        ap (λ (o : Outcome). o .numbers .answer) (carried-cut im m (doing ss) (leb-false (length ss) m k)) in
         absurd (let z : 4 ≡ 0 = sym o ∙ e in omega arith)
 
-refused-answer : (im : Image) (m k : ℕ) → carry-out im m (refuse k) .numbers .answer ≡ k
+refused-answer : (im : Image) (m k : ℕ) → carry-out im m (refuse (numbered k)) .numbers .answer ≡ k
 unfolding carry-out
 refused-answer im m k = refl
 
@@ -167,7 +168,7 @@ put-gets-on im l n c m i b e = go (puts-of l im n c i)
         absurd (not-both (eqb (r .number) 0) (r .not-done) (eq-eqb (r .number) 0 z))
     go (put-yes r q nice rule k) =
         let ss : List Step = put-steps (r .place) (file-named n (r .entries)) n c in
-        let e₁ : carry-out im m (give (doing ss 0 0 0)) .numbers .answer ≡ 0 =
+        let e₁ : carry-out im m (give (doing ss)) .numbers .answer ≡ 0 =
         sym (ap (λ (p : Answer Plan). carry-out im m p .numbers .answer) k) ∙ e in
         subst Passes (sym (ap (λ (p : Answer Plan). carry-out im m p .image) k ∙ done-image im m ss e₁))
         (put-passes q n c nice b rule (file-named n (r .entries))

@@ -13,12 +13,12 @@ use Rattle.spec.specs.Geometry.{floor}
 use Rattle.spec.specs.Record.{Entry, name-of, size}
 use Rattle.spec.specs.Chain.{Reading, read, reading-from}
 use Rattle.spec.specs.Files.{files}
-use Rattle.spec.specs.Place.{fits-all, place-after, address, other-name, largest-with}
-use Rattle.spec.specs.Place.{in-head-sector, begins-there, standing, joining, room}
+use Rattle.spec.specs.Place.{fits-all, place-after, address, other-name, largest-with, in-head-sector, begins-there, standing, joining}
+use Rattle.spec.specs.Place.{room}
 use Rattle.spec.specs.History.{Ledger}
 use Rattle.spec.specs.Progress.{to-pass}
-use Rattle.history.specs.Lists.{keep-yes, keep-no, keep-same, keep-append, keep-all, keep-swap, each-map, each-keep}
-use Rattle.history.specs.Lists.{pairwise-before, pairwise-behind}
+use Rattle.laws.specs.Lists.{keep-yes, keep-no}
+use Rattle.history.specs.Lists.{keep-same, keep-append, keep-all, keep-swap, each-map, each-keep, pairwise-before, pairwise-behind}
 use Rattle.history.specs.Store.{alive, files-alive, same-sym, Unique}
 use Rattle.history.specs.Ledger.{Absent}
 use Rattle.history.specs.Kinds.{Rested}

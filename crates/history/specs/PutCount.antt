@@ -2,28 +2,30 @@
 use Prim.Native.Nat.{ℕ, _+_, _≤_}
 use native.Mathlib.Omega.{arith}
 use mathlib.Core.Path.{_≡_, refl, sym, ap, _∙_, subst}
-use mathlib.Core.Bool.{Bool, true, false, _&&_}
+use mathlib.Core.Bool.{Bool, true, false}
 use mathlib.Core.Option.{Option, none, some}
 use mathlib.Core.List.{List, [], _∷_, _++_}
 use lib.ListN.{length, length-append}
 use Rattle.spec.specs.declared.Place.{Place}
-use Rattle.spec.specs.Step.{Image, Step, moved}
-use Rattle.spec.specs.Basics.{Answer, refuse, give, checked, onward}
+use Rattle.spec.specs.Step.{Image, Step, shifted}
+use Rattle.spec.specs.Basics.{give, checked, numbered}
 use Rattle.spec.specs.Bytes.{is-committed}
-use Rattle.spec.specs.Geometry.{good-length}
-use Rattle.spec.specs.Record.{name-ok, size-of, Entry}
+use Rattle.spec.specs.Record.{size-of, Entry}
 use Rattle.spec.specs.Chain.{Reading}
 use Rattle.spec.specs.Files.{file-named}
 use Rattle.spec.specs.Place.{address, with-marker, room}
 use Rattle.spec.specs.Write.{status-step, migrate-steps, delete-steps, marker-steps, turn-steps, record-steps, put-steps}
-use Rattle.spec.specs.Answers.{Plan, doing, put-into, put-plan, settled-reading}
+use Rattle.spec.specs.Answers.{Plan, doing, put-into, put-plan}
+use Rattle.spec.specs.Door.{settled-reading, admitted-named}
 use Rattle.spec.specs.History.{three-if}
 use Rattle.spec.specs.Bounds.{At-most, old-count, put-count, Put-exact, Put-bound, Put-kinds}
-use Rattle.history.specs.Steps.{length-moved}
+use Rattle.laws.specs.Steps.{length-shifted}
 use Rattle.history.specs.Put.{length-record}
 use Rattle.history.specs.StepCounts.{most-length, most-programs}
 use Rattle.history.specs.Landing.{put-programs}
 use Rattle.history.specs.Used.{used-bound, used-kinds}
+use Rattle.laws.specs.Answer.{gave}
+use Rattle.laws.specs.Door.{named-gives}
 
 -- ---- the list
 
@@ -40,7 +42,7 @@ old-steps (some e) = go (is-committed (e .it .status))
 turn-count : (p : Place) (s : ℕ) → length (turn-steps p s) ≡ three-if (with-marker p s)
 turn-count p s = go (with-marker p s)
   where
-    go : (b : Bool) → length {A = Step} (elim b as (λ x. List Step) [ true ↦ moved (p .tail) marker-steps | false ↦ [] ]) ≡ three-if b
+    go : (b : Bool) → length {A = Step} (elim b as (λ x. List Step) [ true ↦ shifted (p .tail) marker-steps | false ↦ [] ]) ≡ three-if b
     go true = refl
     go false = refl
 
@@ -50,12 +52,12 @@ pub put-steps-count : (p : Place) (o : Option Entry) (n c : List ℕ)
 unfolding put-steps
 put-steps-count p o n c =
     let s : ℕ = size-of (length n) (length c) in
-    let R : List Step = moved (address p s) (record-steps n c) in
+    let R : List Step = shifted (address p s) (record-steps n c) in
     let a : length (put-steps p o n c) ≡ length (migrate-steps o) + (length (turn-steps p s) + (length R + length (delete-steps o))) =
     length-append (migrate-steps o) (turn-steps p s ++ (R ++ delete-steps o))
     ∙ ap (λ (z : ℕ). length (migrate-steps o) + z) (length-append (turn-steps p s) (R ++ delete-steps o)
     ∙ ap (λ (z : ℕ). length (turn-steps p s) + z) (length-append R (delete-steps o))) in
-    omega (arith, a, old-steps o, turn-count p s, length-moved (address p s) (record-steps n c), length-record n c)
+    omega (arith, a, old-steps o, turn-count p s, length-shifted (address p s) (record-steps n c), length-record n c)
 
 old-most : (o : Option Entry) → old-count o ≤ 2
 old-most none = omega arith
@@ -80,25 +82,24 @@ put-steps-most p o n c =
 record Given (n c : List ℕ) (im : Image) (p : Plan) : Type 0 where
   pub r : Reading
   pub settled : settled-reading im ≡ give r
-  pub is : doing (put-steps (r .place) (file-named n (r .entries)) n c) 0 0 0 ≡ p
+  pub is : doing (put-steps (r .place) (file-named n (r .entries)) n c) ≡ p
 
-given-by : (n c : List ℕ) (im : Image) (p : Plan) (b : Bool) (a : Answer Reading) → settled-reading im ≡ a
-    → checked b 22 (onward a (put-into n c)) ≡ give p → Given n c im p
+given-by : (n c : List ℕ) (im : Image) (p : Plan) (r : Reading) → settled-reading im ≡ give r → put-into n c r ≡ give p → Given n c im p
 unfolding put-into
-given-by n c im p false a s e = absurd (let z : _≡_ {A = ℕ} 0 1 = cc in omega arith)
-given-by n c im p true (refuse k) s e = absurd (let z : _≡_ {A = ℕ} 0 1 = cc in omega arith)
-given-by n c im p true (give r) s e = into (room (r .place) n (size-of (length n) (length c)) (r .entries)) e
+given-by n c im p r s e = into (room (r .place) n (size-of (length n) (length c)) (r .entries)) e
   where
     P : Plan
-    P = doing (put-steps (r .place) (file-named n (r .entries)) n c) 0 0 0
+    P = doing (put-steps (r .place) (file-named n (r .entries)) n c)
 
-    into : (b : Bool) → checked b 28 (give P) ≡ give p → Given n c im p
+    into : (b : Bool) → checked b (numbered 28) (give P) ≡ give p → Given n c im p
     into false k = absurd (let z : _≡_ {A = ℕ} 0 1 = cc in omega arith)
     into true k = record { r = r; settled = s; is = cc }
 
 given : (n c : List ℕ) (im : Image) (p : Plan) → put-plan n c im ≡ give p → Given n c im p
 unfolding put-plan
-given n c im p e = given-by n c im p (good-length (length im) && name-ok n) (settled-reading im) refl e
+given n c im p e =
+    let g = gave (admitted-named n im) (put-into n c) p e in
+    given-by n c im p (g .value) (named-gives im (g .value) n (g .from) .2) (g .on)
 
 -- THE theorem on put: its steps, by case
 pub put-exact : Put-exact

@@ -9,7 +9,7 @@ use lib.Seq.{drop-nil}
 use lib.Dec.{eqb, leb}
 use borrow.Author.Tests.{leb-true, leb-false, le-leb, lt-leb, eqb-true, eqb-false, eq-eqb, ne-eqb}
 use Rattle.spec.specs.Step.{Image, Step, run}
-use Rattle.spec.specs.Basics.{Answer, refuse, give}
+use Rattle.spec.specs.Basics.{Answer, refuse, give, numbered}
 use Rattle.spec.specs.Bytes.{is-committed}
 use Rattle.spec.specs.Record.{size-of}
 use Rattle.spec.specs.Chain.{Reading}
@@ -17,10 +17,9 @@ use Rattle.spec.specs.Files.{file-named}
 use Rattle.spec.specs.Reading.{reading}
 use Rattle.spec.specs.Place.{with-marker}
 use Rattle.spec.specs.Write.{put-steps}
-use Rattle.spec.specs.Answers.{Plan, Numbers, Outcome, doing, carry-out, cut, refusal, success}
-use Rattle.spec.specs.Answers.{put-plan}
-use Rattle.spec.specs.History.{Request, steps-of, partly, next-byte, Ledger, with-file, one-if-fc, three-if, commit-place}
-use Rattle.spec.specs.History.{committed-at, put-done, fed}
+use Rattle.spec.specs.Answers.{Plan, doing, carry-out, cut, put-plan}
+use Rattle.spec.specs.Numbers.{Numbers, Outcome, refusal, of-write}
+use Rattle.spec.specs.History.{Request, steps-of, partly, next-byte, Ledger, with-file, one-if-fc, three-if, commit-place, committed-at, put-done, fed}
 use Rattle.spec.specs.Demand.{Steps-sound}
 use Rattle.history.specs.Kinds.{Inv, Bytes, Rested}
 use Rattle.history.specs.OkLaws.{old-file, Old}
@@ -43,11 +42,11 @@ fed-no : (im : Image) (n c : List ℕ) (m : Numbers) (w : ℕ) (l : Ledger) → 
 unfolding fed
 fed-no im n c m w l e = rw (e, fed)
 
-done-refused : (im : Image) (n c : List ℕ) (m w : ℕ) → eqb m 0 ≡ false → eqb m 4 ≡ false → put-done im n c (refusal m) w ≡ false
+done-refused : (im : Image) (n c : List ℕ) (m w : ℕ) → eqb m 0 ≡ false → eqb m 4 ≡ false → put-done im n c (refusal (numbered m)) w ≡ false
 unfolding put-done
 done-refused im n c m w e f = rw (f, put-done) e
 
-done-whole : (im : Image) (n c : List ℕ) (ss : List Step) (w : ℕ) → put-done im n c (success 0 0 0 ss) w ≡ true
+done-whole : (im : Image) (n c : List ℕ) (ss : List Step) (w : ℕ) → put-done im n c (of-write 0 (length ss)) w ≡ true
 unfolding put-done
 done-whole im n c ss w = refl
 
@@ -69,16 +68,16 @@ unfolding committed-at
 at-early at k w h = rw (lt-leb at k (omega arith), ne-eqb at (suc k) (λ e. omega arith))
 
 put-refused : (im : Image) (l : Ledger) (n c : List ℕ) (k v m : ℕ) → Inv l im → eqb m 0 ≡ false → eqb m 4 ≡ false
-    → Keeps Inv im l (Request.put n c) k v (refuse m)
+    → Keeps Inv im l (Request.put n c) k v (refuse (numbered m))
 unfolding carry-out
 put-refused im l n c k v m i e f =
-    let s : left im k v (refuse m) ≡ im = ap (λ (x : List Step). partly v x im) (drop-nil k) ∙ partly-none v im in
-    subst (λ (x : Ledger). Inv x (left im k v (refuse m))) (sym (fed-no im n c (refusal m) _ l (done-refused im n c m _ e f))) (subst (Inv l) (sym s) i)
+    let s : left im k v (refuse (numbered m)) ≡ im = ap (λ (x : List Step). partly v x im) (drop-nil k) ∙ partly-none v im in
+    subst (λ (x : Ledger). Inv x (left im k v (refuse (numbered m)))) (sym (fed-no im n c (refusal (numbered m)) _ l (done-refused im n c m _ e f))) (subst (Inv l) (sym s) i)
 
 module _ (im : Image) (l : Ledger) (n c : List ℕ) (k v : ℕ) (ss : List Step) (at : ℕ) {h : ℕ} (place : commit-place n c (reading im) ≡ at)
     (m : Commits l (with-file n c l) im ss at h) where
   abbrev P : Plan
-  P = doing ss 0 0 0
+  P = doing ss
 
   -- an outcome with these numbers and this image
   abbrev Fits : Outcome → Type 0
@@ -123,7 +122,7 @@ module _ (im : Image) (l : Ledger) (n c : List ℕ) (k v : ℕ) (ss : List Step)
       go true e =
           let none : drop k ss ≡ [] = drop-of-length-le ss {i = k} (leb-true (length ss) k e) in
           subst Fits (sym (carried-done im k P (leb-true (length ss) k e)))
-          (subst (λ (x : Ledger). Inv x (partly v (drop k ss) (run im ss))) (sym (fed-yes im n c (success 0 0 0 ss) _ l (done-whole im n c ss _)))
+          (subst (λ (x : Ledger). Inv x (partly v (drop k ss) (run im ss))) (sym (fed-yes im n c (of-write 0 (length ss)) _ l (done-whole im n c ss _)))
           (subst (Inv (with-file n c l)) (sym (ap (λ (x : List Step). partly v x (run im ss)) none ∙ partly-none v (run im ss))) (commits-end m)))
       go false e = subst Fits (sym (carried-cut im k P (leb-false (length ss) k e))) cut-fits
 

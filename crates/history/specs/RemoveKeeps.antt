@@ -4,18 +4,17 @@ use native.Mathlib.Omega.{arith}
 use mathlib.Core.Path.{_≡_, refl, sym, ap, _∙_, subst}
 use mathlib.Core.Bool.{Bool, true, false, _&&_, _||_, not}
 use mathlib.Core.List.{List, [], _∷_}
-use lib.ListN.{drop, set, getD}
+use lib.ListN.{drop, set, getD, length}
 use lib.Seq.{drop-nil, getD-set-same}
 use lib.Dec.{eqb}
 use Rattle.spec.specs.Step.{Image, Step, program}
-use Rattle.spec.specs.Basics.{Answer, refuse, give}
+use Rattle.spec.specs.Basics.{Answer, refuse, give, numbered}
 use Rattle.spec.specs.Bytes.{is-committed, is-migrating}
 use Rattle.spec.specs.Record.{Entry}
 use Rattle.spec.specs.Write.{status-step}
-use Rattle.spec.specs.Answers.{Plan, Numbers, Outcome, removing, carry-out, cut, refusal, success}
-use Rattle.spec.specs.Answers.{file-plan, remove-plan}
-use Rattle.spec.specs.History.{Request, steps-of, between, partly, next-byte, Ledger, without}
-use Rattle.spec.specs.History.{remove-done, fed}
+use Rattle.spec.specs.Answers.{Plan, removing, carry-out, cut, file-plan, remove-plan}
+use Rattle.spec.specs.Numbers.{Numbers, Outcome, refusal, of-write}
+use Rattle.spec.specs.History.{Request, steps-of, between, partly, next-byte, Ledger, without, remove-done, fed}
 use Rattle.spec.specs.Demand.{Steps-sound}
 use Rattle.history.specs.Between.{Between, between-is}
 use Rattle.history.specs.Kinds.{Inv}
@@ -32,11 +31,11 @@ not-removed : (im : Image) (n : List ℕ) (m : Numbers) (w : ℕ) (l : Ledger) �
 unfolding fed
 not-removed im n m w l e = rw (e, fed)
 
-refused-not : (m w : ℕ) → eqb m 0 ≡ false → eqb m 4 ≡ false → remove-done (refusal m) w ≡ false
+refused-not : (m w : ℕ) → eqb m 0 ≡ false → eqb m 4 ≡ false → remove-done (refusal (numbered m)) w ≡ false
 unfolding remove-done
 refused-not m w e f = rw (f, remove-done) e
 
-whole-done : (ss : List Step) (w : ℕ) → remove-done (success 0 0 0 ss) w ≡ true
+whole-done : (ss : List Step) (w : ℕ) → remove-done (of-write 0 (length ss)) w ≡ true
 unfolding remove-done
 whole-done ss w = refl
 
@@ -50,11 +49,11 @@ cut-done p w b e = go (is-committed w) (is-migrating w) e
     go false y e = ap not e
 
 remove-refused : (im : Image) (l : Ledger) (n : List ℕ) (k v m : ℕ) → Inv l im → eqb m 0 ≡ false → eqb m 4 ≡ false
-    → Keeps Inv im l (Request.remove n) k v (refuse m)
+    → Keeps Inv im l (Request.remove n) k v (refuse (numbered m))
 unfolding carry-out
 remove-refused im l n k v m i e f =
-    let s : left im k v (refuse m) ≡ im = ap (λ (x : List Step). partly v x im) (drop-nil k) ∙ partly-none v im in
-    subst (λ (x : Ledger). Inv x (left im k v (refuse m))) (sym (not-removed im n (refusal m) _ l (refused-not m _ e f))) (subst (Inv l) (sym s) i)
+    let s : left im k v (refuse (numbered m)) ≡ im = ap (λ (x : List Step). partly v x im) (drop-nil k) ∙ partly-none v im in
+    subst (λ (x : Ledger). Inv x (left im k v (refuse (numbered m)))) (sym (not-removed im n (refusal (numbered m)) _ l (refused-not m _ e f))) (subst (Inv l) (sym s) i)
 
 -- one step: with no allowance it is cut inside
 remove-given : (im : Image) (l : Ledger) (n : List ℕ) (k v : ℕ) (e : Entry) → Inv l im → Removes l im n (e .at + 2)
@@ -97,7 +96,7 @@ remove-given im l n (suc k) v e i r =
     subst (λ (o : Outcome). Inv (fed im (Request.remove n) (o .numbers) (next-byte (drop k []) (partly v (drop k []) (o .image))) l)
     (partly v (drop k []) (o .image))) (sym (carried-done im (suc k) (removing e) (omega arith)))
     (subst (λ (x : Ledger). Inv x (partly v (drop k []) (set im (e .at + 2) 0)))
-    (sym (removed im n (success 0 0 0 (status-step e 0 ∷ [])) _ l (whole-done (status-step e 0 ∷ []) _)))
+    (sym (removed im n (of-write 0 1) _ l (whole-done (status-step e 0 ∷ []) _)))
     (subst (Inv (without n l)) (sym left-is) (r .done)))
 
 remove-is : (n : List ℕ) (im : Image) → remove-plan n im ≡ file-plan n removing im

@@ -7,12 +7,12 @@ use mathlib.Core.Bool.{Bool, true, false, not}
 use mathlib.Core.List.{List, [], _∷_, _++_, append-assoc, map}
 use lib.ListN.{length, take, drop, length-append, length-replicate, length-drop, take-append-drop}
 use lib.Seq.{length-take-le, take-at, drop-at, take-append-add}
-use borrow.Author.Tests.{le-leb, lt-leb}
 use Rattle.spec.specs.Step.{Image, Step, erase, apply, run}
 use Rattle.spec.specs.Basics.{part, blank, keep}
 use Rattle.spec.specs.Geometry.{sectors-by}
 use Rattle.spec.specs.Mount.{dirty}
-use Rattle.history.specs.Lists.{keep-yes, keep-no}
+use Rattle.laws.specs.Lists.{keep-yes, keep-no}
+use Rattle.laws.specs.Sectors.{sectors-by-none, sectors-by-more}
 use Rattle.history.specs.Blanks.{blanks, blank-split, blank-is}
 use Rattle.history.specs.Erase.{erase-mid, sector-is}
 
@@ -22,28 +22,19 @@ part-mid p q s a e l =
     ap (λ (n : ℕ). drop n (take (n + 4096) (p ++ (q ++ s)))) (sym e) ∙ ap (drop (length p)) (take-append-add p (q ++ s) 4096)
     ∙ drop-at p (take 4096 (q ++ s)) (length p) refl ∙ take-at q s 4096 l
 
-sectors-none : (n a b : ℕ) → a ≡ b → sectors-by n a b ≡ []
-unfolding sectors-by
-sectors-none zero a b e = refl
-sectors-none (suc n) a b e = rw (sectors-by, lt-leb (a + 4096) b (omega arith))
-
-sectors-next : (n a b : ℕ) → a + 4096 ≤ b → sectors-by (suc n) a b ≡ a ∷ sectors-by n (a + 4096) b
-unfolding sectors-by
-sectors-next n a b e = rw (sectors-by, le-leb (a + 4096) b e)
-
 -- the steps of repair 1 from a up to b: the sectors that are not FF in im are erased; n bounds their number
 abbrev pub mend-steps : Image → ℕ → ℕ → ℕ → List Step
 mend-steps im n a b = map erase (keep (dirty im) (sectors-by n a b))
 
 mend-keep : (im : Image) (n a b : ℕ) → a + 4096 ≤ b → blank (part a (a + 4096) im) ≡ true → mend-steps im (suc n) a b ≡ mend-steps im n (a + 4096) b
 mend-keep im n a b l e =
-    ap (λ (ss : List ℕ). map erase (keep (dirty im) ss)) (sectors-next n a b l)
+    ap (λ (ss : List ℕ). map erase (keep (dirty im) ss)) (sectors-by-more n a b l)
     ∙ ap (map erase) (keep-no (dirty im) a (sectors-by n (a + 4096) b) (ap not e))
 
 mend-erase : (im : Image) (n a b : ℕ) → a + 4096 ≤ b → blank (part a (a + 4096) im) ≡ false
     → mend-steps im (suc n) a b ≡ erase a ∷ mend-steps im n (a + 4096) b
 mend-erase im n a b l e =
-    ap (λ (ss : List ℕ). map erase (keep (dirty im) ss)) (sectors-next n a b l)
+    ap (λ (ss : List ℕ). map erase (keep (dirty im) ss)) (sectors-by-more n a b l)
     ∙ ap (map erase) (keep-yes (dirty im) a (sectors-by n (a + 4096) b) (ap not e))
 
 len-4096 : length (blanks 4096) ≡ 4096
@@ -54,7 +45,7 @@ pub mend-done : (k n a b : ℕ) (p₀ p r s : List ℕ) → length p₀ ≡ a �
     → im₀ ≡ p₀ ++ (r ++ s) →
     run (p ++ (r ++ s)) (mend-steps im₀ n a b) ≡ p ++ (blanks (4096 * k) ++ s)
 mend-done zero n a b p₀ p [] s e₀ e l t i im₀ f =
-    ap (λ (ss : List ℕ). run (p ++ s) (map erase (keep (dirty im₀) ss))) (sectors-none n a b (omega arith))
+    ap (λ (ss : List ℕ). run (p ++ s) (map erase (keep (dirty im₀) ss))) (sectors-by-none n a b (omega arith))
 mend-done zero n a b p₀ p (x ∷ r) s e₀ e l t i im₀ f = absurd (omega arith)
 mend-done (suc k) zero a b p₀ p r s e₀ e l t i im₀ f = absurd (not-suc-le-zero i)
 mend-done (suc k) (suc n) a b p₀ p r s e₀ e l t i im₀ f =

@@ -16,8 +16,8 @@ use Rattle.spec.specs.Record.{Entry, content-of, data-at}
 use Rattle.spec.specs.Move.{mark-here, mark-steps, clean-steps, vacated-end, vacated, forget-steps, start-steps, vacate-steps, close-steps}
 use Rattle.spec.specs.Mount.{free-sectors, dirty, erase-steps}
 use Rattle.spec.specs.Bounds.{At-most}
-use Rattle.history.specs.Lists.{keep-yes, keep-no}
-use Rattle.history.specs.Steps.{Programs, programs-append}
+use Rattle.laws.specs.Lists.{keep-yes, keep-no}
+use Rattle.laws.specs.Steps.{Programs, programs-append}
 use Rattle.history.specs.StepCounts.{most-append, most-more, most-programs, most-erases}
 
 -- ---- sectors

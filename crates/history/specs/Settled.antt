@@ -1,82 +1,49 @@
 -- An image is settled if mount has no step to do on it. Each repair alone, where it has none; then a rested image: it is read, and it is settled.
 use Prim.Native.Nat.{ℕ}
-use mathlib.Core.Path.{_≡_, refl, ap, ap₂, _∙_, sym, subst}
+use mathlib.Core.Path.{_≡_, refl, ap, _∙_, sym, subst}
 use mathlib.Core.Bool.{Bool, false}
-use mathlib.Core.List.{List, [], _∷_, _++_, map, append-nil}
+use mathlib.Core.List.{List, [], _∷_, _++_, append-nil}
 use lib.ListN.{length}
 use Rattle.spec.specs.declared.Ending.{Ending}
 use Rattle.spec.specs.Step.{Image, Step, run}
 use Rattle.spec.specs.Basics.{give, Each}
-use Rattle.spec.specs.Bytes.{is-start, is-clean, is-erased, is-reserved, is-unfinished}
 use Rattle.spec.specs.Record.{Entry}
 use Rattle.spec.specs.Chain.{Reading, read}
 use Rattle.spec.specs.Reading.{head-clean, reading}
 use Rattle.spec.specs.Move.{Work, begin, after, reread}
-use Rattle.spec.specs.Mount.{repair-1, repair-2, repair-3, repair-4, void-steps, last-steps, torn-wrap-steps, delete-step, drop-steps, mended}
-use Rattle.spec.specs.Mount.{settled, repair-2-on}
-use Rattle.spec.specs.Answers.{if-settled, settled-reading}
+use Rattle.spec.specs.Mount.{repair-1, repair-2, repair-3, repair-4, mended, settled, repair-2-on}
+use Rattle.spec.specs.Door.{if-settled, settled-reading}
 use Rattle.spec.specs.History.{Ledger}
-use Rattle.history.specs.Lists.{or-left, or-right}
+use Rattle.spec.specs.Files.{superseded}
+use Rattle.laws.specs.Settled.{last-open, repair-1-idle, repair-2-idle, repair-3-idle, repair-4-idle}
 use Rattle.history.specs.Blanks.{blanks}
 use Rattle.history.specs.Store.{Finished, Unmarked, Unique, none-superseded}
 use Rattle.history.specs.Seg.{seg-none}
 use Rattle.history.specs.Legal.{Ruled}
 use Rattle.history.specs.Whole.{is-clean-0}
-use Rattle.history.specs.Laid.{Laid, Tail, place}
+use Rattle.history.specs.Laid.{Laid, Tail}
 use Rattle.history.specs.LaidEdit.{laid-fine}
 use Rattle.history.specs.Kinds.{Starts, Rested}
 use Rattle.history.specs.Rules.{fine-finished, starts-ruled}
 use Rattle.history.specs.LaidRead.{start-reads}
+use Rattle.history.specs.Lists.{any-none}
 
 -- ---- each repair alone
 
--- no step: nothing changes
-pub after-none : (w : Work) (h : ℕ) → after w [] h ≡ w
-unfolding after
-after-none w h = refl
-
--- repair 1: the head is not CLEAN
-pub one-none : (w : Work) → head-clean (w .reading .entries) ≡ false → repair-1 w ≡ w
-unfolding repair-1
-one-none w e = rw (repair-1, e)
-
 -- repair 2: no other record is marked
 pub two-none : (w : Work) (x : Entry) (es : List Entry) → Each Unmarked es → repair-2 w (x ∷ es) ≡ w
-unfolding repair-2
-two-none w x [] h = refl
-two-none w x (y ∷ es) h =
-    rw (repair-2, or-right (is-start (y .it .low)) (is-clean (y .it .low)) (h .0), or-left (is-start (y .it .low)) (is-clean (y .it .low)) (h .0))
-
-void-none : (im : Image) (e : Entry) → Finished e → void-steps im e ≡ []
-unfolding void-steps is-unfinished
-void-none im e h =
-    rw (
-      void-steps,
-      or-left (is-erased (e .it .status)) (is-reserved (e .it .status)) h,
-      or-right (is-erased (e .it .status))
-          (is-reserved (e .it .status)) h,
-    )
+two-none w x [] h = repair-2-idle w (x ∷ []) refl
+two-none w x (y ∷ es) h = repair-2-idle w (x ∷ y ∷ es) (h .0)
 
 -- no record is unfinished
-pub last-none : (im : Image) (es : List Entry) → Each Finished es → last-steps im es ≡ []
-unfolding last-steps
-last-none im [] h = refl
-last-none im (e ∷ []) h = void-none im e (h .0)
-last-none im (e ∷ f ∷ es) h = last-none im (f ∷ es) (h .1)
+pub last-finished : (es : List Entry) → Each Finished es → last-open es ≡ false
+last-finished [] h = refl
+last-finished (e ∷ []) h = h .0
+last-finished (e ∷ f ∷ es) h = last-finished (f ∷ es) (h .1)
 
 -- repair 3: all records are finished
 pub three-none : (w : Work) → Each Finished (w .reading .entries) → w .reading .ending ≡ Ending.Tail → repair-3 w ≡ w
-unfolding repair-3
-three-none w h t =
-    ap₂ (λ (a : List Step) (b : Ending). after w (a ++ torn-wrap-steps b) (w .reading .place .head)) (last-none (w .image) (w .reading .entries) h) t
-    ∙ after-none w (w .reading .place .head)
-
--- repair 4: no name is alive twice
-pub four-none : (w : Work) → Unique (w .reading .entries) → repair-4 w ≡ w
-unfolding repair-4 drop-steps
-four-none w u =
-    ap (λ (l : List Entry). after w (map delete-step l) (w .reading .place .head)) (none-superseded (w .reading .entries) u)
-    ∙ after-none w (w .reading .place .head)
+three-none w h t = repair-3-idle w (rw (last-finished (w .reading .entries) h, t))
 
 -- steps that are some: they are run, and the image is read again
 pub after-some : (w : Work) (ss : List Step) (h : ℕ) → (ss ≡ [] → ⊥) → after w ss h ≡ reread w ss (run (w .image) ss) h
@@ -127,7 +94,7 @@ module _ {l : Ledger} (w : Work) (q : Rested l (w .image) (w .reading)) where
 
   -- repair 1 has nothing to do
   idle-1 : repair-1 w ≡ w
-  idle-1 = one-none w (ap head-clean entries-is ∙ starts-clean (q .es) (q .starts))
+  idle-1 = repair-1-idle w (ap head-clean entries-is ∙ starts-clean (q .es) (q .starts))
 
   -- nor has repair 2
   pub idle-2 : repair-2-on w ≡ w
@@ -140,7 +107,9 @@ module _ {l : Ledger} (w : Work) (q : Rested l (w .image) (w .reading)) where
 
   -- nor 4
   pub idle-4 : repair-4 w ≡ w
-  idle-4 = four-none w (subst Unique (sym entries-is) (q .ok .unique))
+  idle-4 =
+      let es : List Entry = w .reading .entries in
+      repair-4-idle w (any-none (superseded es) es (none-superseded es (subst Unique (sym entries-is) (q .ok .unique))))
 
 -- so mount leaves it as it is
 pub rested-idle : {l : Ledger} {im : Image} {r : Reading} → Rested l im r → mended im r ≡ begin im r

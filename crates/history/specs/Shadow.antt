@@ -6,7 +6,8 @@ use mathlib.Core.List.{List, [], _∷_, _++_}
 use Rattle.spec.specs.Basics.{keep}
 use Rattle.spec.specs.Record.{Entry}
 use Rattle.spec.specs.Files.{named, named-as, has-named, live, superseded}
-use Rattle.history.specs.Lists.{any-insert, keep-append, keep-yes, keep-same, each-all}
+use Rattle.history.specs.Lists.{any-insert, keep-append, keep-same, each-all, keep-none}
+use Rattle.laws.specs.Lists.{keep-yes}
 use Rattle.history.specs.Store.{Unique, none-superseded, fc-not-f8}
 
 empty-left : (a b : List Entry) → a ++ b ≡ [] → a ≡ []
@@ -59,7 +60,7 @@ module _ (xs ys : List Entry) (o : Entry) (s : Shadowed xs ys o) where
       let p : Entry → Bool = superseded es in
       let n : keep p xs ++ keep p ys ≡ [] =
       sym (keep-append p xs ys) ∙ keep-same (superseded es) (superseded R) R (each-all (λ e. superseded es e ≡ superseded R e) super-same R)
-      ∙ none-superseded R (s .unique) in
+      ∙ keep-none (superseded R) R (none-superseded R (s .unique)) in
       keep-append p xs (o ∷ ys)
       ∙ ap₂ (λ (a b : List Entry). a ++ b) (empty-left (keep p xs) (keep p ys) n)
       (keep-yes p o ys o-super ∙ ap (λ (l : List Entry). o ∷ l) (empty-right (keep p xs) (keep p ys) n))

@@ -110,7 +110,7 @@ joined-turned N h t u o p es fs turns-wrap low-over = refl
 joined-turned N h t u o p es fs turns-over low-clear = refl
 joined-turned N h t u o p es fs turns-over low-over = refl
 
-read-joined : (image : List ℕ) (h : ℕ) (c : Chain) → (floor h ≡ 0 → ⊥) → read-on image h c ≡ joined (length image) h c (from-zero image h (c .held))
+read-joined : (image : List ℕ) (h : ℕ) (c : Chain) → (floor h ≡ 0 → ⊥) → read-on image h c ≡ joined (length image) h c (from-zero image h (c .pending))
 unfolding read-on
 read-joined image h c z = rw (read-on, ne-eqb (floor h) 0 z)
 

@@ -1,24 +1,27 @@
--- On a rested image list and get give the ledger's files: each entry's bytes are read where it stands, and no two live entries have one name.
-use Prim.Native.Nat.{ℕ, zero, suc, _+_, _<_}
+-- On a rested image list and get give the ledger's files and no others: each entry's bytes are read where it stands, and no two live
+-- entries have one name.
+use Prim.Native.Nat.{ℕ, zero, suc, _+_, _≤_, _<_}
 use native.Mathlib.Omega.{arith}
-use native.Mathlib.Nat.{not-suc-le-zero}
 use mathlib.Core.Path.{_≡_, refl, sym, ap, _∙_, subst}
 use mathlib.Core.Bool.{Bool, true, false}
 use mathlib.Core.Option.{Option, none, some}
-use mathlib.Core.List.{List, [], _∷_, _++_, map, append-assoc, Permᴰ·symm}
+use mathlib.Core.List.{List, [], _∷_, _++_, map, Permᴰ·symm}
 use lib.ListN.{length, take, drop, getElem?}
 use lib.Seq.{drop-drop}
 use Rattle.spec.specs.Step.{Image}
-use Rattle.spec.specs.Basics.{Answer, refuse, give, same, any, keep, first-such, Each}
+use Rattle.spec.specs.Basics.{Answer, refuse, give, same, keep, first-such, Each, numbered}
 use Rattle.spec.specs.Geometry.{up8}
 use Rattle.spec.specs.Record.{name-ok, rec-of, Rec, Entry, name-of, content-of, data-at}
 use Rattle.spec.specs.Chain.{Reading}
 use Rattle.spec.specs.Files.{files, has-name, file-named}
-use Rattle.spec.specs.Answers.{Numbers, Plan, success, numbers-of, carry-out, doing, found, file-plan, getting, get-plan, listing, list-plan, get}
-use Rattle.spec.specs.Answers.{list, part-of}
+use Rattle.spec.specs.Numbers.{Numbers, part-of}
+use Rattle.spec.specs.Answers.{Plan, numbers-of, carry-out, found, file-plan, getting, get-plan, listing, list-plan, get, list, looking}
 use Rattle.spec.specs.History.{File, Ledger, is-named, has}
-use Rattle.spec.specs.Demand.{Listed, Got, Shows}
-use Rattle.history.specs.Lists.{Pairwise, keep-yes, keep-no, each-map, first-yes, first-no, not-both, each-keep}
+use Rattle.spec.specs.Demand.{Distinct, Maps, Lists, Listed, Indexed, Got, Shows}
+use Rattle.history.specs.Lists.{Pairwise, each-map, each-keep, any-none-each}
+use Rattle.laws.specs.Lists.{keep-yes, keep-no, first-yes, first-no}
+use Rattle.laws.specs.Tests.{not-both}
+use Rattle.history.specs.Indexes.{each-index, index-each, each-split, index-below, at-index, past-end}
 use Rattle.history.specs.Store.{alive, Unique, files-alive}
 use Rattle.history.specs.Ledger.{as-file, perm-each, perm-length}
 use Rattle.history.specs.Lay.{onto, rec-of-onto, drop-past}
@@ -26,48 +29,11 @@ use Rattle.history.specs.Laid.{Inside}
 use Rattle.history.specs.LaidEdit.{inside-of}
 use Rattle.history.specs.Kinds.{Rested}
 use Rattle.history.specs.OkLaws.{same-refl, Old, old-none, old-some, old-file}
+use Rattle.history.specs.DistinctNames.{maps-each}
 use Rattle.history.specs.Settled.{rested-settled}
+use Rattle.laws.specs.Door.{named-good, admitted-good}
 
--- ---- elements by their index
-
-module _ {A : Type 0} where
-  -- what holds of each element at its index
-  each-index : (P : A → Type 0) (xs : List A) → ((i : ℕ) (x : A) → getElem? xs i ≡ some x → P x) → Each P xs
-  each-index P [] f = tt
-  each-index P (x ∷ xs) f = (f 0 x refl, each-index P xs (λ i y e. f (suc i) y e))
-
-  index-each : (P : A → Type 0) (xs : List A) (i : ℕ) (x : A) → getElem? xs i ≡ some x → Each P xs → P x
-  index-each P [] i x e h = absurd (let z : _≡_ {A = ℕ} 0 1 = cc in omega arith)
-  index-each P (y ∷ xs) zero x e h = subst P (some-is y x e) (h .0)
-    where
-      some-is : (a b : A) → some a ≡ some b → a ≡ b
-      some-is a b e = cc
-  index-each P (y ∷ xs) (suc i) x e h = index-each P xs i x e (h .1)
-
-  -- what holds of each element among the others
-  each-split : (P : A → Type 0) (zs xs : List A) → ((before behind : List A) (x : A) → zs ++ xs ≡ before ++ (x ∷ behind) → P x) → Each P xs
-  each-split P zs [] f = tt
-  each-split P zs (x ∷ xs) f =
-      (f zs xs x refl, each-split P (zs ++ (x ∷ [])) xs (λ before behind y e. f before behind y (sym (append-assoc zs (x ∷ []) xs) ∙ e)))
-
-  index-below : (xs : List A) (i : ℕ) (x : A) → getElem? xs i ≡ some x → i < length xs
-  index-below [] i x e = absurd (let z : _≡_ {A = ℕ} 0 1 = cc in omega arith)
-  index-below (y ∷ xs) zero x e = omega arith
-  index-below (y ∷ xs) (suc i) x e = let h = index-below xs i x e in omega arith
-
-  at-index : (xs : List A) (i : ℕ) → i < length xs → (x : A) × (getElem? xs i ≡ some x)
-  at-index [] i h = absurd (not-suc-le-zero h)
-  at-index (y ∷ xs) zero h = (y, refl)
-  at-index (y ∷ xs) (suc i) h = at-index xs i (omega arith)
-
-  any-none-each : (p : A → Bool) (xs : List A) → any p xs ≡ false → Each (λ x. p x ≡ false) xs
-  any-none-each p [] h = tt
-  any-none-each p (x ∷ xs) h = go (p x) refl h (any-none-each p xs)
-    where
-      go : (b : Bool) → p x ≡ b → elim b as (λ b. Bool) [ true ↦ true | false ↦ any p xs ] ≡ false → (any p xs ≡ false → Each (λ x. p x ≡ false) xs)
-          → Each (λ x. p x ≡ false) (x ∷ xs)
-      go true k e f = absurd (let z : _≡_ {A = ℕ} 0 1 = cc in omega arith)
-      go false k e f = (k, f e)
+-- ---- entries as files
 
 length-map : (es : List Entry) → length (map as-file es) ≡ length es
 length-map [] = refl
@@ -83,35 +49,39 @@ map-each-file P (e ∷ es) h = (h .0, map-each-file P es (h .1))
 
 -- ---- live entries have names of their own
 
-abbrev Distinct : Entry → Entry → Type 0
-Distinct e f = same (name-of e) (name-of f) ≡ false
+abbrev Names-differ : Entry → Entry → Type 0
+Names-differ e f = same (name-of e) (name-of f) ≡ false
 
-distinct : (es : List Entry) → Unique es → Pairwise Distinct (keep alive es)
-distinct [] u = tt
-distinct (e ∷ es) u = go (alive e) refl (distinct es (u .1))
+live-names : (es : List Entry) → Unique es → Pairwise Names-differ (keep alive es)
+live-names [] u = tt
+live-names (e ∷ es) u = go (alive e) refl (live-names es (u .1))
   where
-    go : (b : Bool) → alive e ≡ b → Pairwise Distinct (keep alive es) → Pairwise Distinct (keep alive (e ∷ es))
-    go true k i = subst (Pairwise Distinct) (sym (keep-yes alive e es k)) (each-keep (Distinct e) alive es (each-map es (λ f h q. h k q) (u .0)), i)
-    go false k i = subst (Pairwise Distinct) (sym (keep-no alive e es k)) i
+    go : (b : Bool) → alive e ≡ b → Pairwise Names-differ (keep alive es) → Pairwise Names-differ (keep alive (e ∷ es))
+    go true k i =
+        subst (Pairwise Names-differ) (sym (keep-yes alive e es k))
+        (each-keep (Names-differ e) alive es (each-map es (λ f h q. h k q) (u .0)), i)
+    go false k i = subst (Pairwise Names-differ) (sym (keep-no alive e es k)) i
 
-first-at : (fs : List Entry) (i : ℕ) (e : Entry) → Pairwise Distinct fs → getElem? fs i ≡ some e → first-such (has-name (name-of e)) fs ≡ some e
+first-at : (fs : List Entry) (i : ℕ) (e : Entry) → Pairwise Names-differ fs → getElem? fs i ≡ some e
+    → first-such (has-name (name-of e)) fs ≡ some e
 first-at [] i e d h = absurd (let z : _≡_ {A = ℕ} 0 1 = cc in omega arith)
 first-at (x ∷ fs) zero e d h =
     let p : x ≡ e = cc in
     first-yes (has-name (name-of e)) x fs (ap (λ (y : Entry). same (name-of y) (name-of e)) p ∙ same-refl (name-of e)) ∙ ap some p
-first-at (x ∷ fs) (suc i) e d h = first-no (has-name (name-of e)) x fs (index-each (Distinct x) fs i e h (d .0)) ∙ first-at fs i e (d .1) h
+first-at (x ∷ fs) (suc i) e d h =
+    first-no (has-name (name-of e)) x fs (index-each (Names-differ x) fs i e h (d .0)) ∙ first-at fs i e (d .1) h
 
-same-index : (fs : List Entry) (i j : ℕ) (e f : Entry) → Pairwise Distinct fs → getElem? fs i ≡ some e → getElem? fs j ≡ some f
+same-index : (fs : List Entry) (i j : ℕ) (e f : Entry) → Pairwise Names-differ fs → getElem? fs i ≡ some e → getElem? fs j ≡ some f
     → name-of e ≡ name-of f → i ≡ j
 same-index [] i j e f d h k n = absurd (let z : _≡_ {A = ℕ} 0 1 = cc in omega arith)
 same-index (x ∷ fs) zero zero e f d h k n = refl
 same-index (x ∷ fs) zero (suc j) e f d h k n =
     let p : x ≡ e = cc in
-    absurd (not-both (same (name-of x) (name-of f)) (index-each (Distinct x) fs j f k (d .0))
+    absurd (not-both (same (name-of x) (name-of f)) (index-each (Names-differ x) fs j f k (d .0))
     (ap (λ (y : Entry). same (name-of y) (name-of f)) p ∙ ap (λ (m : List ℕ). same m (name-of f)) n ∙ same-refl (name-of f)))
 same-index (x ∷ fs) (suc i) zero e f d h k n =
     let p : x ≡ f = cc in
-    absurd (not-both (same (name-of x) (name-of e)) (index-each (Distinct x) fs i e h (d .0))
+    absurd (not-both (same (name-of x) (name-of e)) (index-each (Names-differ x) fs i e h (d .0))
     (ap (λ (y : Entry). same (name-of y) (name-of e)) p ∙ ap (λ (m : List ℕ). same m (name-of e)) (sym n) ∙ same-refl (name-of e)))
 same-index (x ∷ fs) (suc i) (suc j) e f d h k n = ap suc (same-index fs i j e f (d .1) h k n)
 
@@ -164,9 +134,9 @@ module _ {l : Ledger} {im : Image} {r : Reading} (q : Rested l im r) where
   unfolding fs
   files-are = ap files entries-are ∙ files-alive (q .es) unique
 
-  apart : Pairwise Distinct fs
+  apart : Pairwise Names-differ fs
   unfolding fs
-  apart = distinct (q .es) unique
+  apart = live-names (q .es) unique
 
   all-stand : Each (Stands im) (q .es)
   all-stand =
@@ -180,42 +150,48 @@ module _ {l : Ledger} {im : Image} {r : Reading} (q : Rested l im r) where
 
   plan-get : (n : List ℕ) → name-ok n ≡ true → get-plan n im ≡ found getting (file-named n (r .entries))
   unfolding get-plan file-plan
-  plan-get n ok = rw (get-plan, file-plan, q .good, ok, rested-settled q)
+  plan-get n ok = rw (get-plan, file-plan, named-good im (q .good) n ok, rested-settled q)
 
   plan-list : (i : ℕ) → list-plan i im ≡ found listing (getElem? (files (r .entries)) i)
   unfolding list-plan
-  plan-list i = rw (list-plan, q .good, rested-settled q)
+  plan-list i = rw (list-plan, admitted-good im (q .good), rested-settled q)
 
-  carried : (a b c : ℕ) → carry-out im 0 (give (doing [] a b c)) .numbers ≡ success a b c []
+  carried : (n : Numbers) → carry-out im 0 (give (looking n)) .numbers ≡ n
   unfolding carry-out numbers-of
-  carried a b c = refl
+  carried n = refl
 
-  refused : (n : ℕ) → carry-out im 0 (refuse n) .numbers .answer ≡ n
+  refused : (n : ℕ) → carry-out im 0 (refuse (numbered n)) .numbers .answer ≡ n
   unfolding carry-out
   refused n = refl
 
   get-some : (n : List ℕ) (e : Entry) → name-ok n ≡ true → file-named n (r .entries) ≡ some e
-      → get im n .numbers ≡ success (data-at e) (length (content-of e)) 0 []
+      → get im n .numbers ≡ getting e .done
   get-some n e ok f =
       ap (λ (p : Answer Plan). carry-out im 0 p .numbers) (plan-get n ok ∙ ap (found getting) f)
-      ∙ carried (data-at e) (length (content-of e)) 0
+      ∙ carried (getting e .done)
 
-  list-some : (i : ℕ) (e : Entry) → getElem? fs i ≡ some e → list im i .numbers ≡ success (e .at + 8) (length (name-of e)) (length (content-of e)) []
+  list-some : (i : ℕ) (e : Entry) → getElem? fs i ≡ some e → list im i .numbers ≡ listing e .done
   list-some i e f =
       ap (λ (p : Answer Plan). carry-out im 0 p .numbers)
       (plan-list i ∙ ap (λ (x : List Entry). found listing (getElem? x i)) files-are ∙ ap (found listing) f)
-      ∙ carried (e .at + 8) (length (name-of e)) (length (content-of e))
+      ∙ carried (listing e .done)
 
   list-name : (i : ℕ) (e : Entry) → getElem? fs i ≡ some e → part-of im (list im i .numbers) ≡ name-of e
   list-name i e f = ap (part-of im) (list-some i e f) ∙ index-each (Stands im) fs i e f files-stand .name
+
+  lists-at : (i : ℕ) (e : Entry) → getElem? fs i ≡ some e → Lists im i (name-of e)
+  lists-at i e f = (ap (λ (n : Numbers). n .answer) (list-some i e f), list-name i e f)
+
+  size-at : (i : ℕ) (e : Entry) → getElem? fs i ≡ some e → list im i .numbers .size ≡ length (content-of e)
+  size-at i e f = ap (λ (n : Numbers). n .size) (list-some i e f)
 
   listed-at : (i : ℕ) (e : Entry) → getElem? fs i ≡ some e → Listed im (length fs) (as-file e)
   listed-at i e f =
       record {
         index = i;
         below = index-below fs i e f;
-        there = (ap (λ (n : Numbers). n .answer) (list-some i e f), list-name i e f);
-        size = ap (λ (n : Numbers). n .third) (list-some i e f);
+        there = lists-at i e f;
+        size = size-at i e f;
         once = λ j h p.
             let x = at-index fs j h in
             same-index fs j i (x .0) e apart (x .1) f (sym (list-name j (x .0) (x .1)) ∙ p .1);
@@ -249,6 +225,31 @@ module _ {l : Ledger} {im : Image} {r : Reading} (q : Rested l im r) where
   unfolding fs
   over P h = perm-each P (q .ok .matches) (each-map-file P (keep alive (q .es)) h)
 
+  -- the ledger maps each entry's name to its content
+  maps-at : Distinct l → (i : ℕ) (e : Entry) → getElem? fs i ≡ some e → Maps l (as-file e)
+  unfolding fs
+  maps-at d i e f =
+      index-each (λ e. Maps l (as-file e)) fs i e f
+      (map-each-file (Maps l) (keep alive (q .es)) (perm-each (Maps l) (Permᴰ·symm (q .ok .matches)) (maps-each l d)))
+
+  -- an index below the count has a file of the ledger
+  indexed-at : Distinct l → (i : ℕ) → i < length fs → Indexed im l i
+  indexed-at d i h =
+      let x = at-index fs i h in
+      record {
+        file = as-file (x .0);
+        mapped = maps-at d i (x .0) (x .1);
+        there = lists-at i (x .0) (x .1);
+        size = size-at i (x .0) (x .1);
+      }
+
+  -- one that is not below it has none
+  list-beyond : (i : ℕ) → length fs ≤ i → list im i .numbers .answer ≡ 2
+  list-beyond i h =
+      ap (λ (p : Answer Plan). carry-out im 0 p .numbers .answer)
+      (plan-list i ∙ ap (λ (x : List Entry). found listing (getElem? x i)) files-are ∙ ap (found listing) (past-end fs i h))
+      ∙ refused 2
+
   none-named : (n : List ℕ) → has n l ≡ false → (o : Option Entry) → Old n (q .es) o → o ≡ none
   none-named n h o x = go x
     where
@@ -272,13 +273,15 @@ module _ {l : Ledger} {im : Image} {r : Reading} (q : Rested l im r) where
       ap (λ (p : Answer Plan). carry-out im 0 p .numbers .answer) (plan-get n ok ∙ ap (found getting) f) ∙ refused 2
 
   -- list and get on a rested image
-  pub rested-shows : Shows im (length (files (r .entries))) l
-  rested-shows =
+  pub rested-shows : Distinct l → Shows im (length (files (r .entries))) l
+  rested-shows d =
       record {
         counted = count-is ∙ ledger-length;
         listed =
             subst (λ (k : ℕ). Each (Listed im k) l) (sym count-is)
             (over (Listed im (length fs)) (each-index (λ e. Listed im (length fs) (as-file e)) fs listed-at));
+        only = λ i h. indexed-at d i (subst (λ (k : ℕ). i < k) count-is h);
+        beyond = λ i h. list-beyond i (subst (λ (k : ℕ). k ≤ i) count-is h);
         got = over (Got im) (each-index (λ e. Got im (as-file e)) fs got-at);
         others = get-none;
       }

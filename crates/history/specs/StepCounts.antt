@@ -6,7 +6,7 @@ use mathlib.Core.List.{List, [], _∷_, _++_, map}
 use lib.ListN.{length, take}
 use Rattle.spec.specs.Step.{Step, program, erase}
 use Rattle.spec.specs.Bounds.{programs, erases, At-most}
-use Rattle.history.specs.Steps.{Programs}
+use Rattle.laws.specs.Steps.{Programs}
 
 pub kinds-length : (ss : List Step) → length ss ≡ programs ss + erases ss
 kinds-length [] = refl

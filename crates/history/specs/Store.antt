@@ -12,8 +12,8 @@ use Rattle.spec.specs.Bytes.{is-start, is-clean, is-unfinished}
 use Rattle.spec.specs.Record.{name-ok, Entry, name-of}
 use Rattle.spec.specs.Files.{same-name, named, named-as, has-named, live, superseded, files, doubled}
 use Rattle.spec.specs.Reading.{marked, second-ok, marks-ok, name-legal, names-ok, single}
-use Rattle.history.specs.Lists.{and-left, and-no, any-none, all-each, keep-none, keep-same, each-map, each-both, Pairwise, all-pairs, or-left}
-use Rattle.history.specs.Lists.{or-right}
+use Rattle.laws.specs.Tests.{and-left, and-no, or-left, or-right}
+use Rattle.history.specs.Lists.{any-none, all-each, keep-same, each-map, each-both, Pairwise, all-pairs}
 
 -- ---- names
 
@@ -109,9 +109,9 @@ pub files-alive : (es : List Entry) → Unique es → files es ≡ keep alive es
 files-alive es u = keep-same (live es) alive es (live-alive es u)
 
 -- no record is superseded
-pub none-superseded : (es : List Entry) → Unique es → keep (superseded es) es ≡ []
+pub none-superseded : (es : List Entry) → Unique es → Each (λ e. superseded es e ≡ false) es
 unfolding superseded
-none-superseded es u = keep-none (superseded es) es (each-map es (λ e h. and-no (named 0xF8 e) (has-named 0xFC es e) h) (no-fc es u))
+none-superseded es u = each-map es (λ e h. and-no (named 0xF8 e) (has-named 0xFC es e) h) (no-fc es u)
 
 -- ---- the rules
 

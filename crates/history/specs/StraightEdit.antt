@@ -6,10 +6,10 @@ use native.Mathlib.Nat.{zero-add, add-assoc}
 use mathlib.Core.Path.{_≡_, refl, sym, ap, _∙_}
 use mathlib.Core.List.{List, [], _∷_, _++_, append-assoc}
 use lib.ListN.{length, length-append}
-use Rattle.spec.specs.Step.{Step, run, moved}
+use Rattle.spec.specs.Step.{Step, run, shifted}
 use Rattle.spec.specs.Record.{Rec}
 use Rattle.history.specs.Lay.{onto, lay, rsize, sizes, lay-is, length-lay, All-fine}
-use Rattle.history.specs.Steps.{Programs, run-past}
+use Rattle.laws.specs.Steps.{run-past}
 use Rattle.history.specs.Seg.{Seg, seg-onto, seg-size, length-seg}
 use Rattle.history.specs.Straight.{Straight}
 
@@ -86,10 +86,10 @@ module _ {im : List ℕ} {a l : ℕ} {gap lost : List ℕ} {h : ℕ} {rs : List 
       ∙ sym (front-is gap lost xs (lay ys (seg-onto seg free)))
 
   -- programmed steps behind xs
-  pub run-behind : (ss : List Step) → Programs ss → run im (moved (h + sizes xs) ss) ≡ gap ++ (lost ++ lay xs (run (lay ys (seg-onto seg free)) ss))
-  run-behind ss p =
-      ap (λ (l : List ℕ). run l (moved (h + sizes xs) ss)) split-at
-      ∙ run-past (front-part gap lost xs) (lay ys (seg-onto seg free)) ss (h + sizes xs) front-length p
+  pub run-behind : (ss : List Step) → run im (shifted (h + sizes xs) ss) ≡ gap ++ (lost ++ lay xs (run (lay ys (seg-onto seg free)) ss))
+  run-behind ss =
+      ap (λ (l : List ℕ). run l (shifted (h + sizes xs) ss)) split-at
+      ∙ run-past (front-part gap lost xs) (lay ys (seg-onto seg free)) ss (h + sizes xs) front-length
       ∙ front-is gap lost xs (run (lay ys (seg-onto seg free)) ss)
 
 -- ---- a record changed

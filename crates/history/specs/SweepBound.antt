@@ -10,25 +10,27 @@ use lib.ListN.{length}
 use lib.Dec.{eqb, leb}
 use borrow.Author.Tests.{leb-true}
 use Rattle.spec.specs.Step.{Image, Step, program, erase, run}
-use Rattle.spec.specs.Basics.{Answer, refuse, give, checked, onward, concat, Each}
-use Rattle.spec.specs.Geometry.{good-length, floor, sectors-by}
+use Rattle.spec.specs.Basics.{give, checked, concat, Each, numbered}
+use Rattle.spec.specs.Geometry.{floor, sectors-by}
 use Rattle.spec.specs.Record.{Entry, name-of, content-of, data-at}
 use Rattle.spec.specs.Chain.{Reading, reading-from}
 use Rattle.spec.specs.Files.{live}
 use Rattle.spec.specs.Write.{put-steps}
-use Rattle.spec.specs.Move.{Work, begin, after, copy-steps, to-clean-step, hand-over, move}
-use Rattle.spec.specs.Move.{clean-steps, vacated-end, vacated, start-steps, forget-steps, vacate-steps, close-steps}
+use Rattle.spec.specs.Move.{Work, begin, after, copy-steps, to-clean-step, hand-over, move, clean-steps, vacated-end, vacated, start-steps, forget-steps, vacate-steps, close-steps}
 use Rattle.spec.specs.Sweep.{no-room, stuck, moves, sweep-moves}
-use Rattle.spec.specs.Answers.{Plan, sweeping, sweep-of, sweep-plan, settled-reading}
+use Rattle.spec.specs.Answers.{Plan, sweeping, sweep-of, sweep-plan}
+use Rattle.spec.specs.Door.{settled-reading, admitted}
 use Rattle.spec.specs.Bounds.{At-most, move-most, Sweep-bound, Sweep-kinds}
 use Rattle.history.specs.RepairCounts.{clean-programs, end-few, close-most}
-use Rattle.history.specs.Steps.{Programs}
+use Rattle.laws.specs.Steps.{Programs}
 use Rattle.history.specs.StepCounts.{most-length, most-none, most-append, most-more, most-programs}
 use Rattle.history.specs.Landing.{put-length}
-use Rattle.history.specs.Sweeps.{moves-stop, moves-on}
+use Rattle.laws.specs.Sweep.{moves-stuck, moves-next}
 use Rattle.history.specs.Used.{used-bound, used-kinds}
 use Rattle.history.specs.PutCount.{put-steps-most}
 use Rattle.history.specs.Inside.{Within, Seen, seen-from, settled-seen, Inner, programs-inner, inner-append, inner-length}
+use Rattle.laws.specs.Answer.{gave}
+use Rattle.laws.specs.Door.{admitted-gives}
 
 -- ---- steps (c) to (f) lie inside
 
@@ -160,12 +162,12 @@ moves-most {N} (suc k) im r s = go (stuck r) refl (λ m. moves-most k (move (beg
         → At-most (k * move-most N) (k * (N / 4096)) (concat (moves k (move (begin im r) .image) (move (begin im r) .reading)))) →
         At-most (suc k * move-most N) (suc k * (N / 4096)) (concat (moves (suc k) im r))
     go true e ih =
-        subst (λ (ms : List (List Step)). At-most (suc k * move-most N) (suc k * (N / 4096)) (concat ms)) (sym (moves-stop k im r e))
+        subst (λ (ms : List (List Step)). At-most (suc k * move-most N) (suc k * (N / 4096)) (concat ms)) (sym (moves-stuck im r (suc k) e))
         (most-more most-none (omega arith) (omega arith))
     go false e ih =
         let w : Work = move (begin im r) in
         let m : Moved N (move-most N) (N / 4096) w = moved-most im r s in
-        subst (λ (ms : List (List Step)). At-most (suc k * move-most N) (suc k * (N / 4096)) (concat ms)) (sym (moves-on k im r e))
+        subst (λ (ms : List (List Step)). At-most (suc k * move-most N) (suc k * (N / 4096)) (concat ms)) (sym (moves-next im r k e))
         (most-more (most-append (w .steps) (concat (moves k (w .image) (w .reading))) (m .most) (ih (m .seen)))
         (omega (arith, suc-mul k (move-most N))) (omega (arith, suc-mul k (N / 4096))))
 
@@ -180,12 +182,9 @@ record Sweeps-most (im : Image) (p : Plan) : Type 0 where
   pub own : p .done .steps ≡ length (p .steps)
   pub most : At-most (5 * move-most (length im)) (5 * (length im / 4096)) (p .steps)
 
-most-by : (im : Image) (p : Plan) (b : Bool) (a : Answer Reading) → settled-reading im ≡ a → checked b 22 (onward a (sweep-of im)) ≡ give p
-    → Sweeps-most im p
+most-by : (im : Image) (p : Plan) (r : Reading) → settled-reading im ≡ give r → sweep-of im r ≡ give p → Sweeps-most im p
 unfolding sweep-of
-most-by im p false a s e = absurd (let z : _≡_ {A = ℕ} 0 1 = cc in omega arith)
-most-by im p true (refuse k) s e = absurd (let z : _≡_ {A = ℕ} 0 1 = cc in omega arith)
-most-by im p true (give r) s e = into (no-room r (r .entries)) e
+most-by im p r s e = into (no-room r (r .entries)) e
   where
     N : ℕ
     N = length im
@@ -193,7 +192,7 @@ most-by im p true (give r) s e = into (no-room r (r .entries)) e
     n : ℕ
     n = length (r .entries)
 
-    into : (b : Bool) → checked (not b) 28 (give (sweeping (sweep-moves im r))) ≡ give p → Sweeps-most im p
+    into : (b : Bool) → checked (not b) (numbered 28) (give (sweeping (sweep-moves im r))) ≡ give p → Sweeps-most im p
     into true k = absurd (let z : _≡_ {A = ℕ} 0 1 = cc in omega arith)
     into false k =
         let i : sweeping (sweep-moves im r) ≡ p = cc in
@@ -205,7 +204,9 @@ most-by im p true (give r) s e = into (no-room r (r .entries)) e
 
 sweep-most : (im : Image) (p : Plan) → sweep-plan im ≡ give p → Sweeps-most im p
 unfolding sweep-plan
-sweep-most im p e = most-by im p (good-length (length im)) (settled-reading im) refl e
+sweep-most im p e =
+    let g = gave (admitted im) (sweep-of im) p e in
+    most-by im p (g .value) (admitted-gives im (g .value) (g .from) .1) (g .on)
 
 -- THE theorem on sweep
 pub sweep-bound : Sweep-bound

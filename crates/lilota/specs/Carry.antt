@@ -7,14 +7,16 @@ use mathlib.Core.List.{List}
 use lib.ListN.{length, take}
 use lib.Dec.{leb}
 use borrow.Author.Tests.{le-leb, lt-leb}
+use Rattle.spec.specs.declared.Refusal.{Refusal}
 use Rattle.spec.specs.Step.{Image, Step, run}
 use Rattle.spec.specs.Basics.{Answer, refuse, give, onward}
 use Rattle.spec.specs.Chain.{Reading}
-use Rattle.spec.specs.Answers.{Plan, refusal, numbers-of, carry-out, doing}
+use Rattle.spec.specs.Numbers.{outcome-of, of-write, refusal}
+use Rattle.spec.specs.Answers.{Plan, numbers-of, carry-out, doing}
 use Rattle.flash.specs.declared.Meter.{Meter}
 use Rattle.flash.specs.Did.{Did}
 use Rattle.lilota.specs.declared.Written.{Written}
-use Rattle.lilota.specs.Numbers.{given, outcome, written}
+use Rattle.lilota.specs.Numbers.{written, Written-told}
 
 -- "4: allowance used up before the last step"
 abbrev pub spent : Meter → Written
@@ -32,31 +34,38 @@ spent-done r h = sym (spent-is r true (le-leb (r .asked) (r .allowance) h))
 pub spent-cut : (r : Meter) → r .allowance < r .asked → Written.Cut (r .allowance) ≡ spent r
 spent-cut r h = sym (spent-is r false (lt-leb (r .asked) (r .allowance) h))
 
+-- no refusal
+pub spent-told : (r : Meter) → Written-told (spent r)
+spent-told r = go (leb (r .asked) (r .allowance)) refl where
+  go : (t : Bool) → leb (r .asked) (r .allowance) ≡ t → Written-told (spent r)
+  go true e = rw (spent-is r true e) tt
+  go false e = rw (spent-is r false e) tt
+
 answer-is : (ss : List Step) (k : ℕ) (r : Meter) (t : Bool) → r .asked ≡ length ss → r .allowance ≡ k → leb (length ss) k ≡ t
-    → written (spent r) ≡ numbers-of k (doing ss 0 0 0)
+    → written (spent r) ≡ numbers-of k (doing ss)
 unfolding numbers-of
-answer-is ss k r true a b e = ap written (spent-is r true (ap₂ leb a b ∙ e)) ∙ rw (numbers-of, e) (ap (given 0 0 0 0) a)
-answer-is ss k r false a b e = ap written (spent-is r false (ap₂ leb a b ∙ e)) ∙ rw (numbers-of, e) (ap (given 4 0 0 0) b)
+answer-is ss k r true a b e = ap written (spent-is r true (ap₂ leb a b ∙ e)) ∙ rw (numbers-of, e) (ap (of-write 0) a)
+answer-is ss k r false a b e = ap written (spent-is r false (ap₂ leb a b ∙ e)) ∙ rw (numbers-of, e) (ap (of-write 4) b)
 
 pub carried : {s t : Image} {m r : Meter} {ss : List Step} (k : ℕ) → m .asked ≡ 0 → m .allowance ≡ k → Did s m ss t r
-    → outcome (written (spent r)) t ≡ carry-out s k (give (doing ss 0 0 0))
+    → outcome-of (written (spent r)) t ≡ carry-out s k (give (doing ss))
 unfolding carry-out
 carried {s} {t} {m} {r} {ss} k z a d =
     let n : m .allowance - m .asked ≡ k = omega arith in
-    ap₂ outcome (answer-is ss k r _ (omega (arith, d .count)) (d .same ∙ a) refl) (d .bytes ∙ ap (λ (i : ℕ). run s (take i ss)) n)
+    ap₂ outcome-of (answer-is ss k r _ (omega (arith, d .count)) (d .same ∙ a) refl) (d .bytes ∙ ap (λ (i : ℕ). run s (take i ss)) n)
 
--- ---- a refusal
+-- ---- at the door
 
-pub refused : (s : Image) (k n : ℕ) → outcome (refusal n) s ≡ carry-out s k (refuse n)
+pub refused : (s : Image) (k : ℕ) (x : Refusal) → outcome-of (refusal x) s ≡ carry-out s k (refuse x)
 unfolding carry-out
-refused s k n = refl
+refused s k x = refl
 
--- the reading's refusal stands, whatever the call is
-pub read-refused : (s : Image) (k n : ℕ) {a : Answer Reading} (f : Reading → Answer Plan) → refuse n ≡ a
-    → outcome (refusal n) s ≡ carry-out s k (onward a f)
-read-refused s k n f e = refused s k n ∙ ap (λ (x : Answer Reading). carry-out s k (onward x f)) e
+-- the door's refusal stands, whatever the call is
+pub shut : (s : Image) (k : ℕ) (x : Refusal) {a : Answer Reading} (f : Reading → Answer Plan) → refuse x ≡ a
+    → outcome-of (refusal x) s ≡ carry-out s k (onward a f)
+shut s k x f e = refused s k x ∙ ap (λ (y : Answer Reading). carry-out s k (onward y f)) e
 
 -- what was read goes on to the call
-pub read-on : (s : Image) (k : ℕ) (r : Reading) {a : Answer Reading} (f : Reading → Answer Plan) → give r ≡ a
+pub let-in : (s : Image) (k : ℕ) (r : Reading) {a : Answer Reading} (f : Reading → Answer Plan) → give r ≡ a
     → carry-out s k (f r) ≡ carry-out s k (onward a f)
-read-on s k r f e = ap (λ (x : Answer Reading). carry-out s k (onward x f)) e
+let-in s k r f e = ap (λ (y : Answer Reading). carry-out s k (onward y f)) e

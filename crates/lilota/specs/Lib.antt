@@ -1,11 +1,10 @@
 pub mod Numbers
 pub mod Carry
-pub mod Length
+pub mod Door
+pub mod Calls
+pub mod Format
 pub mod Look
-pub mod Ground
-pub mod Settled
 pub mod Put
 pub mod Remove
 pub mod Mount
-pub mod Start
 pub mod Sweep

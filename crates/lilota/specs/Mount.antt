@@ -3,39 +3,24 @@ use Prim.Native.Nat.{ℕ, _-_, _≤_, _<_}
 use native.Mathlib.Omega.{arith}
 use native.Mathlib.Nat.{sub-zero}
 use mathlib.Core.Path.{_≡_, sym, ap, ap₂, _∙_}
-use mathlib.Core.Bool.{true, false}
 use lib.ListN.{length, take}
 use borrow.Author.Tests.{le-leb, lt-leb}
 use Rattle.spec.specs.Step.{Image, run}
-use Rattle.spec.specs.Basics.{give, onward}
-use Rattle.spec.specs.Geometry.{good-length}
+use Rattle.spec.specs.Basics.{give}
 use Rattle.spec.specs.Chain.{reading-from}
 use Rattle.spec.specs.Files.{files}
 use Rattle.spec.specs.Reading.{reading}
 use Rattle.spec.specs.Move.{Work}
 use Rattle.spec.specs.Mount.{mended}
-use Rattle.spec.specs.Answers.{Numbers, Plan, refusal, numbers-of, carry-out, mount-work, mount-of, mount-plan, mount}
+use Rattle.spec.specs.Numbers.{Numbers, outcome-of, of-write, of-mount}
+use Rattle.spec.specs.Answers.{Plan, numbers-of, carry-out, mount-work, mount-of}
 use Rattle.reading.specs.declared.Survey.{Survey}
 use Rattle.reading.specs.Read.{reading-of}
+use Rattle.reading.specs.Accepted.{Accepted}
 use Rattle.recovery.specs.declared.Mended.{Mended}
 use Rattle.recovery.specs.Counted.{Counted, Numbered}
-use Rattle.lilota.specs.declared.mount.Mounted.{Mounted}
-use Rattle.lilota.specs.Numbers.{given, outcome, mounted}
-use Rattle.lilota.specs.Length.{good}
-use Rattle.lilota.specs.Settled.{read-again}
-
--- an image that was read as s
-pub record Legal (image : Image) (s : Survey) : Type 0 where
-  pub same : reading-of image s ≡ reading-from image (s .place .head)
-  pub below : s .place .head < length image
-  pub long : 8192 ≤ length image
-  pub most : length image ≤ 16777216
-
-pub legal-of : (image : Image) (s : Survey) → good-length (length image) ≡ true → give (reading-of image s) ≡ reading image → Legal image s
-legal-of image s g e =
-    let n = good (length image) g in
-    let p = read-again image (reading-of image s) (omega (arith, n .two)) (sym e) in
-    record { same = p .1; below = p .0; long = n .two; most = n .most }
+use Rattle.lilota.specs.declared.Mounted.{Mounted}
+use Rattle.lilota.specs.Numbers.{report, mounted}
 
 -- ---- the plan carried out
 
@@ -43,16 +28,16 @@ plan-done : (image : Image) (k : ℕ) (p : Plan) → length (p .steps) ≤ k →
 unfolding numbers-of
 plan-done image k p h = rw (numbers-of, le-leb (length (p .steps)) k h)
 
-plan-cut : (image : Image) (k : ℕ) (w : Work) → k < length (w .steps) → numbers-of k (mount-work w) ≡ given 4 0 0 0 k
+plan-cut : (image : Image) (k : ℕ) (w : Work) → k < length (w .steps) → numbers-of k (mount-work w) ≡ of-write 4 k
 unfolding numbers-of
 plan-cut image k w h = rw (numbers-of, lt-leb (length (w .steps)) k h)
 
 carried : (image t : Image) (k : ℕ) (p : Plan) (n : Numbers) → numbers-of k p ≡ n → t ≡ run image (take k (p .steps))
-    → outcome n t ≡ carry-out image k (give p)
+    → outcome-of n t ≡ carry-out image k (give p)
 unfolding carry-out
 carried image t k p n e b = ap₂ (λ (m : Numbers) (i : Image). record { numbers = m; image = i }) (sym e) b
 
-module _ (image t : Image) (k : ℕ) (s : Survey) (l : Legal image s) (r : Mended)
+module _ (image t : Image) (k : ℕ) (s : Survey) (l : Accepted image s) (r : Mended)
     (c : Counted image (s .place .head) (record { allowance = k; asked = 0 }) t r) where
   work-is : mended image (reading-from image (s .place .head)) ≡ mended image (reading-of image s)
   work-is = ap (mended image) (sym (l .same))
@@ -61,35 +46,24 @@ module _ (image t : Image) (k : ℕ) (s : Survey) (l : Legal image s) (r : Mende
   bytes-are = c .begun .bytes ∙ ap₂ (λ (n : ℕ) (w : Work). run image (take n (w .steps))) (sub-zero k) work-is
 
   pub mount-cut : r .meter .allowance < r .meter .asked
-      → outcome (mounted (Mounted.Cut (r .meter .allowance))) t ≡ carry-out image k (mount-of image (reading-of image s))
+      → outcome-of (mounted (Mounted.Cut (r .meter .allowance))) t ≡ carry-out image k (mount-of image (reading-of image s))
   mount-cut h =
       let short : k < length (mended image (reading-of image s) .steps) = omega (arith, c .begun .cut h, ap (λ (w : Work). length (w .steps)) work-is) in
-      carried image t k (mount-work (mended image (reading-of image s))) (given 4 0 0 0 (r .meter .allowance))
-      (plan-cut image k (mended image (reading-of image s)) short ∙ ap (given 4 0 0 0) (sym (c .begun .same))) bytes-are
+      carried image t k (mount-work (mended image (reading-of image s))) (of-write 4 (r .meter .allowance))
+      (plan-cut image k (mended image (reading-of image s)) short ∙ ap (of-write 4) (sym (c .begun .same))) bytes-are
 
   pub mount-done : r .meter .asked ≤ r .meter .allowance →
-      outcome (mounted (Mounted.Done (r .head) (r .tail) (r .files) (r .meter .asked))) t ≡ carry-out image k (mount-of image (reading-of image s))
+      outcome-of (mounted (Mounted.Done (report (r .head) (r .tail) (r .files)) (r .meter .asked))) t ≡ carry-out image k (mount-of image (reading-of image s))
   mount-done h = go (mended image (reading-from image (s .place .head))) (c .done h) (c .begun .whole h ∙ omega arith) work-is
     where
       go : (w : Work) → Numbered w r → r .meter .asked ≡ length (w .steps) → w ≡ mended image (reading-of image s) →
-          outcome (mounted (Mounted.Done (r .head) (r .tail) (r .files) (r .meter .asked))) t ≡ carry-out image k
+          outcome-of (mounted (Mounted.Done (report (r .head) (r .tail) (r .files)) (r .meter .asked))) t ≡ carry-out image k
           (mount-of image (reading-of image s))
       go w n count e =
           let steps : length (w .steps) ≡ length (mended image (reading-of image s) .steps) = ap (λ (x : Work). length (x .steps)) e in
-          carried image t k (mount-work (mended image (reading-of image s))) (given 0 (r .head) (r .tail) (r .files) (r .meter .asked))
+          carried image t k (mount-work (mended image (reading-of image s))) (of-mount 0 (report (r .head) (r .tail) (r .files)) (r .meter .asked))
           (plan-done image k (mount-work (mended image (reading-of image s))) (omega (arith, count, steps, c .begun .same, h))
-          ∙ sym (λ i. given 0 ((n .head ∙ ap (λ (x : Work). x .reading .place .head) e) i)
+          ∙ sym (λ i. of-mount 0 (report ((n .head ∙ ap (λ (x : Work). x .reading .place .head) e) i)
           ((n .tail ∙ ap (λ (x : Work). x .reading .place .tail) e) i)
-          ((n .files ∙ ap (λ (x : Work). length (files (x .reading .entries))) e) i) ((count ∙ steps) i)))
+          ((n .files ∙ ap (λ (x : Work). length (files (x .reading .entries))) e) i)) ((count ∙ steps) i)))
           bytes-are
-
--- ---- the refusals
-
-pub mount-length : (image : Image) (k : ℕ) → good-length (length image) ≡ false → outcome (refusal 22) image ≡ mount image k
-unfolding mount-plan carry-out
-mount-length image k h = rw (mount-plan, h, carry-out)
-
-pub mount-on : (image : Image) (k : ℕ) → good-length (length image) ≡ true
-    → carry-out image k (onward (reading image) (mount-of image)) ≡ mount image k
-unfolding mount-plan
-mount-on image k h = rw (mount-plan, h)

@@ -1,63 +1,109 @@
 -- What the public calls' answers say in document 01's words: its number and values, for each case of each enum.
-use Prim.Native.Nat.{ℕ}
-use mathlib.Core.Path.{_≡_, _∙_}
+use Prim.Native.Nat.{ℕ, _+_, _≤_}
+use mathlib.Core.Path.{_≡_, refl, _∙_}
+use mathlib.Core.Bool.{true}
+use mathlib.Core.List.{List}
+use lib.ListN.{length}
+use denote.Ref.{RefT, ptr}
+use Rattle.spec.specs.declared.Report.{Report}
+use Rattle.spec.specs.declared.Extent.{Extent}
 use Rattle.spec.specs.Step.{Image}
-use Rattle.spec.specs.Answers.{Numbers, Outcome, refusal}
+use Rattle.spec.specs.Numbers.{Numbers, Outcome, outcome-of, of-write, of-mount, of-sweep, of-get, of-list, refusal, is-refusal}
 use Rattle.lilota.specs.declared.Written.{Written}
+use Rattle.lilota.specs.declared.Mounted.{Mounted}
 use Rattle.lilota.specs.declared.Swept.{Swept}
-use Rattle.lilota.specs.declared.mount.Mounted.{Mounted}
-use Rattle.lilota.specs.declared.Held.{Held}
+use Rattle.lilota.specs.declared.Located.{Located}
 use Rattle.lilota.specs.declared.Listed.{Listed}
-
--- the numbers that a call of the C interface gives back: its answer, and those that it leaves in lent numbers
-abbrev pub given : ℕ → ℕ → ℕ → ℕ → ℕ → Numbers
-given answer first second third steps = record { answer = answer; first = first; second = second; third = third; steps = steps }
-
-abbrev pub outcome : Numbers → Image → Outcome
-outcome n image = record { numbers = n; image = image }
 
 -- format, put and remove: "Writing calls .. report steps used"
 abbrev pub written : Written → Numbers
-written (Written.Done k) = given 0 0 0 0 k
-written (Written.Cut k) = given 4 0 0 0 k
-written (Written.Refused n) = refusal n
+written (Written.Done k) = of-write 0 k
+written (Written.Cut k) = of-write 4 k
+written (Written.Refused x) = refusal x
 
 -- "Mount's success gives h, T, the count of live files (of the image it leaves), steps"
 abbrev pub mounted : Mounted → Numbers
-mounted (Mounted.Done h t n k) = given 0 h t n k
-mounted (Mounted.Cut k) = given 4 0 0 0 k
-mounted (Mounted.Refused n) = refusal n
+mounted (Mounted.Done r k) = of-mount 0 r k
+mounted (Mounted.Cut k) = of-write 4 k
+mounted (Mounted.Refused x) = refusal x
 
 -- "Sweep's success gives finished moves and steps"; "4: steps used, and for sweep the finished moves"
 abbrev pub swept : Swept → Numbers
-swept (Swept.Done n k) = given 0 n 0 0 k
-swept (Swept.Cut n k) = given 4 n 0 0 k
-swept (Swept.Refused n) = refusal n
+swept (Swept.Done n k) = of-sweep 0 n k
+swept (Swept.Cut n k) = of-sweep 4 n k
+swept (Swept.Refused x) = refusal x
 
 -- "there get gives offset and length"
-abbrev pub held-at : Held → Numbers
-held-at h = given (h .answer) (h .offset) (h .length) 0 0
+abbrev pub located : Located → Numbers
+located l = of-get (l .answer) (l .extent)
 
 -- "List by index (chain order) gives name part and length"
-abbrev pub listed-at : Listed → Numbers
-listed-at l = given (l .answer) (l .offset) (l .length) (l .content) 0
+abbrev pub listed : Listed → Numbers
+listed l = of-list (l .answer) (l .name) (l .size)
 
--- ---- what C gets of an answer is its numbers
+-- ---- which case of an enum stands for an answer: a refusal has a refusal's number, so that the numbers tell the case
 
-pub written-given : (w : Written) (n k : ℕ) (t : Image) (o : Outcome) → n ≡ written w .answer → k ≡ written w .steps → outcome (written w) t ≡ o
-    → outcome (given n 0 0 0 k) t ≡ o
-written-given (Written.Done i) n k t o p q e = (λ j. outcome (given (p j) 0 0 0 (q j)) t) ∙ e
-written-given (Written.Cut i) n k t o p q e = (λ j. outcome (given (p j) 0 0 0 (q j)) t) ∙ e
-written-given (Written.Refused i) n k t o p q e = (λ j. outcome (given (p j) 0 0 0 (q j)) t) ∙ e
+abbrev pub Written-told : Written → Type 0
+Written-told (Written.Done k) = Unit {0}
+Written-told (Written.Cut k) = Unit {0}
+Written-told (Written.Refused x) = is-refusal (x .number) ≡ true
 
-pub mounted-given : (w : Mounted) (a h t n k : ℕ) (i : Image) (o : Outcome) → a ≡ mounted w .answer → h ≡ mounted w .first
-    → t ≡ mounted w .second → n ≡ mounted w .third → k ≡ mounted w .steps → outcome (mounted w) i ≡ o → outcome (given a h t n k) i ≡ o
-mounted-given (Mounted.Done x y z v) a h t n k i o p q r s u e = (λ j. outcome (given (p j) (q j) (r j) (s j) (u j)) i) ∙ e
-mounted-given (Mounted.Cut x) a h t n k i o p q r s u e = (λ j. outcome (given (p j) (q j) (r j) (s j) (u j)) i) ∙ e
-mounted-given (Mounted.Refused x) a h t n k i o p q r s u e = (λ j. outcome (given (p j) (q j) (r j) (s j) (u j)) i) ∙ e
+abbrev pub Mounted-told : Mounted → Type 0
+Mounted-told (Mounted.Done r k) = Unit {0}
+Mounted-told (Mounted.Cut k) = Unit {0}
+Mounted-told (Mounted.Refused x) = is-refusal (x .number) ≡ true
 
-pub swept-given : (w : Swept) (n i k : ℕ) (t : Image) (o : Outcome) → n ≡ swept w .answer → i ≡ swept w .first → k ≡ swept w .steps
-    → outcome (swept w) t ≡ o → outcome (given n i 0 0 k) t ≡ o
-swept-given (Swept.Done a b) n i k t o p q r e = (λ j. outcome (given (p j) (q j) 0 0 (r j)) t) ∙ e
-swept-given (Swept.Cut a b) n i k t o p q r e = (λ j. outcome (given (p j) (q j) 0 0 (r j)) t) ∙ e
-swept-given (Swept.Refused a) n i k t o p q r e = (λ j. outcome (given (p j) (q j) 0 0 (r j)) t) ∙ e
+abbrev pub Swept-told : Swept → Type 0
+Swept-told (Swept.Done n k) = Unit {0}
+Swept-told (Swept.Cut n k) = Unit {0}
+Swept-told (Swept.Refused x) = is-refusal (x .number) ≡ true
+
+-- the refusals that stand behind the door
+pub no-file : is-refusal 2 ≡ true
+unfolding is-refusal
+no-file = refl
+
+pub no-room : is-refusal 28 ≡ true
+unfolding is-refusal
+no-room = refl
+
+-- and the one before it
+pub bad-length : is-refusal 22 ≡ true
+unfolding is-refusal
+bad-length = refl
+
+-- ---- parts of the image
+
+-- a stretch that lies in the image
+abbrev pub Inside : Image → Extent → Type 0
+Inside image x = x .offset + x .length ≤ length image
+
+-- the part r is the stretch x of the image itself: it begins so far behind the image's first byte
+abbrev pub Lies-at : RefT (List ℕ) → RefT (List ℕ) → Extent → Type 0
+Lies-at r image x = ptr r ≡ (ptr image .0, x .offset + ptr image .1)
+
+-- ---- what C gets of an answer: its numbers, one by one
+
+abbrev pub report : ℕ → ℕ → ℕ → Report
+report head tail files = record { head = head; tail = tail; files = files }
+
+abbrev pub extent : ℕ → ℕ → Extent
+extent offset length = record { offset = offset; length = length }
+
+pub written-given : (w : Written) (n k : ℕ) (t : Image) (o : Outcome) → n ≡ written w .answer → k ≡ written w .steps → outcome-of (written w) t ≡ o
+    → outcome-of (of-write n k) t ≡ o
+written-given (Written.Done i) n k t o p q e = (λ j. outcome-of (of-write (p j) (q j)) t) ∙ e
+written-given (Written.Cut i) n k t o p q e = (λ j. outcome-of (of-write (p j) (q j)) t) ∙ e
+written-given (Written.Refused x) n k t o p q e = (λ j. outcome-of (of-write (p j) (q j)) t) ∙ e
+
+pub mounted-given : (w : Mounted) (a k : ℕ) (r : Report) (i : Image) (o : Outcome) → a ≡ mounted w .answer → r ≡ mounted w .report
+    → k ≡ mounted w .steps → outcome-of (mounted w) i ≡ o → outcome-of (of-mount a r k) i ≡ o
+mounted-given (Mounted.Done x y) a k r i o p q s e = (λ j. outcome-of (of-mount (p j) (q j) (s j)) i) ∙ e
+mounted-given (Mounted.Cut x) a k r i o p q s e = (λ j. outcome-of (of-mount (p j) (q j) (s j)) i) ∙ e
+mounted-given (Mounted.Refused x) a k r i o p q s e = (λ j. outcome-of (of-mount (p j) (q j) (s j)) i) ∙ e
+
+pub swept-given : (w : Swept) (n i k : ℕ) (t : Image) (o : Outcome) → n ≡ swept w .answer → i ≡ swept w .moves → k ≡ swept w .steps
+    → outcome-of (swept w) t ≡ o → outcome-of (of-sweep n i k) t ≡ o
+swept-given (Swept.Done a b) n i k t o p q r e = (λ j. outcome-of (of-sweep (p j) (q j) (r j)) t) ∙ e
+swept-given (Swept.Cut a b) n i k t o p q r e = (λ j. outcome-of (of-sweep (p j) (q j) (r j)) t) ∙ e
+swept-given (Swept.Refused x) n i k t o p q r e = (λ j. outcome-of (of-sweep (p j) (q j) (r j)) t) ∙ e

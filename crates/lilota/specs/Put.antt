@@ -10,14 +10,13 @@ use lib.Seq.{getD-drop}
 use Rattle.spec.specs.declared.Place.{Place}
 use Rattle.spec.specs.declared.Status.{Status}
 use Rattle.spec.specs.Step.{Image}
-use Rattle.spec.specs.Basics.{Answer, give, checked, onward, keep, first-such}
-use Rattle.spec.specs.Geometry.{good-length}
-use Rattle.spec.specs.Record.{Entry, size-of, name-ok}
+use Rattle.spec.specs.Basics.{Answer, give, checked, keep, first-such, numbered}
+use Rattle.spec.specs.Record.{Entry, size-of}
 use Rattle.spec.specs.Files.{has-name, file-named}
 use Rattle.spec.specs.Chain.{Reading}
 use Rattle.spec.specs.Place.{fits, fits-all, room}
 use Rattle.spec.specs.Write.{put-steps}
-use Rattle.spec.specs.Answers.{Plan, refusal, carry-out, doing, settled-reading, put-into, put-plan, put}
+use Rattle.spec.specs.Answers.{Plan, carry-out, doing, put-into}
 use Rattle.reading.specs.declared.Spot.{Spot}
 use Rattle.reading.specs.declared.Found.{Found}
 use Rattle.reading.specs.declared.Survey.{Survey}
@@ -26,13 +25,12 @@ use Rattle.reading.specs.Seek.{found-in}
 use Rattle.reading.specs.NamesLaw.{files-are}
 use Rattle.reading.specs.Room.{room-in}
 use Rattle.reading.specs.Read.{reading-of}
+use Rattle.reading.specs.Accepted.{Settled, place-sound, marker-room}
 use Rattle.writing.specs.declared.Old.{Old}
 use Rattle.writing.specs.declared.Old.the-variants as old-as
-use Rattle.writing.specs.Old.{old-of, entry-of as entry-of-old, put-old}
+use Rattle.writing.specs.Old.{old-of, old-entry as entry-of-old, put-old}
 use Rattle.writing.specs.Room.{placed-inside}
 use Rattle.writing.specs.Put.{Ready}
-use Rattle.lilota.specs.Numbers.{outcome}
-use Rattle.lilota.specs.Settled.{Settled}
 
 -- ---- the room
 
@@ -66,33 +64,22 @@ pub ready : (image : Image) (s : Survey) (n d asked : ℕ) → Settled image s �
     → Ready (s .place) (length image) n d asked
 ready image s n d asked w l f z =
     record {
-      sound = w .sound;
-      whole = w .surveyed .place .whole;
+      sound = place-sound image s (w .accepted);
+      whole = w .accepted .surveyed .place .whole;
       taken = f;
       named = l;
-      gap = w .gap;
-      few = omega (arith, placed-inside (s .place) (size-of n d) (w .sound) f, w .sound .short);
+      gap = marker-room image s (w .accepted);
+      few =
+          let p = place-sound image s (w .accepted) in
+          omega (arith, placed-inside (s .place) (size-of n d) p f, p .short);
     }
 
 -- ---- the outcome
 
 module _ (image : Image) (k : ℕ) (name content : List ℕ) where
-  pub put-length : good-length (length image) ≡ false → outcome (refusal 22) image ≡ put image name content k
-  unfolding put-plan carry-out
-  put-length h = rw (put-plan, h, carry-out)
-
-  pub put-name : good-length (length image) ≡ true → name-ok name ≡ false → outcome (refusal 22) image ≡ put image name content k
-  unfolding put-plan carry-out
-  put-name h g = rw (put-plan, h, g, carry-out)
-
-  pub put-on : good-length (length image) ≡ true → name-ok name ≡ true
-      → carry-out image k (onward (settled-reading image) (put-into name content)) ≡ put image name content k
-  unfolding put-plan
-  put-on h g = rw (put-plan, h, g)
-
   -- the steps, if there is room (t)
   abbrev put-if : Reading → Bool → Answer Plan
-  put-if r t = checked t 28 (give (doing (put-steps (r .place) (file-named name (r .entries)) name content) 0 0 0))
+  put-if r t = checked t (numbered 28) (give (doing (put-steps (r .place) (file-named name (r .entries)) name content)))
 
   pub put-room : (r : Reading) (t : Bool) → t ≡ room-in r name (length content)
       → carry-out image k (put-if r t) ≡ carry-out image k (put-into name content r)

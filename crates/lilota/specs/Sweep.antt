@@ -2,37 +2,29 @@
 use Prim.Native.Nat.{ℕ, _-_, _≤_, _<_, min}
 use native.Mathlib.Omega.{arith}
 use mathlib.Core.Path.{_≡_, sym, ap, ap₂, _∙_}
-use mathlib.Core.Bool.{Bool, true, false, not}
+use mathlib.Core.Bool.{Bool, not}
 use mathlib.Core.List.{List}
 use lib.ListN.{length, take}
 use borrow.Author.Tests.{le-leb, lt-leb}
 use Rattle.spec.specs.Step.{Image, Step, run}
-use Rattle.spec.specs.Basics.{give, checked, onward, concat}
-use Rattle.spec.specs.Geometry.{good-length}
+use Rattle.spec.specs.Basics.{give, checked, concat, numbered}
 use Rattle.spec.specs.Chain.{Reading, reading-from}
 use Rattle.spec.specs.Sweep.{no-room, moves}
-use Rattle.spec.specs.Answers.{refusal, finished, numbers-of, carry-out, sweeping, settled-reading, sweep-of, sweep-plan, sweep}
+use Rattle.spec.specs.Numbers.{outcome-of, of-sweep}
+use Rattle.spec.specs.Answers.{finished, numbers-of, carry-out, sweeping, sweep-of}
 use Rattle.flash.specs.declared.Meter.{Meter}
 use Rattle.reading.specs.declared.Survey.{Survey}
 use Rattle.reading.specs.RuleLaws.{count-is}
-use Rattle.reading.specs.Read.{reading-of, Surveyed}
+use Rattle.reading.specs.Read.{reading-of}
+use Rattle.reading.specs.Accepted.{Accepted}
 use Rattle.sweeping.specs.Moves.{Moves, finished-all}
 use Rattle.sweeping.specs.Planned.{Headed}
 use Rattle.lilota.specs.declared.Swept.{Swept}
-use Rattle.lilota.specs.Numbers.{given, outcome, swept}
-use Rattle.lilota.specs.Start.{settled-headed}
+use Rattle.lilota.specs.Numbers.{swept}
 
--- what the sweep of a settled image goes by
-pub record Readied (image : Image) (s : Survey) : Type 0 where
-  pub headed : Headed image (s .place)
-  pub same : reading-of image s ≡ reading-from image (s .place .head)
-  pub count : s .tally .records ≡ length (reading-of image s .entries)
-
-pub readied : (image : Image) (s : Survey) → good-length (length image) ≡ true → give (reading-of image s) ≡ settled-reading image → Surveyed image s
-    → Readied image s
-readied image s n e v =
-    let h = settled-headed image (reading-of image s) n e in
-    record { headed = h .0; same = h .1; count = count-is (v .tallied) }
+-- what the moves of an image that was read go by
+pub headed : (image : Image) (s : Survey) → Accepted image s → Headed image (s .place)
+headed image s w = record { led = w .led; same = ap (λ (r : Reading). r .place) (w .same) }
 
 -- ---- the moves, carried out
 
@@ -45,39 +37,31 @@ module _ {s t : Image} {m r : Meter} {ms : List (List Step)} {n : ℕ} (k : ℕ)
   count-as : n ≡ finished k 0 ms
   count-as = w .count ∙ ap₂ (λ (i j : ℕ). finished i j ms) a z
 
-  pub swept-done : r .asked ≤ r .allowance → outcome (swept (Swept.Done n (r .asked))) t ≡ carry-out s k (give (sweeping ms))
+  pub swept-done : r .asked ≤ r .allowance → outcome-of (swept (Swept.Done n (r .asked))) t ≡ carry-out s k (give (sweeping ms))
   unfolding carry-out numbers-of
   swept-done h =
       let e : r .asked ≡ length (concat ms) = w .begun .whole h ∙ omega arith in
       let l : length (concat ms) ≤ k = omega (arith, w .begun .same) in
       let f : n ≡ length ms = count-as ∙ finished-all k 0 ms (omega arith) in
-      rw (carry-out, numbers-of, le-leb (length (concat ms)) k l) (ap₂ outcome (ap₂ (λ (i j : ℕ). given 0 i 0 0 j) f e) left-is)
+      rw (carry-out, numbers-of, le-leb (length (concat ms)) k l) (ap₂ outcome-of (ap₂ (of-sweep 0) f e) left-is)
 
-  pub swept-cut : r .allowance < r .asked → outcome (swept (Swept.Cut n (r .allowance))) t ≡ carry-out s k (give (sweeping ms))
+  pub swept-cut : r .allowance < r .asked → outcome-of (swept (Swept.Cut n (r .allowance))) t ≡ carry-out s k (give (sweeping ms))
   unfolding carry-out numbers-of
   swept-cut h =
       let l : k < length (concat ms) = omega (arith, w .begun .cut h) in
-      rw (carry-out, numbers-of, lt-leb (length (concat ms)) k l) (ap₂ outcome (ap₂ (λ (i j : ℕ). given 4 i 0 0 j) count-as (w .begun .same ∙ a)) left-is)
+      rw (carry-out, numbers-of, lt-leb (length (concat ms)) k l) (ap₂ outcome-of (ap₂ (of-sweep 4) count-as (w .begun .same ∙ a)) left-is)
 
 -- ---- the plan
 
 module _ (image : Image) (k : ℕ) where
-  pub sweep-length : good-length (length image) ≡ false → outcome (refusal 22) image ≡ sweep image k
-  unfolding sweep-plan carry-out
-  sweep-length h = rw (sweep-plan, h, carry-out)
-
-  pub sweep-on : good-length (length image) ≡ true → carry-out image k (onward (settled-reading image) (sweep-of image)) ≡ sweep image k
-  unfolding sweep-plan
-  sweep-on h = rw (sweep-plan, h)
-
   -- 28, or the moves
-  pub sweep-room : (s : Survey) (t : Bool) → Readied image s
+  pub sweep-room : (s : Survey) (t : Bool) → Accepted image s
       → t ≡ no-room (reading-from image (s .place .head)) (reading-from image (s .place .head) .entries)
-      → carry-out image k (checked (not t) 28 (give (sweeping (moves (min 5 (s .tally .records)) image (reading-from image (s .place .head)))))) ≡
+      → carry-out image k (checked (not t) (numbered 28) (give (sweeping (moves (min 5 (s .tally .records)) image (reading-from image (s .place .head)))))) ≡
       carry-out image k (sweep-of image (reading-of image s))
   unfolding sweep-of
   sweep-room s t w e =
       let r : Reading = reading-from image (s .place .head) in
-      let c : s .tally .records ≡ length (r .entries) = w .count ∙ ap (λ (x : Reading). length (x .entries)) (w .same) in
-      ap₂ (λ (b : Bool) (i : ℕ). carry-out image k (checked (not b) 28 (give (sweeping (moves (min 5 i) image r))))) e c
+      let c : s .tally .records ≡ length (r .entries) = count-is (w .surveyed .tallied) ∙ ap (λ (x : Reading). length (x .entries)) (w .same) in
+      ap₂ (λ (b : Bool) (i : ℕ). carry-out image k (checked (not b) (numbered 28) (give (sweeping (moves (min 5 i) image r))))) e c
       ∙ ap (λ (x : Reading). carry-out image k (sweep-of image x)) (sym (w .same))

@@ -7,12 +7,13 @@ use crate::put::put;
 use crate::remove::remove;
 use crate::sweep::sweep;
 ghost use mathlib.Core.Path.{_≡_};
+ghost use Rattle.spec.specs.Numbers.{outcome-of, of-write, of-mount, of-sweep, of-get, of-list};
 ghost use Rattle.spec.specs.Answers.{format, mount, put, get, list, remove, sweep};
-ghost use Rattle.lilota.specs.Numbers.{given, outcome};
+ghost use Rattle.lilota.specs.Numbers.{report, extent};
 
 #[no_mangle]
 pub extern "C" fn lilota_format(image: &mut [u8], allowance: usize, steps: &mut usize) -> u32
-    ensures { λ r. ⌜ outcome (given r 0 0 0 (now (steps .exit))) (now (image .exit)) ≡ format (now (image .entry)) allowance ⌝ }
+    ensures { λ r. ⌜ outcome-of (of-write r (now (steps .exit))) (now (image .exit)) ≡ format (now (image .entry)) allowance ⌝ }
 {
     let w = format(image, allowance);
     *steps = w.steps();
@@ -28,12 +29,15 @@ pub extern "C" fn lilota_mount(
     files: &mut usize,
     steps: &mut usize,
 ) -> u32
-    ensures { λ r. ⌜ outcome (given r (now (head .exit)) (now (tail .exit)) (now (files .exit)) (now (steps .exit))) (now (image .exit)) ≡ mount (now (image .entry)) allowance ⌝ }
+    ensures { λ r. ⌜ outcome-of
+        (of-mount r (report (now (head .exit)) (now (tail .exit)) (now (files .exit))) (now (steps .exit))) (now (image .exit))
+        ≡ mount (now (image .entry)) allowance ⌝ }
 {
     let w = mount(image, allowance);
-    *head = w.head();
-    *tail = w.tail();
-    *files = w.files();
+    let x = w.report();
+    *head = x.head;
+    *tail = x.tail;
+    *files = x.files;
     *steps = w.steps();
     w.answer()
 }
@@ -46,7 +50,8 @@ pub extern "C" fn lilota_put(
     allowance: usize,
     steps: &mut usize,
 ) -> u32
-    ensures { λ r. ⌜ outcome (given r 0 0 0 (now (steps .exit))) (now (image .exit)) ≡ put (now (image .entry)) (now (name .entry)) (now (content .entry)) allowance ⌝ }
+    ensures { λ r. ⌜ outcome-of (of-write r (now (steps .exit))) (now (image .exit))
+        ≡ put (now (image .entry)) (now (name .entry)) (now (content .entry)) allowance ⌝ }
 {
     let w = put(image, name, content, allowance);
     *steps = w.steps();
@@ -55,11 +60,13 @@ pub extern "C" fn lilota_put(
 
 #[no_mangle]
 pub extern "C" fn lilota_get(image: &[u8], name: &[u8], offset: &mut usize, size: &mut usize) -> u32
-    ensures { λ r. ⌜ outcome (given r (now (offset .exit)) (now (size .exit)) 0 0) (now (image .exit)) ≡ get (now (image .entry)) (now (name .entry)) ⌝ }
+    ensures { λ r. ⌜ outcome-of (of-get r (extent (now (offset .exit)) (now (size .exit)))) (now (image .exit))
+        ≡ get (now (image .entry)) (now (name .entry)) ⌝ }
 {
     let h = get_place(image, name);
-    *offset = h.offset;
-    *size = h.length;
+    let x = h.extent;
+    *offset = x.offset;
+    *size = x.length;
     h.answer
 }
 
@@ -71,12 +78,14 @@ pub extern "C" fn lilota_list(
     length: &mut usize,
     size: &mut usize,
 ) -> u32
-    ensures { λ r. ⌜ outcome (given r (now (offset .exit)) (now (length .exit)) (now (size .exit)) 0) (now (image .exit)) ≡ list (now (image .entry)) index ⌝ }
+    ensures { λ r. ⌜ outcome-of (of-list r (extent (now (offset .exit)) (now (length .exit))) (now (size .exit))) (now (image .exit))
+        ≡ list (now (image .entry)) index ⌝ }
 {
     let l = list_place(image, index);
-    *offset = l.offset;
-    *length = l.length;
-    *size = l.content;
+    let x = l.name;
+    *offset = x.offset;
+    *length = x.length;
+    *size = l.size;
     l.answer
 }
 
@@ -87,7 +96,8 @@ pub extern "C" fn lilota_remove(
     allowance: usize,
     steps: &mut usize,
 ) -> u32
-    ensures { λ r. ⌜ outcome (given r 0 0 0 (now (steps .exit))) (now (image .exit)) ≡ remove (now (image .entry)) (now (name .entry)) allowance ⌝ }
+    ensures { λ r. ⌜ outcome-of (of-write r (now (steps .exit))) (now (image .exit))
+        ≡ remove (now (image .entry)) (now (name .entry)) allowance ⌝ }
 {
     let w = remove(image, name, allowance);
     *steps = w.steps();
@@ -101,7 +111,8 @@ pub extern "C" fn lilota_sweep(
     moves: &mut usize,
     steps: &mut usize,
 ) -> u32
-    ensures { λ r. ⌜ outcome (given r (now (moves .exit)) 0 0 (now (steps .exit))) (now (image .exit)) ≡ sweep (now (image .entry)) allowance ⌝ }
+    ensures { λ r. ⌜ outcome-of (of-sweep r (now (moves .exit)) (now (steps .exit))) (now (image .exit))
+        ≡ sweep (now (image .entry)) allowance ⌝ }
 {
     let w = sweep(image, allowance);
     *moves = w.moves();

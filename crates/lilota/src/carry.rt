@@ -10,9 +10,9 @@ pub fn ended(m: Meter) -> Written
     ensures { λ r. ⌜ r ≡ spent m ⌝ }
 {
     if m.asked <= m.allowance {
-        return Written::Done(m.asked);
+        return Written::Done { steps: m.asked };
     }
-    Written::Cut(m.allowance)
+    Written::Cut { steps: m.allowance }
 }
 
 impl Written {
@@ -21,9 +21,9 @@ impl Written {
         ensures { λ r. ⌜ r ≡ written self .answer ⌝ }
     {
         match self {
-            Written::Done(_) => 0,
-            Written::Cut(_) => 4,
-            Written::Refused(n) => n,
+            Written::Done { steps: _ } => 0,
+            Written::Cut { steps: _ } => 4,
+            Written::Refused(x) => x.number,
         }
     }
 
@@ -32,8 +32,8 @@ impl Written {
         ensures { λ r. ⌜ r ≡ written self .steps ⌝ }
     {
         match self {
-            Written::Done(n) => n,
-            Written::Cut(n) => n,
+            Written::Done { steps } => steps,
+            Written::Cut { steps } => steps,
             Written::Refused(_) => 0,
         }
     }

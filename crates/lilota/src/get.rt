@@ -1,84 +1,75 @@
 // Get: the bytes of the file of a name, as a part of the image, or where they stand.
-use crate::Held;
-use crate::good_length;
+use crate::Located;
+use crate::door::admitted_named;
 use reading::Found;
 use reading::Read;
 use reading::Survey;
 use reading::files::file_named;
 use reading::image::first_cursor;
-use reading::image::read_settled;
-use record::name::name_ok;
 use record::up_8;
+use spec::Extent;
 ghost use mathlib.Core.Path.{_≡_};
-ghost use mathlib.Core.Bool.{true};
-ghost use Prim.Native.Nat.{_+_, _≤_};
-ghost use lib.ListN.{length};
-ghost use Rattle.spec.specs.Basics.{onward};
-ghost use Rattle.spec.specs.Geometry.{good-length};
-ghost use Rattle.spec.specs.Answers.{carry-out, file-of, getting, settled-reading, get, part-of};
-ghost use Rattle.reading.specs.Read.{reading-of, Surveyed, Quiet};
-ghost use Rattle.reading.specs.declared.Read.{Read};
-ghost use Rattle.lilota.specs.Numbers.{held-at, outcome};
+ghost use Rattle.spec.specs.Numbers.{outcome-of, part-of};
+ghost use Rattle.spec.specs.Answers.{carry-out, file-of, getting, get};
+ghost use Rattle.reading.specs.Read.{reading-of};
+ghost use Rattle.reading.specs.Accepted.{Settled};
+ghost use Rattle.lilota.specs.Numbers.{located, Inside, Lies-at};
 
-// The file of this name, of what was read.
-fn get_of(image: &[u8], name: &[u8], s: Survey) -> Held
-    requires { ⌜ Surveyed (now image) s × Quiet (now image) (Read.Good s) ⌝ }
-    ensures { λ r. ⌜ (outcome (held-at r) (now (image .exit)) ≡ carry-out (now (image .entry)) 0 (file-of (now (name .entry)) getting (reading-of (now (image .entry)) s))) × (r .offset + r .length ≤ length (now (image .entry))) ⌝ }
+// No file, for this reason.
+fn nowhere(answer: u32) -> Located
+    ensures { λ r. ⌜ r ≡ record { answer = answer; extent = record { offset = 0; length = 0 } } ⌝ }
 {
-    let place = s.place;
-    let f = file_named(image, first_cursor(image, place.head), name);
-    let Found::At(e) = f else {
-        return Held {
-            answer: 2,
-            offset: 0,
-            length: 0,
-        };
-    };
-    Held {
-        answer: 0,
-        offset: e.at + (8 + up_8(e.n + 1)),
-        length: e.d,
-    }
-}
-
-// The same on an image of a good length: what its reading refuses is refused.
-fn get_in(image: &[u8], name: &[u8]) -> Held
-    requires { ⌜ good-length (length (now image)) ≡ true ⌝ }
-    ensures { λ r. ⌜ (outcome (held-at r) (now (image .exit)) ≡ carry-out (now (image .entry)) 0 (onward (settled-reading (now (image .entry))) (file-of (now (name .entry)) getting))) × (r .offset + r .length ≤ length (now (image .entry))) ⌝ }
-{
-    let x = read_settled(image);
-    match x {
-        Read::Good(s) => get_of(image, name, s),
-        Read::Refused(n) => Held {
-            answer: n,
+    Located {
+        answer: answer,
+        extent: Extent {
             offset: 0,
             length: 0,
         },
     }
 }
 
-// Where the bytes of the file of this name stand.
-pub fn get_place(image: &[u8], name: &[u8]) -> Held
-    ensures { λ r. ⌜ (outcome (held-at r) (now (image .exit)) ≡ get (now (image .entry)) (now (name .entry))) × (r .offset + r .length ≤ length (now (image .entry))) ⌝ }
+// The file of this name, of what was read.
+fn get_from(image: &[u8], name: &[u8], s: Survey) -> Located
+    requires { ⌜ Settled (now image) s ⌝ }
+    ensures { λ r. ⌜ (outcome-of (located r) (now (image .exit))
+        ≡ carry-out (now (image .entry)) 0 (file-of (now (name .entry)) getting (reading-of (now (image .entry)) s)))
+        × Inside (now (image .entry)) (r .extent) ⌝ }
 {
-    if good_length(image.len()) {
-        if name_ok(name) {
-            return get_in(image, name);
-        }
-    }
-    Held {
-        answer: 22,
-        offset: 0,
-        length: 0,
+    let place = s.place;
+    let f = file_named(image, first_cursor(image, place.head), name);
+    let Found::At(e) = f else {
+        return nowhere(2);
+    };
+    Located {
+        answer: 0,
+        extent: Extent {
+            offset: e.at + (8 + up_8(e.n + 1)),
+            length: e.d,
+        },
     }
 }
 
-// The bytes of the file of this name, or none.
+// Where the bytes of the file of this name stand.
+pub fn get_place(image: &[u8], name: &[u8]) -> Located
+    ensures { λ r. ⌜ (outcome-of (located r) (now (image .exit)) ≡ get (now (image .entry)) (now (name .entry)))
+        × Inside (now (image .entry)) (r .extent) ⌝ }
+{
+    let x = admitted_named(image, name);
+    match x {
+        Read::Good(s) => get_from(image, name, s),
+        Read::Refused(y) => nowhere(y.number),
+    }
+}
+
+// The bytes of the file of this name, where they stand in the image; or none.
 pub fn get<'a>(image: &'a [u8], name: &[u8]) -> &'a [u8]
-    ensures { λ r. ⌜ now r ≡ part-of (now (image .entry)) (get (now (image .entry)) (now (name .entry)) .numbers) ⌝ }
+    ensures { λ r. ⌜ (now r ≡ part-of (now (image .entry)) (get (now (image .entry)) (now (name .entry)) .numbers))
+        × Lies-at r (image .entry) (get (now (image .entry)) (now (name .entry)) .numbers .extent)
+        × (now (image .exit) ≡ now (image .entry)) ⌝ }
 {
     let p = get_place(image, name);
-    let from = p.offset;
-    let to = from + p.length;
+    let x = p.extent;
+    let from = x.offset;
+    let to = from + x.length;
     &image[from..to]
 }

@@ -2,6 +2,7 @@
 // Each asks nothing of its caller, and equates every outcome with the one that document 01 defines.
 mod c;
 mod carry;
+mod door;
 pub mod get;
 pub mod list;
 pub mod mount;
@@ -10,60 +11,54 @@ pub mod remove;
 pub mod sweep;
 
 use carry::ended;
+use door::good_length;
 use flash::Meter;
-use spec::SECTOR;
+use spec::Extent;
+use spec::Refusal;
+use spec::Report;
 use writing::format::format_image;
 ghost use mathlib.Core.Path.{_≡_};
-ghost use Rattle.spec.specs.Geometry.{good-length};
+ghost use Rattle.spec.specs.Numbers.{outcome-of};
 ghost use Rattle.spec.specs.Answers.{format};
-ghost use Rattle.lilota.specs.Numbers.{written, outcome};
+ghost use Rattle.lilota.specs.Numbers.{written, Written-told};
 
-// What a call that writes answers: all its steps are done, with their number; it was cut, after this many; or it is refused.
+// What a call that writes answers: all its steps are done; it was cut, after so many; or it is refused.
 pub enum Written {
-    Done(usize),
-    Cut(usize),
-    Refused(u32),
+    Done { steps: usize },
+    Cut { steps: usize },
+    Refused(Refusal),
 }
 
-// What a sweep answers: its moves are done, with their number and that of their steps; it was cut, after so many finished
-// moves and so many steps; or it is refused.
+// What mount answers: done, with what it reports of the image it leaves; cut; or refused.
+pub enum Mounted {
+    Done { report: Report, steps: usize },
+    Cut { steps: usize },
+    Refused(Refusal),
+}
+
+// What sweep answers: done, with the number of its moves; cut, after so many finished moves; or refused.
 pub enum Swept {
-    Done(usize, usize),
-    Cut(usize, usize),
-    Refused(u32),
+    Done { moves: usize, steps: usize },
+    Cut { moves: usize, steps: usize },
+    Refused(Refusal),
 }
 
-// Where a file's bytes stand: a number, which is 0 for a file that is there, the offset and the length.
-pub struct Held {
+// Where a file's bytes stand. The answer is 0 for a file that is there.
+pub struct Located {
     pub answer: u32,
-    pub offset: usize,
-    pub length: usize,
+    pub extent: Extent,
 }
 
-// A file in the list: a number, which is 0 for a file that is there, its name's offset and length, its content's length.
+// A file in the list: where its name stands, and its length. The answer is 0 for a file that is there.
 pub struct Listed {
     pub answer: u32,
-    pub offset: usize,
-    pub length: usize,
-    pub content: usize,
-}
-
-// An image's length: whole sectors, two at least, 16 MiB at most.
-fn good_length(n: usize) -> bool
-    ensures { λ r. ⌜ r ≡ good-length n ⌝ }
-{
-    if n % SECTOR == 0 {
-        if n < 8192 {
-            return false;
-        }
-        return n <= 16777216;
-    }
-    false
+    pub name: Extent,
+    pub size: usize,
 }
 
 // Makes an empty store of the image, within this allowance of flash steps.
 pub fn format(image: &mut [u8], allowance: usize) -> Written
-    ensures { λ r. ⌜ outcome (written r) (now (image .exit)) ≡ format (now (image .entry)) allowance ⌝ }
+    ensures { λ r. ⌜ (outcome-of (written r) (now (image .exit)) ≡ format (now (image .entry)) allowance) × Written-told r ⌝ }
 {
     if good_length(image.len()) {
         let m = Meter {
@@ -72,5 +67,5 @@ pub fn format(image: &mut [u8], allowance: usize) -> Written
         };
         return ended(format_image(image, m));
     }
-    Written::Refused(22)
+    Written::Refused(Refusal { number: 22 })
 }

@@ -1,84 +1,76 @@
 // List: the name of the file with an index, as a part of the image, or where it stands.
 use crate::Listed;
-use crate::good_length;
+use crate::door::admitted;
 use reading::Found;
 use reading::Read;
 use reading::Survey;
 use reading::files::file_indexed;
 use reading::image::first_cursor;
-use reading::image::read_settled;
+use spec::Extent;
 ghost use mathlib.Core.Path.{_≡_};
-ghost use mathlib.Core.Bool.{true};
-ghost use Prim.Native.Nat.{_+_, _≤_};
-ghost use lib.ListN.{length};
-ghost use Rattle.spec.specs.Basics.{onward};
-ghost use Rattle.spec.specs.Geometry.{good-length};
-ghost use Rattle.spec.specs.Answers.{carry-out, list-of, settled-reading, list, part-of};
-ghost use Rattle.reading.specs.Read.{reading-of, Surveyed, Quiet};
-ghost use Rattle.reading.specs.declared.Read.{Read};
-ghost use Rattle.lilota.specs.Numbers.{listed-at, outcome};
+ghost use Rattle.spec.specs.Numbers.{outcome-of, part-of};
+ghost use Rattle.spec.specs.Answers.{carry-out, list-of, list};
+ghost use Rattle.reading.specs.Read.{reading-of};
+ghost use Rattle.reading.specs.Accepted.{Settled};
+ghost use Rattle.lilota.specs.Numbers.{listed, Inside, Lies-at};
+
+// No file, for this reason.
+fn unlisted(answer: u32) -> Listed
+    ensures { λ r. ⌜ r ≡ record { answer = answer; name = record { offset = 0; length = 0 }; size = 0 } ⌝ }
+{
+    Listed {
+        answer: answer,
+        name: Extent {
+            offset: 0,
+            length: 0,
+        },
+        size: 0,
+    }
+}
 
 // The file with this index, of what was read.
-fn list_of(image: &[u8], index: usize, s: Survey) -> Listed
-    requires { ⌜ Surveyed (now image) s × Quiet (now image) (Read.Good s) ⌝ }
-    ensures { λ r. ⌜ (outcome (listed-at r) (now (image .exit)) ≡ carry-out (now (image .entry)) 0 (list-of index (reading-of (now (image .entry)) s))) × (r .offset + r .length ≤ length (now (image .entry))) ⌝ }
+fn list_from(image: &[u8], index: usize, s: Survey) -> Listed
+    requires { ⌜ Settled (now image) s ⌝ }
+    ensures { λ r. ⌜ (outcome-of (listed r) (now (image .exit))
+        ≡ carry-out (now (image .entry)) 0 (list-of index (reading-of (now (image .entry)) s)))
+        × Inside (now (image .entry)) (r .name) ⌝ }
 {
     let place = s.place;
     let f = file_indexed(image, first_cursor(image, place.head), index);
     let Found::At(e) = f else {
-        return Listed {
-            answer: 2,
-            offset: 0,
-            length: 0,
-            content: 0,
-        };
+        return unlisted(2);
     };
     Listed {
         answer: 0,
-        offset: e.at + 8,
-        length: e.n,
-        content: e.d,
-    }
-}
-
-// The same on an image of a good length: what its reading refuses is refused.
-fn list_in(image: &[u8], index: usize) -> Listed
-    requires { ⌜ good-length (length (now image)) ≡ true ⌝ }
-    ensures { λ r. ⌜ (outcome (listed-at r) (now (image .exit)) ≡ carry-out (now (image .entry)) 0 (onward (settled-reading (now (image .entry))) (list-of index))) × (r .offset + r .length ≤ length (now (image .entry))) ⌝ }
-{
-    let x = read_settled(image);
-    match x {
-        Read::Good(s) => list_of(image, index, s),
-        Read::Refused(n) => Listed {
-            answer: n,
-            offset: 0,
-            length: 0,
-            content: 0,
+        name: Extent {
+            offset: e.at + 8,
+            length: e.n,
         },
+        size: e.d,
     }
 }
 
 // The file with this index, in the chain's order.
 pub fn list_place(image: &[u8], index: usize) -> Listed
-    ensures { λ r. ⌜ (outcome (listed-at r) (now (image .exit)) ≡ list (now (image .entry)) index) × (r .offset + r .length ≤ length (now (image .entry))) ⌝ }
+    ensures { λ r. ⌜ (outcome-of (listed r) (now (image .exit)) ≡ list (now (image .entry)) index)
+        × Inside (now (image .entry)) (r .name) ⌝ }
 {
-    if good_length(image.len()) {
-        return list_in(image, index);
-    }
-    Listed {
-        answer: 22,
-        offset: 0,
-        length: 0,
-        content: 0,
+    let x = admitted(image);
+    match x {
+        Read::Good(s) => list_from(image, index, s),
+        Read::Refused(y) => unlisted(y.number),
     }
 }
 
-// The name of the file with this index, or none.
+// The name of the file with this index, where it stands in the image; or none.
 pub fn list_name(image: &[u8], index: usize) -> &[u8]
-    ensures { λ r. ⌜ now r ≡ part-of (now (image .entry)) (list (now (image .entry)) index .numbers) ⌝ }
+    ensures { λ r. ⌜ (now r ≡ part-of (now (image .entry)) (list (now (image .entry)) index .numbers))
+        × Lies-at r (image .entry) (list (now (image .entry)) index .numbers .extent)
+        × (now (image .exit) ≡ now (image .entry)) ⌝ }
 {
     let p = list_place(image, index);
-    let start = p.offset;
-    let end = start + p.length;
-    &image[start..end]
+    let x = p.name;
+    let from = x.offset;
+    let to = from + x.length;
+    &image[from..to]
 }

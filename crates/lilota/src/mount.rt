@@ -1,32 +1,24 @@
 // Mount: what a power cut left is repaired, so that the other calls take the image.
-use crate::good_length;
+use crate::Mounted;
+use crate::door::accepted;
 use flash::Meter;
 use reading::Read;
 use reading::Survey;
-use reading::image::read;
 use recovery::mend;
+use spec::Report;
 ghost use mathlib.Core.Path.{_≡_};
-ghost use mathlib.Core.Bool.{true};
-ghost use lib.ListN.{length};
-ghost use Rattle.spec.specs.Basics.{onward};
-ghost use Rattle.spec.specs.Geometry.{good-length};
-ghost use Rattle.spec.specs.Reading.{reading};
+ghost use Rattle.spec.specs.Numbers.{outcome-of, no-report};
 ghost use Rattle.spec.specs.Answers.{carry-out, mount-of, mount};
 ghost use Rattle.reading.specs.Read.{reading-of};
-ghost use Rattle.lilota.specs.Numbers.{outcome, mounted};
-ghost use Rattle.lilota.specs.Mount.{Legal};
-
-// What mount answers: done, with head, tail, live files and steps; cut, after this many steps; or refused.
-pub enum Mounted {
-    Done(usize, usize, usize, usize),
-    Cut(usize),
-    Refused(u32),
-}
+ghost use Rattle.reading.specs.Accepted.{Accepted};
+ghost use Rattle.lilota.specs.Numbers.{mounted, Mounted-told};
 
 // Mount on an image that was read.
 fn mount_from(image: &mut [u8], s: Survey, allowance: usize) -> Mounted
-    requires { ⌜ Legal (now image) s ⌝ }
-    ensures { λ r. ⌜ outcome (mounted r) (now (image .exit)) ≡ carry-out (now (image .entry)) allowance (mount-of (now (image .entry)) (reading-of (now (image .entry)) s)) ⌝ }
+    requires { ⌜ Accepted (now image) s ⌝ }
+    ensures { λ r. ⌜ (outcome-of (mounted r) (now (image .exit))
+        ≡ carry-out (now (image .entry)) allowance (mount-of (now (image .entry)) (reading-of (now (image .entry)) s)))
+        × Mounted-told r ⌝ }
 {
     let place = s.place;
     let w = mend(
@@ -39,31 +31,37 @@ fn mount_from(image: &mut [u8], s: Survey, allowance: usize) -> Mounted
     );
     let m = w.meter;
     if m.allowance < m.asked {
-        return Mounted::Cut(m.allowance);
+        return Mounted::Cut { steps: m.allowance };
     }
-    Mounted::Done(w.head, w.tail, w.files, m.asked)
-}
-
-// Mount on an image of a good length.
-fn mount_read(image: &mut [u8], allowance: usize) -> Mounted
-    requires { ⌜ good-length (length (now image)) ≡ true ⌝ }
-    ensures { λ r. ⌜ outcome (mounted r) (now (image .exit)) ≡ carry-out (now (image .entry)) allowance (onward (reading (now (image .entry))) (mount-of (now (image .entry)))) ⌝ }
-{
-    let x = read(image);
-    match x {
-        Read::Good(s) => mount_from(image, s, allowance),
-        Read::Refused(n) => Mounted::Refused(n),
+    Mounted::Done {
+        report: Report {
+            head: w.head,
+            tail: w.tail,
+            files: w.files,
+        },
+        steps: m.asked,
     }
 }
 
 // Repairs the image, within this allowance of flash steps.
 pub fn mount(image: &mut [u8], allowance: usize) -> Mounted
-    ensures { λ r. ⌜ outcome (mounted r) (now (image .exit)) ≡ mount (now (image .entry)) allowance ⌝ }
+    ensures { λ r. ⌜ (outcome-of (mounted r) (now (image .exit)) ≡ mount (now (image .entry)) allowance) × Mounted-told r ⌝ }
 {
-    if good_length(image.len()) {
-        return mount_read(image, allowance);
+    let x = accepted(image);
+    match x {
+        Read::Good(s) => mount_from(image, s, allowance),
+        Read::Refused(y) => Mounted::Refused(y),
     }
-    Mounted::Refused(22)
+}
+
+fn no_report() -> Report
+    ensures { λ r. ⌜ r ≡ no-report ⌝ }
+{
+    Report {
+        head: 0,
+        tail: 0,
+        files: 0,
+    }
 }
 
 impl Mounted {
@@ -72,42 +70,23 @@ impl Mounted {
         ensures { λ r. ⌜ r ≡ mounted self .answer ⌝ }
     {
         match self {
-            Mounted::Done(_, _, _, _) => 0,
-            Mounted::Cut(_) => 4,
-            Mounted::Refused(n) => n,
+            Mounted::Done {
+                report: _,
+                steps: _,
+            } => 0,
+            Mounted::Cut { steps: _ } => 4,
+            Mounted::Refused(x) => x.number,
         }
     }
 
-    // The head's address.
-    pub fn head(self) -> usize
-        ensures { λ r. ⌜ r ≡ mounted self .first ⌝ }
+    // What is reported of the image that mount leaves; zeros where it was cut or refused.
+    pub fn report(self) -> Report
+        ensures { λ r. ⌜ r ≡ mounted self .report ⌝ }
     {
         match self {
-            Mounted::Done(h, _, _, _) => h,
-            Mounted::Cut(_) => 0,
-            Mounted::Refused(_) => 0,
-        }
-    }
-
-    // The tail's.
-    pub fn tail(self) -> usize
-        ensures { λ r. ⌜ r ≡ mounted self .second ⌝ }
-    {
-        match self {
-            Mounted::Done(_, t, _, _) => t,
-            Mounted::Cut(_) => 0,
-            Mounted::Refused(_) => 0,
-        }
-    }
-
-    // The number of live files.
-    pub fn files(self) -> usize
-        ensures { λ r. ⌜ r ≡ mounted self .third ⌝ }
-    {
-        match self {
-            Mounted::Done(_, _, n, _) => n,
-            Mounted::Cut(_) => 0,
-            Mounted::Refused(_) => 0,
+            Mounted::Done { report, steps: _ } => report,
+            Mounted::Cut { steps: _ } => no_report(),
+            Mounted::Refused(_) => no_report(),
         }
     }
 
@@ -116,8 +95,8 @@ impl Mounted {
         ensures { λ r. ⌜ r ≡ mounted self .steps ⌝ }
     {
         match self {
-            Mounted::Done(_, _, _, k) => k,
-            Mounted::Cut(k) => k,
+            Mounted::Done { report: _, steps } => steps,
+            Mounted::Cut { steps } => steps,
             Mounted::Refused(_) => 0,
         }
     }

@@ -1,7 +1,7 @@
 // Put: the file of a name gets a content, in the place of an older one.
 use crate::Written;
 use crate::carry::ended;
-use crate::good_length;
+use crate::door::admitted_named;
 use flash::Meter;
 use reading::Cursor;
 use reading::Found;
@@ -9,9 +9,8 @@ use reading::Read;
 use reading::Survey;
 use reading::files::file_named;
 use reading::image::first_cursor;
-use reading::image::read_settled;
 use reading::room::has_room;
-use record::name::name_ok;
+use spec::Refusal;
 use spec::Status;
 use writing::Old;
 use writing::write_file;
@@ -19,26 +18,27 @@ ghost use mathlib.Core.Path.{_≡_};
 ghost use mathlib.Core.Bool.{true};
 ghost use Prim.Native.Nat.{_+_, _≤_};
 ghost use lib.ListN.{length};
-ghost use Rattle.spec.specs.Basics.{onward, keep, first-such};
-ghost use Rattle.spec.specs.Geometry.{good-length};
-ghost use Rattle.spec.specs.Record.{size-of, name-ok};
+ghost use Rattle.spec.specs.Basics.{keep, first-such};
+ghost use Rattle.spec.specs.Record.{size-of};
 ghost use Rattle.spec.specs.Files.{has-name, file-named};
 ghost use Rattle.spec.specs.Place.{fits};
 ghost use Rattle.spec.specs.Write.{put-steps};
-ghost use Rattle.spec.specs.Answers.{settled-reading, carry-out, put-into, put};
+ghost use Rattle.spec.specs.Numbers.{outcome-of};
+ghost use Rattle.spec.specs.Answers.{carry-out, put-into, put};
 ghost use Rattle.flash.specs.Did.{Did};
-ghost use Rattle.reading.specs.Cursor.{Sound};
+ghost use Rattle.reading.specs.Cursor.{Cursor-sound};
 ghost use Rattle.reading.specs.Rest.{rest};
 ghost use Rattle.reading.specs.FileLaws.{is-file};
 ghost use Rattle.reading.specs.Read.{reading-of};
+ghost use Rattle.reading.specs.Accepted.{Settled};
 ghost use Rattle.writing.specs.Old.{old-of, Lies};
-ghost use Rattle.lilota.specs.Numbers.{written, outcome};
-ghost use Rattle.lilota.specs.Settled.{Settled};
+ghost use Rattle.lilota.specs.Numbers.{written, Written-told};
 
 // The file that a put of this name replaces.
 fn old_file(image: &[u8], start: Cursor, name: &[u8]) -> Old
-    requires { ⌜ Sound (now image) start ⌝ }
-    ensures { λ r. ⌜ (r ≡ old-of (first-such (has-name (now (name .entry))) (keep is-file (rest (now (image .entry)) start .entries)))) × Lies r (length (now (image .entry))) ⌝ }
+    requires { ⌜ Cursor-sound (now image) start ⌝ }
+    ensures { λ r. ⌜ (r ≡ old-of (first-such (has-name (now (name .entry))) (keep is-file (rest (now (image .entry)) start .entries))))
+        × Lies r (length (now (image .entry))) ⌝ }
 {
     let f = file_named(image, start, name);
     let Found::At(e) = f else {
@@ -50,8 +50,12 @@ fn old_file(image: &[u8], start: Cursor, name: &[u8]) -> Old
 
 // Put's steps, where there is room.
 fn replace(image: &mut [u8], s: Survey, name: &[u8], content: &[u8], m: Meter) -> Meter
-    requires { ⌜ Settled (now image) s × (length (now name) ≤ 63) × (fits (s .place) (size-of (length (now name)) (length (now content))) ≡ true) × (m .asked ≡ 0) ⌝ }
-    ensures { λ r. ⌜ Did (now (image .entry)) m (put-steps (s .place) (file-named (now (name .entry)) (reading-of (now (image .entry)) s .entries)) (now (name .entry)) (now (content .entry))) (now (image .exit)) r ⌝ }
+    requires { ⌜ Settled (now image) s × (length (now name) ≤ 63)
+        × (fits (s .place) (size-of (length (now name)) (length (now content))) ≡ true) × (m .asked ≡ 0) ⌝ }
+    ensures { λ r. ⌜ Did (now (image .entry)) m
+        (put-steps (s .place) (file-named (now (name .entry)) (reading-of (now (image .entry)) s .entries))
+        (now (name .entry)) (now (content .entry)))
+        (now (image .exit)) r ⌝ }
 {
     let place = s.place;
     let old = old_file(image, first_cursor(image, place.head), name);
@@ -59,9 +63,12 @@ fn replace(image: &mut [u8], s: Survey, name: &[u8], content: &[u8], m: Meter) -
 }
 
 // The put on an image that was read: no room, or the steps.
-fn put_into(image: &mut [u8], s: Survey, name: &[u8], content: &[u8], allowance: usize) -> Written
+fn put_from(image: &mut [u8], s: Survey, name: &[u8], content: &[u8], allowance: usize) -> Written
     requires { ⌜ Settled (now image) s × (length (now name) ≤ 63) ⌝ }
-    ensures { λ r. ⌜ outcome (written r) (now (image .exit)) ≡ carry-out (now (image .entry)) allowance (put-into (now (name .entry)) (now (content .entry)) (reading-of (now (image .entry)) s)) ⌝ }
+    ensures { λ r. ⌜ (outcome-of (written r) (now (image .exit))
+        ≡ carry-out (now (image .entry)) allowance
+        (put-into (now (name .entry)) (now (content .entry)) (reading-of (now (image .entry)) s)))
+        × Written-told r ⌝ }
 {
     if has_room(image, s, name, content.len()) {
         let m = Meter {
@@ -70,29 +77,18 @@ fn put_into(image: &mut [u8], s: Survey, name: &[u8], content: &[u8], allowance:
         };
         return ended(replace(image, s, name, content, m));
     }
-    Written::Refused(28)
-}
-
-// The put of a good name on an image of a good length.
-fn put_named(image: &mut [u8], name: &[u8], content: &[u8], allowance: usize) -> Written
-    requires { ⌜ (good-length (length (now image)) ≡ true) × (name-ok (now name) ≡ true) ⌝ }
-    ensures { λ r. ⌜ outcome (written r) (now (image .exit)) ≡ carry-out (now (image .entry)) allowance (onward (settled-reading (now (image .entry))) (put-into (now (name .entry)) (now (content .entry)))) ⌝ }
-{
-    let x = read_settled(image);
-    match x {
-        Read::Good(s) => put_into(image, s, name, content, allowance),
-        Read::Refused(n) => Written::Refused(n),
-    }
+    Written::Refused(Refusal { number: 28 })
 }
 
 // Puts a whole file, within this allowance of flash steps.
 pub fn put(image: &mut [u8], name: &[u8], content: &[u8], allowance: usize) -> Written
-    ensures { λ r. ⌜ outcome (written r) (now (image .exit)) ≡ put (now (image .entry)) (now (name .entry)) (now (content .entry)) allowance ⌝ }
+    ensures { λ r. ⌜ (outcome-of (written r) (now (image .exit))
+        ≡ put (now (image .entry)) (now (name .entry)) (now (content .entry)) allowance)
+        × Written-told r ⌝ }
 {
-    if good_length(image.len()) {
-        if name_ok(name) {
-            return put_named(image, name, content, allowance);
-        }
+    let x = admitted_named(image, name);
+    match x {
+        Read::Good(s) => put_from(image, s, name, content, allowance),
+        Read::Refused(y) => Written::Refused(y),
     }
-    Written::Refused(22)
 }

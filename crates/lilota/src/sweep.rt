@@ -1,21 +1,59 @@
 // Sweep: up to five moves, which make room in front of the head.
 use crate::Swept;
-use crate::good_length;
+use crate::door::admitted;
 use flash::Meter;
 use reading::Read;
 use reading::Survey;
-use reading::image::read_settled;
-use sweeping::step::no_room;
+use spec::Refusal;
+use sweeping::one_move::no_room;
 use sweeping::sweep::sweep as move_on;
 ghost use mathlib.Core.Path.{_≡_};
-ghost use mathlib.Core.Bool.{true};
-ghost use lib.ListN.{length};
-ghost use Rattle.spec.specs.Basics.{onward};
-ghost use Rattle.spec.specs.Geometry.{good-length};
-ghost use Rattle.spec.specs.Answers.{settled-reading, carry-out, sweep-of, sweep};
+ghost use Rattle.spec.specs.Numbers.{outcome-of};
+ghost use Rattle.spec.specs.Answers.{carry-out, sweep-of, sweep};
 ghost use Rattle.reading.specs.Read.{reading-of};
-ghost use Rattle.lilota.specs.Numbers.{outcome, swept};
-ghost use Rattle.lilota.specs.Sweep.{Readied};
+ghost use Rattle.reading.specs.Accepted.{Settled};
+ghost use Rattle.lilota.specs.Numbers.{swept, Swept-told};
+
+// The sweep of an image that was read: no room for the first move, or the moves.
+fn sweep_from(image: &mut [u8], s: Survey, allowance: usize) -> Swept
+    requires { ⌜ Settled (now image) s ⌝ }
+    ensures { λ r. ⌜ (outcome-of (swept r) (now (image .exit))
+        ≡ carry-out (now (image .entry)) allowance (sweep-of (now (image .entry)) (reading-of (now (image .entry)) s)))
+        × Swept-told r ⌝ }
+{
+    let place = s.place;
+    let t = s.tally;
+    if no_room(image, place) {
+        return Swept::Refused(Refusal { number: 28 });
+    }
+    let m = Meter {
+        allowance: allowance,
+        asked: 0,
+    };
+    let r = move_on(image, place, t.records, m);
+    let q = r.meter;
+    if q.asked <= q.allowance {
+        return Swept::Done {
+            moves: r.moves,
+            steps: q.asked,
+        };
+    }
+    Swept::Cut {
+        moves: r.moves,
+        steps: q.allowance,
+    }
+}
+
+// Sweeps, within this allowance of flash steps.
+pub fn sweep(image: &mut [u8], allowance: usize) -> Swept
+    ensures { λ r. ⌜ (outcome-of (swept r) (now (image .exit)) ≡ sweep (now (image .entry)) allowance) × Swept-told r ⌝ }
+{
+    let x = admitted(image);
+    match x {
+        Read::Good(s) => sweep_from(image, s, allowance),
+        Read::Refused(y) => Swept::Refused(y),
+    }
+}
 
 impl Swept {
     // Document 01's number.
@@ -23,19 +61,19 @@ impl Swept {
         ensures { λ r. ⌜ r ≡ swept self .answer ⌝ }
     {
         match self {
-            Swept::Done(_, _) => 0,
-            Swept::Cut(_, _) => 4,
-            Swept::Refused(n) => n,
+            Swept::Done { moves: _, steps: _ } => 0,
+            Swept::Cut { moves: _, steps: _ } => 4,
+            Swept::Refused(x) => x.number,
         }
     }
 
     // The finished moves.
     pub fn moves(self) -> usize
-        ensures { λ r. ⌜ r ≡ swept self .first ⌝ }
+        ensures { λ r. ⌜ r ≡ swept self .moves ⌝ }
     {
         match self {
-            Swept::Done(n, _) => n,
-            Swept::Cut(n, _) => n,
+            Swept::Done { moves, steps: _ } => moves,
+            Swept::Cut { moves, steps: _ } => moves,
             Swept::Refused(_) => 0,
         }
     }
@@ -45,53 +83,9 @@ impl Swept {
         ensures { λ r. ⌜ r ≡ swept self .steps ⌝ }
     {
         match self {
-            Swept::Done(_, k) => k,
-            Swept::Cut(_, k) => k,
+            Swept::Done { moves: _, steps } => steps,
+            Swept::Cut { moves: _, steps } => steps,
             Swept::Refused(_) => 0,
         }
     }
-}
-
-// The sweep of an image that was read: no room for the first move, or the moves.
-fn sweep_read(image: &mut [u8], s: Survey, allowance: usize) -> Swept
-    requires { ⌜ Readied (now image) s ⌝ }
-    ensures { λ r. ⌜ outcome (swept r) (now (image .exit)) ≡ carry-out (now (image .entry)) allowance (sweep-of (now (image .entry)) (reading-of (now (image .entry)) s)) ⌝ }
-{
-    let place = s.place;
-    let t = s.tally;
-    if no_room(image, place) {
-        return Swept::Refused(28);
-    }
-    let m = Meter {
-        allowance: allowance,
-        asked: 0,
-    };
-    let r = move_on(image, place, t.records, m);
-    let q = r.meter;
-    if q.asked <= q.allowance {
-        return Swept::Done(r.moves, q.asked);
-    }
-    Swept::Cut(r.moves, q.allowance)
-}
-
-// The sweep of an image of a good length.
-fn sweep_whole(image: &mut [u8], allowance: usize) -> Swept
-    requires { ⌜ good-length (length (now image)) ≡ true ⌝ }
-    ensures { λ r. ⌜ outcome (swept r) (now (image .exit)) ≡ carry-out (now (image .entry)) allowance (onward (settled-reading (now (image .entry))) (sweep-of (now (image .entry)))) ⌝ }
-{
-    let x = read_settled(image);
-    match x {
-        Read::Good(s) => sweep_read(image, s, allowance),
-        Read::Refused(n) => Swept::Refused(n),
-    }
-}
-
-// Sweeps, within this allowance of flash steps.
-pub fn sweep(image: &mut [u8], allowance: usize) -> Swept
-    ensures { λ r. ⌜ outcome (swept r) (now (image .exit)) ≡ sweep (now (image .entry)) allowance ⌝ }
-{
-    if good_length(image.len()) {
-        return sweep_whole(image, allowance);
-    }
-    Swept::Refused(22)
 }

@@ -4,9 +4,9 @@ use denote.Enum.Declared.{tagOf}
 use mathlib.Core.List.{[], _∷_}
 use Rattle.spec.proofs.Next.{the-type as next-type}
 use Rattle.spec.specs.declared.Next.{Next}
-use Rattle.reading.specs.HeadLaws.{Not-record}
-use Rattle.reading.proofs.Step.{the-type as step-type}
-use Rattle.reading.specs.declared.Step.{Step}
+use Rattle.laws.specs.Next.{Not-record}
+use Rattle.reading.proofs.Item.{the-type as step-type}
+use Rattle.reading.specs.declared.Item.{Item}
 use Rattle.reading.specs.Fold.{Not-record as No-step}
 
 pub other-next : (x : Next) → OneOf (1 ∷ 2 ∷ 3 ∷ 4 ∷ 5 ∷ []) (tagOf next-type x) → Not-record x
@@ -17,8 +17,8 @@ other-next Next.Clear z = tt
 other-next Next.Over z = tt
 other-next Next.Bad z = tt
 
-pub other-step : (x : Step) → OneOf (1 ∷ 2 ∷ 3 ∷ []) (tagOf step-type x) → No-step x
-other-step (Step.Record e c) z = miss (1 ∷ 2 ∷ 3 ∷ []) 0 tt z
-other-step (Step.End t w) z = tt
-other-step (Step.TornWrap t) z = tt
-other-step (Step.Broken t w) z = tt
+pub other-step : (x : Item) → OneOf (1 ∷ 2 ∷ 3 ∷ []) (tagOf step-type x) → No-step x
+other-step (Item.Record e c) z = miss (1 ∷ 2 ∷ 3 ∷ []) 0 tt z
+other-step (Item.End t w) z = tt
+other-step (Item.TornWrap t) z = tt
+other-step (Item.Broken t w) z = tt

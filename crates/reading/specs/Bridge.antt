@@ -6,7 +6,7 @@ use mathlib.Core.Path.{_≡_, refl, sym, ap, ap₂, _∙_}
 use mathlib.Core.Bool.{Bool, true, false}
 use mathlib.Core.List.{List, _++_}
 use lib.ListN.{length, take, drop}
-use lib.Seq.{drop-drop, getD-take, take-take, take-length}
+use lib.Seq.{drop-drop, getD-take, take-length}
 use lib.Dec.{ltb, eqb}
 use borrow.Author.Tests.{lt-ltb, eqb-true, eqb-false}
 use Rattle.spec.specs.declared.Next.{Next}
@@ -15,49 +15,29 @@ use Rattle.spec.specs.Geometry.{floor, up8}
 use Rattle.spec.specs.Bytes.{is-unfinished}
 use Rattle.spec.specs.Record.{size-of, rec-of, status-of, Entry}
 use Rattle.spec.specs.Next.{next}
-use Rattle.spec.specs.Chain.{Chain, add, stop, allowed, chain, Reading, ended, read, turned, joined, from-head, from-zero, read-on, reading-from}
+use Rattle.spec.specs.Chain.{Chain, add, stop, allowed, chain, Reading, ended, read, read-turned, joined, from-head, from-zero, read-on, reading-from}
 use Rattle.reading.specs.declared.Cursor.{Cursor}
-use Rattle.reading.specs.declared.Step.{Step}
+use Rattle.reading.specs.declared.Item.{Item}
 use Rattle.reading.specs.Cursor.{start, window, look, goes-on, turn, past, torn-end, stops, unfinished-at, settle, advance}
-use Rattle.reading.specs.CursorLaws.{advance-on, advance-here, part-window}
-use Rattle.reading.specs.HeadLaws.{Not-record}
+use Rattle.reading.specs.CursorLaws.{advance-on, advance-here}
+use Rattle.laws.specs.Parts.{part-window, part-first}
+use Rattle.laws.specs.Next.{Not-record}
+use Rattle.laws.specs.Chain.{chain-record, chain-stop}
 use Rattle.reading.specs.Fits.{look-inside}
 use Rattle.reading.specs.Rest.{Run, entry-of, ahead, done, followed, rest, rest-step}
 
 -- ---- a record reads the same in a part that holds it
-
-cut : (a n m : ℕ) (s : List ℕ) → a + n ≤ m → take n (drop a (take m s)) ≡ take n (drop a s)
-cut a n m s h = rw (sym (part-window a m s (omega arith))) (take-take n (m - a) (drop a s) (omega arith))
 
 pub rec-part : (m n d : ℕ) (s : List ℕ) → size-of n d ≤ m → rec-of (take m s) n d ≡ rec-of s n d
 rec-part m n d s h =
     rw (
       getD-take m s 0 0 (omega arith),
       getD-take m s 2 0 (omega arith),
-      cut 8 n m s (omega arith),
+      part-first 8 n m s (omega arith),
       drop-drop (up8 (n + 1)) 8 (take m s),
-      cut
-          (8 + up8 (n + 1)) d m s (omega arith),
+      part-first (8 + up8 (n + 1)) d m s (omega arith),
       drop-drop (up8 (n + 1)) 8 s,
     )
-
--- ---- the definitions' chain, step by step
-
-module _ (k : ℕ) (held : Bool) (at : ℕ) (s : List ℕ) where
-  chain-record : (n d : ℕ) → allowed held (next s) ≡ Next.Record n d
-      → chain (suc k) held at s ≡ add (record { at = at; it = rec-of s n d })
-      (chain k (is-unfinished (status-of s)) (at + size-of n d) (drop (size-of n d) s))
-  unfolding chain
-  chain-record n d e = rw (e, chain)
-
-  chain-stop : (x : Next) → Not-record x → allowed held (next s) ≡ x → chain (suc k) held at s ≡ stop held at x
-  unfolding chain
-  chain-stop (Next.Record n d) z e = absurd z
-  chain-stop Next.Wrap z e = rw (e, chain)
-  chain-stop Next.TornWrap z e = rw (e, chain)
-  chain-stop Next.Clear z e = rw (e, chain)
-  chain-stop Next.Over z e = rw (e, chain)
-  chain-stop Next.Bad z e = rw (e, chain)
 
 -- ---- one stretch, and what follows where it ends
 
@@ -69,7 +49,7 @@ module _ (image : List ℕ) where
   unfoldable finish : ℕ → Bool → Chain → Run
   finish room turned ch =
       elim (goes-on room (ch .last)) [
-        | true ↦ joint (ch .entries) (rest image (turn room (ch .held)))
+        | true ↦ joint (ch .entries) (rest image (turn room (ch .pending)))
         | false ↦ record { entries = ch .entries; ending = stops room turned (ch .tail) (ch .last) }
       ]
 
@@ -88,12 +68,12 @@ module _ (image : List ℕ) where
   never Next.Bad = refl
 
   abbrev Chained : ℕ → Cursor → Type 0
-  Chained k c = rest image c ≡ finish (c .room) (c .turned) (chain k (c .held) (c .at) (window image c))
+  Chained k c = rest image c ≡ finish (c .room) (c .turned) (chain k (c .pending) (c .at) (window image c))
 
-  rest-turn : (c : Cursor) → goes-on (c .room) (look image c) ≡ true → rest image c ≡ rest image (turn (c .room) (c .held))
+  rest-turn : (c : Cursor) → goes-on (c .room) (look image c) ≡ true → rest image c ≡ rest image (turn (c .room) (c .pending))
   rest-turn c h =
-      let u : Cursor = turn (c .room) (c .held) in
-      rest-step image c ∙ ap (λ (r : Step). followed image r (rest image)) (advance-on image c h ∙ sym (advance-here image u (never (look image u))))
+      let u : Cursor = turn (c .room) (c .pending) in
+      rest-step image c ∙ ap (λ (r : Item). followed image r (rest image)) (advance-on image c h ∙ sym (advance-here image u (never (look image u))))
       ∙ sym (rest-step image u)
 
   torn-done : (c : Cursor) (t : Bool) → ltb 0 (c .room) ≡ t
@@ -115,17 +95,17 @@ module _ (image : List ℕ) where
   stopped : (c : Cursor) (x : Next) (k : ℕ) → look image c ≡ x → Not-record x → Chained (suc k) c
   unfolding finish look
   stopped c x k e z =
-      go (goes-on (c .room) x) refl ∙ ap (finish (c .room) (c .turned)) (sym (chain-stop k (c .held) (c .at) (window image c) x z e)) where
-        go : (t : Bool) → goes-on (c .room) x ≡ t → rest image c ≡ finish (c .room) (c .turned) (stop (c .held) (c .at) x)
+      go (goes-on (c .room) x) refl ∙ ap (finish (c .room) (c .turned)) (sym (chain-stop k (c .pending) (c .at) (window image c) x z e)) where
+        go : (t : Bool) → goes-on (c .room) x ≡ t → rest image c ≡ finish (c .room) (c .turned) (stop (c .pending) (c .at) x)
         go true q = rw (finish, q) (rest-turn c (ap (goes-on (c .room)) e ∙ q))
         go false q =
             rw (finish, q)
-            (rest-step image c ∙ ap (λ (r : Step). followed image r (rest image))
+            (rest-step image c ∙ ap (λ (r : Item). followed image r (rest image))
             (advance-here image c (ap (goes-on (c .room)) e ∙ q) ∙ ap (settle image c) e) ∙ settle-done c x z)
 
   -- a record, and the chain behind it
   linked : (k : ℕ) (c : Cursor) (n d : ℕ) → c .at ≤ c .end → look image c ≡ Next.Record n d
-      → allowed (c .held) (next (window image c)) ≡ Next.Record n d
+      → allowed (c .pending) (next (window image c)) ≡ Next.Record n d
       → Chained k (past c (size-of n d) (unfinished-at image (c .at))) → Chained (suc k) c
   linked k c n d o e f ih =
       let z : ℕ = size-of n d in
@@ -137,13 +117,13 @@ module _ (image : List ℕ) where
       let r : rec-of w n d ≡ rec-of (drop (c .at) image) n d = ap (λ (l : List ℕ). rec-of l n d) p
       ∙ rec-part (c .end - c .at) n d (drop (c .at) image) l in
       let q : window image u ≡ drop z w = sym (drop-drop z (c .at) (take (c .end) image)) in
-      let a : advance image c ≡ Step.Record (record { at = c .at; n = n; d = d }) u = advance-here image c (ap (goes-on (c .room)) e)
+      let a : advance image c ≡ Item.Record (record { at = c .at; n = n; d = d }) u = advance-here image c (ap (goes-on (c .room)) e)
       ∙ ap (settle image c) e in
       let tail : Chain = chain k (is-unfinished (status-of w)) (c .at + z) (drop z w) in
-      rest-step image c ∙ ap (λ (x : Step). followed image x (rest image)) a
+      rest-step image c ∙ ap (λ (x : Item). followed image x (rest image)) a
       ∙ ap (ahead (entry-of image (record { at = c .at; n = n; d = d })))
       (ih ∙ ap₂ (λ (h : Bool) (l : List ℕ). finish (c .room) (c .turned) (chain k h (c .at + z) l)) (ap is-unfinished (sym st)) q)
-      ∙ sym (rw (chain-record k (c .held) (c .at) w n d f)
+      ∙ sym (rw (chain-record k (c .pending) (c .at) w n d f)
       (finish-add (c .room) (c .turned) (record { at = c .at; it = rec-of w n d }) tail _ refl
       ∙ ap (λ (it : _). ahead (record { at = c .at; it = it }) (finish (c .room) (c .turned) tail)) r))
 
@@ -164,11 +144,11 @@ module _ (image : List ℕ) where
   -- ---- the whole chain
 
   -- a reading, from what the cursor found
-  abbrev pub shown : ℕ → ℕ → List Entry → Step → Reading
-  shown N h es (Step.Record e c) = read N h 0 false es Ending.Broken
-  shown N h es (Step.End t w) = read N h t w es Ending.Tail
-  shown N h es (Step.TornWrap t) = read N h 0 true es (Ending.TornWrap t)
-  shown N h es (Step.Broken t w) = read N h t w es Ending.Broken
+  abbrev pub shown : ℕ → ℕ → List Entry → Item → Reading
+  shown N h es (Item.Record e c) = read N h 0 false es Ending.Broken
+  shown N h es (Item.End t w) = read N h t w es Ending.Tail
+  shown N h es (Item.TornWrap t) = read N h 0 true es (Ending.TornWrap t)
+  shown N h es (Item.Broken t w) = read N h t w es Ending.Broken
 
   abbrev pub read-of : ℕ → ℕ → Run → Reading
   read-of N h r = shown N h (r .entries) (r .ending)
@@ -194,21 +174,21 @@ module _ (image : List ℕ) where
         ∙ ap (λ (s : List ℕ). finish (floor h) false (chain (suc (length image)) false h (drop h s))) (take-length image)
 
     -- what follows the turn
-    after-turn : (held : Bool) → rest image (turn (floor h) held) ≡ record {
-      entries = from-zero image h held .entries;
-      ending = stops 0 true (from-zero image h held .tail) (from-zero image h held .last);
+    after-turn : (pending : Bool) → rest image (turn (floor h) pending) ≡ record {
+      entries = from-zero image h pending .entries;
+      ending = stops 0 true (from-zero image h pending .tail) (from-zero image h pending .last);
     }
-    after-turn held = chained (suc (length image)) (turn (floor h) held) (omega arith) (omega arith) ∙ finish-last true (from-zero image h held)
+    after-turn pending = chained (suc (length image)) (turn (floor h) pending) (omega arith) (omega arith) ∙ finish-last true (from-zero image h pending)
 
-    turned-is : (c : Chain) → read-of (length image) h (joint (c .entries) (rest image (turn (floor h) (c .held)))) ≡ turned (length image) h c
-        (from-zero image h (c .held))
+    turned-is : (c : Chain) → read-of (length image) h (joint (c .entries) (rest image (turn (floor h) (c .pending)))) ≡ read-turned (length image) h c
+        (from-zero image h (c .pending))
     turned-is c =
-        let d : Chain = from-zero image h (c .held) in
-        ap (λ (r : Run). read-of (length image) h (joint (c .entries) r)) (after-turn (c .held))
+        let d : Chain = from-zero image h (c .pending) in
+        ap (λ (r : Run). read-of (length image) h (joint (c .entries) r)) (after-turn (c .pending))
         ∙ shown-last (length image) h (d .tail) true (c .entries ++ d .entries) (d .last)
 
     joined-is : (c : Chain) (x : Next) → c .last ≡ x → 0 < floor h
-        → read-of (length image) h (finish (floor h) false c) ≡ joined (length image) h c (from-zero image h (c .held))
+        → read-of (length image) h (finish (floor h) false c) ≡ joined (length image) h c (from-zero image h (c .pending))
     unfolding joined finish torn-end
     joined-is c (Next.Record n d) e p = rw (joined, finish, e) (rw e)
     joined-is c Next.Wrap e p = rw (joined, finish, e, lt-ltb 0 (floor h) p) (turned-is c)

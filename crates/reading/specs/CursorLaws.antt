@@ -1,36 +1,26 @@
 -- The code's steps along the chain are the definitions', and stay in the image.
-use Prim.Native.Nat.{ℕ, zero, suc, _-_, _≤_}
+use Prim.Native.Nat.{ℕ, _-_, _≤_}
 use native.Mathlib.Omega.{arith}
-use native.Mathlib.Nat.{not-suc-le-zero, le-of-suc-le-suc, sub-zero}
 use mathlib.Core.Path.{_≡_, refl, sym, ap, subst, _∙_}
 use mathlib.Core.Bool.{Bool, true, false}
-use mathlib.Core.List.{List, [], _∷_}
+use mathlib.Core.List.{List}
 use lib.ListN.{length, take, drop}
-use lib.Seq.{take-nil}
 use lib.Dec.{ltb}
 use Rattle.spec.specs.declared.Next.{Next}
 use Rattle.spec.specs.Next.{next}
 use Rattle.spec.specs.Chain.{allowed}
 use Rattle.record.specs.Within.{Within}
 use Rattle.reading.specs.declared.Cursor.{Cursor}
-use Rattle.reading.specs.declared.Step.{Step}
-use Rattle.reading.specs.Cursor.{look, goes-on, turn, torn-end, settle, advance, Sound, left, Inside}
-
--- a part that the code lends is the definitions' part
-pub part-window : (a e : ℕ) (s : List ℕ) → a ≤ e → take (e - a) (drop a s) ≡ drop a (take e s)
-part-window zero e s h = rw sub-zero
-part-window (suc a) zero s h = absurd (not-suc-le-zero h)
-part-window (suc a) (suc e) [] h = take-nil (suc e - suc a)
-part-window (suc a) (suc e) (x ∷ s) h =
-    let q : suc e - suc a ≡ e - a = omega arith in
-    rw q (part-window a e s (le-of-suc-le-suc h))
+use Rattle.reading.specs.declared.Item.{Item}
+use Rattle.reading.specs.Cursor.{look, goes-on, turn, torn-end, settle, advance, Cursor-sound, left, Inside}
+use Rattle.laws.specs.Parts.{part-window}
 
 -- ---- what stands at a cursor
 
 pub look-is : (image : List ℕ) (c : Cursor) (x y : Next) → c .at ≤ c .end → y ≡ next (take (c .end - c .at) (drop (c .at) image))
-    → x ≡ allowed (c .held) y → x ≡ look image c
+    → x ≡ allowed (c .pending) y → x ≡ look image c
 unfolding look
-look-is image c x y h e f = f ∙ ap (allowed (c .held)) (e ∙ ap next (part-window (c .at) (c .end) image h))
+look-is image c x y h e f = f ∙ ap (allowed (c .pending)) (e ∙ ap next (part-window (c .at) (c .end) image h))
 
 -- ---- bounds
 
@@ -40,7 +30,7 @@ module _ (image : List ℕ) where
   torn-inside c true h e = rw (torn-end, e) h
   torn-inside c false h e = rw (torn-end, e) h
 
-  pub inside-settle : (c : Cursor) (x : Next) → Sound image c → Within x (c .end - c .at) → Inside image c (settle image c x)
+  pub inside-settle : (c : Cursor) (x : Next) → Cursor-sound image c → Within x (c .end - c .at) → Inside image c (settle image c x)
   inside-settle c (Next.Record n d) s w =
       record {
         sound = record { ordered = omega (arith, s .ordered); inside = s .inside; room = s .room; small = s .small };
@@ -48,7 +38,7 @@ module _ (image : List ℕ) where
         name = w .0;
         data-len = w .2;
         fits = omega (arith, s .ordered, s .inside);
-        held = refl;
+        pending = refl;
       }
   inside-settle c Next.Wrap s w = omega (arith, s .ordered, s .inside)
   inside-settle c Next.TornWrap s w = torn-inside c (ltb 0 (c .room)) (omega (arith, s .ordered, s .inside)) refl
@@ -56,22 +46,22 @@ module _ (image : List ℕ) where
   inside-settle c Next.Over s w = omega (arith, s .ordered, s .inside)
   inside-settle c Next.Bad s w = omega (arith, s .ordered, s .inside)
 
-  pub sound-turn : (c : Cursor) → Sound image c → Sound image (turn (c .room) (c .held))
+  pub sound-turn : (c : Cursor) → Cursor-sound image c → Cursor-sound image (turn (c .room) (c .pending))
   sound-turn c s = record { ordered = omega arith; inside = s .room; room = omega arith; small = s .small }
 
   -- what is less than the turned cursor is less than the cursor
-  inside-more : (c d : Cursor) (r : Step) → left d ≤ left c → Inside image d r → Inside image c r
-  inside-more c d (Step.Record e next) h o =
-      record { sound = o .sound; less = omega (arith, o .less); name = o .name; data-len = o .data-len; fits = o .fits; held = o .held }
-  inside-more c d (Step.End t w) h o = o
-  inside-more c d (Step.TornWrap t) h o = o
-  inside-more c d (Step.Broken t w) h o = o
+  inside-more : (c d : Cursor) (r : Item) → left d ≤ left c → Inside image d r → Inside image c r
+  inside-more c d (Item.Record e next) h o =
+      record { sound = o .sound; less = omega (arith, o .less); name = o .name; data-len = o .data-len; fits = o .fits; pending = o .pending }
+  inside-more c d (Item.End t w) h o = o
+  inside-more c d (Item.TornWrap t) h o = o
+  inside-more c d (Item.Broken t w) h o = o
 
   -- ---- the two ways of a step
 
   module _ (c : Cursor) where
     pub advance-on : goes-on (c .room) (look image c) ≡ true
-        → advance image c ≡ settle image (turn (c .room) (c .held)) (look image (turn (c .room) (c .held)))
+        → advance image c ≡ settle image (turn (c .room) (c .pending)) (look image (turn (c .room) (c .pending)))
     unfolding advance
     advance-on h = rw (h, advance)
 
@@ -79,21 +69,21 @@ module _ (image : List ℕ) where
     unfolding advance
     advance-here h = rw (h, advance)
 
-    module _ (x : Next) (b : Bool) (s : Sound image c) (ex : x ≡ look image c) (eb : b ≡ goes-on (c .room) x) where
-      pub advanced-on : (t : Cursor) (y : Next) (r : Step) → b ≡ true → t ≡ turn (c .room) (c .held) → y ≡ look image t → r ≡ settle image t y
+    module _ (x : Next) (b : Bool) (s : Cursor-sound image c) (ex : x ≡ look image c) (eb : b ≡ goes-on (c .room) x) where
+      pub advanced-on : (t : Cursor) (y : Next) (r : Item) → b ≡ true → t ≡ turn (c .room) (c .pending) → y ≡ look image t → r ≡ settle image t y
           → Within y (t .end - t .at)
           → (r ≡ advance image c) × Inside image c r
       advanced-on t y r h et ey er w =
-          let u : Cursor = turn (c .room) (c .held) in
+          let u : Cursor = turn (c .room) (c .pending) in
           let e : r ≡ settle image u y = er ∙ ap (λ (k : Cursor). settle image k y) et in (
             e ∙ ap (settle image u) (ey ∙ ap (look image) et) ∙ sym (advance-on (ap (goes-on (c .room)) (sym ex) ∙ sym eb ∙ h)),
-            subst (λ (z : Step). Inside image c z) (sym e)
+            subst (λ (z : Item). Inside image c z) (sym e)
                 (inside-more c u (settle image u y) (omega arith)
                 (inside-settle u y (sound-turn c s) (subst (λ (k : Cursor). Within y (k .end - k .at)) et w))),
           )
 
-      pub advanced-here : (r : Step) → b ≡ false → r ≡ settle image c x → Within x (c .end - c .at) → (r ≡ advance image c) × Inside image c r
+      pub advanced-here : (r : Item) → b ≡ false → r ≡ settle image c x → Within x (c .end - c .at) → (r ≡ advance image c) × Inside image c r
       advanced-here r h er w = (
         er ∙ ap (settle image c) ex ∙ sym (advance-here (ap (goes-on (c .room)) (sym ex) ∙ sym eb ∙ h)),
-        subst (λ (z : Step). Inside image c z) (sym er) (inside-settle c x s w),
+        subst (λ (z : Item). Inside image c z) (sym er) (inside-settle c x s w),
       )

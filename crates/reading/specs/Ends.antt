@@ -9,7 +9,7 @@ use lib.ListN.{length, length-drop, length-take}
 use lib.Dec.{ltb}
 use Rattle.spec.specs.declared.Next.{Next}
 use Rattle.reading.specs.declared.Cursor.{Cursor}
-use Rattle.reading.specs.declared.Step.{Step}
+use Rattle.reading.specs.declared.Item.{Item}
 use Rattle.reading.specs.Cursor.{window, look, goes-on, turn, torn-end, settle, advance, left}
 use Rattle.reading.specs.CursorLaws.{advance-on, advance-here}
 use Rattle.reading.specs.Fits.{look-fits}
@@ -28,18 +28,18 @@ abbrev pub Up : Cursor → Bool → ℕ → Type 0
 Up c w t = w ≡ false → (c .turned ≡ false) × (c .at ≤ t)
 
 -- a step from c
-abbrev Ends : List ℕ → Cursor → Step → Type 0
-Ends image c (Step.Record e next) = Up c (next .turned) (next .at)
-Ends image c (Step.End t w) = Up c w t
-Ends image c (Step.TornWrap t) = t + 8 ≤ length image
-Ends image c (Step.Broken t w) = Up c w t
+abbrev Ends : List ℕ → Cursor → Item → Type 0
+Ends image c (Item.Record e next) = Up c (next .turned) (next .at)
+Ends image c (Item.End t w) = Up c w t
+Ends image c (Item.TornWrap t) = t + 8 ≤ length image
+Ends image c (Item.Broken t w) = Up c w t
 
 -- the chain's end, from c on
-abbrev pub Closes : List ℕ → Cursor → Step → Type 0
-Closes image c (Step.Record e next) = ⊥
-Closes image c (Step.End t w) = Up c w t
-Closes image c (Step.TornWrap t) = t + 8 ≤ length image
-Closes image c (Step.Broken t w) = Up c w t
+abbrev pub Closes : List ℕ → Cursor → Item → Type 0
+Closes image c (Item.Record e next) = ⊥
+Closes image c (Item.End t w) = Up c w t
+Closes image c (Item.TornWrap t) = t + 8 ≤ length image
+Closes image c (Item.Broken t w) = Up c w t
 
 module _ (image : List ℕ) where
   torn-ends : (c : Cursor) (t : Bool) → ltb 0 (c .room) ≡ t → look image c ≡ Next.TornWrap → Ends image c (torn-end (c .room) (c .turned) (c .at))
@@ -59,32 +59,32 @@ module _ (image : List ℕ) where
   never : {A : Type 0} → true ≡ false → A
   never q = absurd (let z : _≡_ {A = ℕ} 0 1 = cc in omega arith)
 
-  turned-ends : (c d : Cursor) (r : Step) → d .turned ≡ true → Ends image d r → Ends image c r
-  turned-ends c d (Step.Record e next) t o = λ q. never (sym t ∙ o q .0)
-  turned-ends c d (Step.End a w) t o = λ q. never (sym t ∙ o q .0)
-  turned-ends c d (Step.TornWrap a) t o = o
-  turned-ends c d (Step.Broken a w) t o = λ q. never (sym t ∙ o q .0)
+  turned-ends : (c d : Cursor) (r : Item) → d .turned ≡ true → Ends image d r → Ends image c r
+  turned-ends c d (Item.Record e next) t o = λ q. never (sym t ∙ o q .0)
+  turned-ends c d (Item.End a w) t o = λ q. never (sym t ∙ o q .0)
+  turned-ends c d (Item.TornWrap a) t o = o
+  turned-ends c d (Item.Broken a w) t o = λ q. never (sym t ∙ o q .0)
 
   advance-ends : (c : Cursor) (t : Bool) → goes-on (c .room) (look image c) ≡ t → Ends image c (advance image c)
   advance-ends c true e =
-      let u : Cursor = turn (c .room) (c .held) in
+      let u : Cursor = turn (c .room) (c .pending) in
       rw (advance-on image c e) (turned-ends c u (settle image u (look image u)) refl (settle-ends u (look image u) refl))
   advance-ends c false e = rw (advance-here image c e) (settle-ends c (look image c) refl)
 
   -- what the chain behind a record ends with
-  onward-ends : (c d : Cursor) (r : Step) → Up c (d .turned) (d .at) → Closes image d r → Closes image c r
-  onward-ends c d (Step.Record e next) u o = o
-  onward-ends c d (Step.End a w) u o = λ q. (u (o q .0) .0, omega (arith, u (o q .0) .1, o q .1))
-  onward-ends c d (Step.TornWrap a) u o = o
-  onward-ends c d (Step.Broken a w) u o = λ q. (u (o q .0) .0, omega (arith, u (o q .0) .1, o q .1))
+  onward-ends : (c d : Cursor) (r : Item) → Up c (d .turned) (d .at) → Closes image d r → Closes image c r
+  onward-ends c d (Item.Record e next) u o = o
+  onward-ends c d (Item.End a w) u o = λ q. (u (o q .0) .0, omega (arith, u (o q .0) .1, o q .1))
+  onward-ends c d (Item.TornWrap a) u o = o
+  onward-ends c d (Item.Broken a w) u o = λ q. (u (o q .0) .0, omega (arith, u (o q .0) .1, o q .1))
 
-  by-step : (k : ℕ) (c : Cursor) (r : Step) → left c < suc k → Less c r → Ends image c r
+  by-step : (k : ℕ) (c : Cursor) (r : Item) → left c < suc k → Less c r → Ends image c r
       → ((d : Cursor) → left d < k → Closes image d (rest image d .ending))
       → Closes image c (followed image r (rest image) .ending)
-  by-step k c (Step.Record e next) h l o ih = onward-ends c next (rest image next .ending) o (ih next (omega arith))
-  by-step k c (Step.End t w) h l o ih = o
-  by-step k c (Step.TornWrap t) h l o ih = o
-  by-step k c (Step.Broken t w) h l o ih = o
+  by-step k c (Item.Record e next) h l o ih = onward-ends c next (rest image next .ending) o (ih next (omega arith))
+  by-step k c (Item.End t w) h l o ih = o
+  by-step k c (Item.TornWrap t) h l o ih = o
+  by-step k c (Item.Broken t w) h l o ih = o
 
   by-fuel : (k : ℕ) (c : Cursor) → left c < k → Closes image c (rest image c .ending)
   by-fuel zero c h = absurd (not-suc-le-zero h)

@@ -12,7 +12,7 @@ use borrow.Author.Tests.{eq-eqb, ne-eqb, lt-ltb}
 use Rattle.spec.specs.Basics.{same, empty}
 use Rattle.spec.specs.Record.{Entry}
 use Rattle.spec.specs.Files.{named, has-named, live}
-use Rattle.record.specs.Suffix.{drop-next}
+use Rattle.laws.specs.Parts.{drop-next}
 use Rattle.reading.specs.declared.Spot.{Spot}
 use Rattle.reading.specs.Rest.{entry-of}
 use Rattle.reading.specs.Fold.{Whole}

@@ -9,8 +9,8 @@ use Rattle.spec.specs.Geometry.{up8}
 use Rattle.spec.specs.Record.{Entry, name-of, content-of, size-of}
 use Rattle.reading.specs.declared.Cursor.{Cursor}
 use Rattle.reading.specs.declared.Spot.{Spot}
-use Rattle.reading.specs.declared.Step.{Step}
-use Rattle.reading.specs.Cursor.{advance, Inside, Onward, Sound}
+use Rattle.reading.specs.declared.Item.{Item}
+use Rattle.reading.specs.Cursor.{advance, Inside, Onward, Cursor-sound}
 use Rattle.reading.specs.Rest.{Run, entry-of, ahead, done, followed, rest, rest-step}
 
 -- ---- where an entry stands
@@ -36,48 +36,48 @@ module _ (image : List ℕ) (e : Spot) (w : Whole image e) where
 
 -- ---- a turn of the loop: a record, or the end
 
-pub record Turned (image : List ℕ) (c : Cursor) (e : Spot) (next : Cursor) : Type 0 where
+pub record Passes (image : List ℕ) (c : Cursor) (e : Spot) (next : Cursor) : Type 0 where
   pub onward : Onward image c e next
   pub split : rest image c ≡ ahead (entry-of image e) (rest image next)
   pub whole : Whole image e
 
 -- from what `advance` ensures, where it gave a record
-pub turned : {image : List ℕ} {c : Cursor} {r : Step} {e : Spot} {next : Cursor} → (r ≡ advance image c) × Inside image c r
-    → r ≡ Step.Record e next → Turned image c e next
-turned {image} {c} {r} {e} {next} p q =
+pub passes : {image : List ℕ} {c : Cursor} {r : Item} {e : Spot} {next : Cursor} → (r ≡ advance image c) × Inside image c r
+    → r ≡ Item.Record e next → Passes image c e next
+passes {image} {c} {r} {e} {next} p q =
     let o : Onward image c e next = rw q at (p .1) in
     record { onward = o; split = rw (rest-step image c, sym (p .0) ∙ q); whole = record { fits = o .fits } }
 
-abbrev pub Not-record : Step → Type 0
-Not-record (Step.Record e next) = ⊥
-Not-record (Step.End t w) = Unit {0}
-Not-record (Step.TornWrap t) = Unit {0}
-Not-record (Step.Broken t w) = Unit {0}
+abbrev pub Not-record : Item → Type 0
+Not-record (Item.Record e next) = ⊥
+Not-record (Item.End t w) = Unit {0}
+Not-record (Item.TornWrap t) = Unit {0}
+Not-record (Item.Broken t w) = Unit {0}
 
-followed-done : (image : List ℕ) (r : Step) (f : Cursor → Run) → Not-record r → followed image r f ≡ done r
-followed-done image (Step.Record e next) f z = absurd z
-followed-done image (Step.End t w) f z = refl
-followed-done image (Step.TornWrap t) f z = refl
-followed-done image (Step.Broken t w) f z = refl
+followed-done : (image : List ℕ) (r : Item) (f : Cursor → Run) → Not-record r → followed image r f ≡ done r
+followed-done image (Item.Record e next) f z = absurd z
+followed-done image (Item.End t w) f z = refl
+followed-done image (Item.TornWrap t) f z = refl
+followed-done image (Item.Broken t w) f z = refl
 
-pub rest-done : (image : List ℕ) (c : Cursor) (r : Step) → r ≡ advance image c → Not-record r → rest image c ≡ done r
-rest-done image c r e z = rest-step image c ∙ ap (λ (x : Step). followed image x (rest image)) (sym e) ∙ followed-done image r (rest image) z
+pub rest-done : (image : List ℕ) (c : Cursor) (r : Item) → r ≡ advance image c → Not-record r → rest image c ≡ done r
+rest-done image c r e z = rest-step image c ∙ ap (λ (x : Item). followed image x (rest image)) (sym e) ∙ followed-done image r (rest image) z
 
 -- ---- the fold: f with the state s on what is left is f with the first state on all
 
 pub record Folded {S A : Type 0} (f : S → Run → A) (image : List ℕ) (start : Cursor) (s₀ : S) (c : Cursor) (s : S) : Type 0 where
-  pub sound : Sound image c
+  pub sound : Cursor-sound image c
   pub same : f s₀ (rest image start) ≡ f s (rest image c)
 
 module _ {S A : Type 0} (f : S → Run → A) (image : List ℕ) (start : Cursor) (s₀ : S) where
-  pub fold-start : Sound image start → Folded f image start s₀ start s₀
+  pub fold-start : Cursor-sound image start → Folded f image start s₀ start s₀
   fold-start h = record { sound = h; same = refl }
 
   module _ (c : Cursor) (s : S) (w : Folded f image start s₀ c s) where
-    pub fold-end : (r : Step) → r ≡ advance image c → Not-record r → f s (done r) ≡ f s₀ (rest image start)
+    pub fold-end : (r : Item) → r ≡ advance image c → Not-record r → f s (done r) ≡ f s₀ (rest image start)
     fold-end r e z = sym (w .same ∙ ap (f s) (rest-done image c r e z))
 
-    module _ (e : Spot) (next : Cursor) (t : Turned image c e next) where
+    module _ (e : Spot) (next : Cursor) (t : Passes image c e next) where
       pub fold-stop : (a : A) → f s (ahead (entry-of image e) (rest image next)) ≡ a → a ≡ f s₀ (rest image start)
       fold-stop a h = sym (w .same ∙ ap (f s) (t .split) ∙ h)
 

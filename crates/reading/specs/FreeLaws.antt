@@ -9,7 +9,7 @@ use Rattle.spec.specs.declared.Place.{Place}
 use Rattle.spec.specs.Basics.{blank}
 use Rattle.spec.specs.Geometry.{floor}
 use Rattle.spec.specs.Reading.{limit, blank-part, free-blank, tail-blank}
-use Rattle.reading.specs.CursorLaws.{part-window}
+use Rattle.laws.specs.Parts.{part-window}
 
 -- a place of this image
 pub record In-image (image : List ℕ) (p : Place) : Type 0 where

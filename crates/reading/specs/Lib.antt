@@ -12,10 +12,13 @@ pub mod Tally
 pub mod Faithful
 pub mod TallyLaws
 pub mod NamesLaw
-pub mod SettledLaws
 pub mod FreeLaws
 pub mod Read
 pub mod Stows
 pub mod Room
 pub mod Survey
 pub mod RuleLaws
+pub mod Way
+pub mod FirstRecord
+pub mod Standing
+pub mod Accepted

@@ -1,31 +1,21 @@
 -- "a live name that breaks the name rule": it is enough to look at every FC and F8 record with a name, since one that is
 -- superseded shares its name with a live one. And where none is superseded, these records are the live files.
-use Prim.Native.Nat.{ℕ}
-use native.Mathlib.Omega.{arith}
 use mathlib.Core.Path.{_≡_, refl, sym, ap, _∙_}
-use mathlib.Core.Bool.{Bool, true, false, _&&_}
+use mathlib.Core.Bool.{Bool, true, false, false≢true}
 use mathlib.Core.List.{List, [], _∷_}
-use lib.Dec.{eqb}
-use borrow.Author.Tests.{eqb-true}
 use Rattle.spec.specs.Basics.{any, all, keep, same}
 use Rattle.spec.specs.Record.{Entry, name-of, name-ok}
 use Rattle.spec.specs.Files.{named, named-as, has-named, live, superseded, files}
 use Rattle.spec.specs.Reading.{name-legal, names-ok}
 use Rattle.reading.specs.FileLaws.{is-file}
 use Rattle.reading.specs.Tally.{name-fine}
+use Rattle.laws.specs.Tests.{and-left, and-right}
+use Rattle.laws.specs.Lists.{same-is}
 
 wrong : {A : Type 0} → false ≡ true → A
-wrong e = absurd (let z : _≡_ {A = ℕ} 0 1 = cc in omega arith)
+wrong e = absurd (false≢true e)
 
 -- ---- tests that hold together
-
-and-left : (a b : Bool) → (a && b) ≡ true → a ≡ true
-and-left true b h = refl
-and-left false b h = h
-
-and-right : (a b : Bool) → (a && b) ≡ true → b ≡ true
-and-right true b h = h
-and-right false b h = wrong h
 
 all-first : (p : Entry → Bool) (x : Entry) (xs : List Entry) (t : Bool) → p x ≡ t → all p (x ∷ xs) ≡ true → p x ≡ true
 all-first p x xs true e h = e
@@ -37,16 +27,6 @@ all-rest p x xs false e h = wrong (rw (e, all) at h)
 
 all-both : (p : Entry → Bool) (x : Entry) (xs : List Entry) → p x ≡ true → all p xs ≡ true → all p (x ∷ xs) ≡ true
 all-both p x xs e h = rw (e, all) h
-
-same-equal : (a b : List ℕ) → same a b ≡ true → a ≡ b
-unfolding same
-same-equal [] [] h = refl
-same-equal [] (y ∷ b) h = wrong h
-same-equal (x ∷ a) [] h = wrong h
-same-equal (x ∷ a) (y ∷ b) h = go (eqb x y) refl h (same-equal a b) where
-  go : (t : Bool) → eqb x y ≡ t → same (x ∷ a) (y ∷ b) ≡ true → (same a b ≡ true → a ≡ b) → x ∷ a ≡ y ∷ b
-  go true e h ih = let p : x ≡ y = eqb-true x y e in let q : a ≡ b = ih (rw (e, same) at h) in cc
-  go false e h ih = wrong (rw (e, same) at h)
 
 iff : (a b : Bool) → (a ≡ true → b ≡ true) → (b ≡ true → a ≡ true) → a ≡ b
 iff true b f g = sym (f refl)
@@ -71,7 +51,7 @@ module _ (es : List Entry) where
     go : (t : Bool) → named-as 0xFC e x ≡ t → (any (named-as 0xFC e) xs ≡ true → name-ok (name-of e) ≡ true) → name-ok (name-of e) ≡ true
     go true q ih =
         let f : named 0xFC x ≡ true = and-left (named 0xFC x) (same (name-of e) (name-of x)) q in
-        let s : name-of e ≡ name-of x = same-equal (name-of e) (name-of x) (and-right (named 0xFC x) (same (name-of e) (name-of x)) q) in
+        let s : name-of e ≡ name-of x = same-is (name-of e) (name-of x) (and-right (named 0xFC x) (same (name-of e) (name-of x)) q) in
         ap name-ok s ∙ legal-live x (live-fc x f) (all-first (name-legal es) x xs _ refl h)
     go false q ih = ih (rw (q, any) at a)
 

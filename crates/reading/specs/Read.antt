@@ -12,7 +12,7 @@ use Rattle.reading.specs.declared.Cursor.{Cursor}
 use Rattle.reading.specs.declared.Tally.{Tally}
 use Rattle.reading.specs.declared.Survey.{Survey}
 use Rattle.reading.specs.declared.Read.{Read}
-use Rattle.reading.specs.Cursor.{Sound, start}
+use Rattle.reading.specs.Cursor.{Cursor-sound, start}
 use Rattle.reading.specs.Rest.{rest}
 use Rattle.reading.specs.Tally.{none-yet, tally, Spots}
 use Rattle.reading.specs.FreeLaws.{In-image}
@@ -27,13 +27,13 @@ reading-of image s = record { place = s .place; entries = rest image (first-curs
 
 abbrev pub answered : List ℕ → Read → Answer Reading
 answered image (Read.Good s) = give (reading-of image s)
-answered image (Read.Refused n) = refuse n
+answered image (Read.Refused x) = refuse x
 
 -- ---- what holds of a survey besides
 
 -- t is the tally of the chain from start on
 pub record Tallied (image : List ℕ) (start : Cursor) (t : Tally) : Type 0 where
-  pub sound : Sound image start
+  pub sound : Cursor-sound image start
   pub same : t ≡ tally none-yet (rest image start .entries)
   pub spots : Spots image t
 
@@ -43,9 +43,9 @@ pub record Surveyed (image : List ℕ) (s : Survey) : Type 0 where
 
 abbrev pub Told : List ℕ → Read → Type 0
 Told image (Read.Good s) = Surveyed image s
-Told image (Read.Refused n) = Unit {0}
+Told image (Read.Refused x) = Unit {0}
 
 -- no F8 record has an FC record of its name
 abbrev pub Quiet : List ℕ → Read → Type 0
 Quiet image (Read.Good s) = any (superseded (reading-of image s .entries)) (reading-of image s .entries) ≡ false
-Quiet image (Read.Refused n) = Unit {0}
+Quiet image (Read.Refused x) = Unit {0}

@@ -11,18 +11,18 @@ use Rattle.spec.specs.declared.Next.{Next}
 use Rattle.spec.specs.Record.{rec-of, Entry}
 use Rattle.reading.specs.declared.Cursor.{Cursor}
 use Rattle.reading.specs.declared.Spot.{Spot}
-use Rattle.reading.specs.declared.Step.{Step}
+use Rattle.reading.specs.declared.Item.{Item}
 use Rattle.reading.specs.Cursor.{look, goes-on, turn, torn-end, settle, advance, left}
 use Rattle.reading.specs.Fits.{look-inside}
 use Rattle.reading.specs.CursorLaws.{advance-on, advance-here}
 
 -- ---- every step leaves less
 
-abbrev pub Less : Cursor → Step → Type 0
-Less c (Step.Record e next) = left next < left c
-Less c (Step.End t w) = Unit {0}
-Less c (Step.TornWrap t) = Unit {0}
-Less c (Step.Broken t w) = Unit {0}
+abbrev pub Less : Cursor → Item → Type 0
+Less c (Item.Record e next) = left next < left c
+Less c (Item.End t w) = Unit {0}
+Less c (Item.TornWrap t) = Unit {0}
+Less c (Item.Broken t w) = Unit {0}
 
 torn-less : (c : Cursor) (t : Bool) → ltb 0 (c .room) ≡ t → Less c (torn-end (c .room) (c .turned) (c .at))
 unfolding torn-end
@@ -37,15 +37,15 @@ settle-less image c Next.Clear f = tt
 settle-less image c Next.Over f = tt
 settle-less image c Next.Bad f = tt
 
-less-more : (c d : Cursor) (r : Step) → left d ≤ left c → Less d r → Less c r
-less-more c d (Step.Record e next) h o = omega arith
-less-more c d (Step.End t w) h o = tt
-less-more c d (Step.TornWrap t) h o = tt
-less-more c d (Step.Broken t w) h o = tt
+less-more : (c d : Cursor) (r : Item) → left d ≤ left c → Less d r → Less c r
+less-more c d (Item.Record e next) h o = omega arith
+less-more c d (Item.End t w) h o = tt
+less-more c d (Item.TornWrap t) h o = tt
+less-more c d (Item.Broken t w) h o = tt
 
 advance-less-by : (image : List ℕ) (c : Cursor) (t : Bool) → goes-on (c .room) (look image c) ≡ t → Less c (advance image c)
 advance-less-by image c true e =
-    let u : Cursor = turn (c .room) (c .held) in
+    let u : Cursor = turn (c .room) (c .pending) in
     rw (advance-on image c e) (less-more c u (settle image u (look image u)) (omega arith) (settle-less image u (look image u) refl))
 advance-less-by image c false e = rw (advance-here image c e) (settle-less image c (look image c) refl)
 
@@ -57,7 +57,7 @@ advance-less image c = advance-less-by image c _ refl
 -- records one after another, and what ends them
 pub record Run : Type 0 where
   pub entries : List Entry
-  pub ending : Step
+  pub ending : Item
 
 -- the record that stands there
 abbrev pub entry-of : List ℕ → Spot → Entry
@@ -66,29 +66,29 @@ entry-of image e = record { at = e .at; it = rec-of (drop (e .at) image) (e .n) 
 abbrev pub ahead : Entry → Run → Run
 ahead e r = record { entries = e ∷ r .entries; ending = r .ending }
 
-abbrev pub done : Step → Run
+abbrev pub done : Item → Run
 done s = record { entries = []; ending = s }
 
-abbrev pub followed : List ℕ → Step → (Cursor → Run) → Run
-followed image (Step.Record e next) f = ahead (entry-of image e) (f next)
-followed image (Step.End t w) f = done (Step.End t w)
-followed image (Step.TornWrap t) f = done (Step.TornWrap t)
-followed image (Step.Broken t w) f = done (Step.Broken t w)
+abbrev pub followed : List ℕ → Item → (Cursor → Run) → Run
+followed image (Item.Record e next) f = ahead (entry-of image e) (f next)
+followed image (Item.End t w) f = done (Item.End t w)
+followed image (Item.TornWrap t) f = done (Item.TornWrap t)
+followed image (Item.Broken t w) f = done (Item.Broken t w)
 
 unfoldable pub rest-by : ℕ → List ℕ → Cursor → Run
-rest-by zero image c = done (Step.Broken 0 false)
+rest-by zero image c = done (Item.Broken 0 false)
 rest-by (suc k) image c = followed image (advance image c) (rest-by k image)
 
 unfoldable pub rest : List ℕ → Cursor → Run
 rest image c = rest-by (suc (left c)) image c
 
 -- a fuel that is enough is as good as any other
-followed-same : (image : List ℕ) (c : Cursor) (r : Step) (f g : Cursor → Run) → Less c r → ((d : Cursor) → left d < left c → f d ≡ g d)
+followed-same : (image : List ℕ) (c : Cursor) (r : Item) (f g : Cursor → Run) → Less c r → ((d : Cursor) → left d < left c → f d ≡ g d)
     → followed image r f ≡ followed image r g
-followed-same image c (Step.Record x next) f g h e = rw (e next h)
-followed-same image c (Step.End t w) f g h e = refl
-followed-same image c (Step.TornWrap t) f g h e = refl
-followed-same image c (Step.Broken t w) f g h e = refl
+followed-same image c (Item.Record x next) f g h e = rw (e next h)
+followed-same image c (Item.End t w) f g h e = refl
+followed-same image c (Item.TornWrap t) f g h e = refl
+followed-same image c (Item.Broken t w) f g h e = refl
 
 enough : (k j : ℕ) (image : List ℕ) (c : Cursor) → left c < k → left c < j → rest-by k image c ≡ rest-by j image c
 unfolding rest-by

@@ -18,11 +18,11 @@ use Rattle.spec.specs.Placed.{placed}
 use Rattle.reading.specs.declared.room.Stowed.{Stowed}
 use Rattle.reading.specs.declared.Cursor.{Cursor}
 use Rattle.reading.specs.declared.Spot.{Spot}
-use Rattle.reading.specs.declared.Step.{Step}
+use Rattle.reading.specs.declared.Item.{Item}
 use Rattle.reading.specs.declared.Survey.{Survey}
 use Rattle.reading.specs.Cursor.{advance}
 use Rattle.reading.specs.Rest.{Run, entry-of, rest}
-use Rattle.reading.specs.Fold.{Whole, name-length-is, content-length-is, Turned, Not-record, Folded, fold-end, fold-step}
+use Rattle.reading.specs.Fold.{Whole, name-length-is, content-length-is, Passes, Not-record, Folded, fold-end, fold-step}
 use Rattle.reading.specs.FileLaws.{is-file}
 use Rattle.reading.specs.NamesLaw.{files-are}
 use Rattle.reading.specs.FreeLaws.{In-image}
@@ -112,10 +112,10 @@ stow-of p name m r = stow-files p m (others name (r .entries))
 
 module _ (p : Place) (name : List ℕ) {image : List ℕ} {start c : Cursor} {m₀ m : Stowed}
     (w : Folded (stow-of p name) image start m₀ c m) where
-  pub stow-over : (r : Step) → r ≡ advance image c → Not-record r → m ≡ stow-files p m₀ (others name (rest image start .entries))
+  pub stow-over : (r : Item) → r ≡ advance image c → Not-record r → m ≡ stow-files p m₀ (others name (rest image start .entries))
   stow-over r e z = fold-end (stow-of p name) image start m₀ c m w r e z
 
-  pub stow-onward : {e : Spot} {next : Cursor} → Turned image c e next → (k : Stowed)
+  pub stow-onward : {e : Spot} {next : Cursor} → Passes image c e next → (k : Stowed)
       → k ≡ stow-files p m (others name (entry-of image e ∷ [])) → Folded (stow-of p name) image start m₀ next k
   stow-onward {e} {next} t k h =
       fold-step (stow-of p name) image start m₀ c m w e next t k

@@ -7,7 +7,7 @@ use mathlib.Core.Bool.{Bool, true, false, _&&_, not}
 use mathlib.Core.List.{List, [], _∷_}
 use lib.ListN.{length}
 use lib.Dec.{eqb}
-use Rattle.spec.specs.Basics.{Answer, refuse, give, checked, onward, any, Each}
+use Rattle.spec.specs.Basics.{Answer, refuse, give, checked, onward, any, Each, numbered}
 use Rattle.spec.specs.Geometry.{floor}
 use Rattle.spec.specs.Bytes.{is-clean}
 use Rattle.spec.specs.Record.{Entry}
@@ -16,16 +16,17 @@ use Rattle.spec.specs.Chain.{Reading, reading-from}
 use Rattle.spec.specs.Files.{live, superseded}
 use Rattle.spec.specs.Reading.{head-clean, free-ok, whole, marked, second-ok, marks-ok, names-ok, single, legal, judged, reading}
 use Rattle.spec.specs.Mount.{head-low, settled}
-use Rattle.spec.specs.Answers.{if-settled, settled-reading}
+use Rattle.spec.specs.Door.{if-settled, settled-reading}
+use Rattle.spec.specs.declared.Refusal.{Refusal}
 use Rattle.reading.specs.declared.Cursor.{Cursor}
 use Rattle.reading.specs.declared.Spot.{Spot}
 use Rattle.reading.specs.declared.Tally.{Tally}
 use Rattle.reading.specs.Rest.{rest, entry-of}
 use Rattle.reading.specs.Faithful.{Stands, faithful}
 use Rattle.reading.specs.Tally.{none-yet, tally}
-use Rattle.reading.specs.TallyLaws.{tally-records, tally-fine, second-is, clean-few, low-is, clean-is, marks-few, marks-are, held-is}
+use Rattle.reading.specs.TallyLaws.{tally-records, tally-fine, second-is, clean-few, low-is, clean-is, marks-few, marks-are, pending-is}
 use Rattle.reading.specs.NamesLaw.{names-are}
-use Rattle.reading.specs.SettledLaws.{second-marked, last-open, wrap-torn, calm, settled-is}
+use Rattle.laws.specs.Settled.{second-marked, last-open, wrap-torn, calm, settled-is}
 use Rattle.reading.specs.FreeLaws.{free-by}
 use Rattle.reading.specs.Read.{Tallied}
 
@@ -101,11 +102,11 @@ module _ {image : List ℕ} {start : Cursor} {t : Tally} (w : Tallied image star
         ap (λ (u : Tally). marked (entry-of image (u .second))) q ∙ ap (λ (s : Spot). marked (entry-of image s)) (second-is x y es)
         ∙ ap marked (f .1 .0)
 
-  pub open-is : t .held ≡ last-open (rest image start .entries)
-  open-is = ap (λ (u : Tally). u .held) (w .same) ∙ go (rest image start .entries) where
-    go : (es : List Entry) → tally none-yet es .held ≡ last-open es
+  pub open-is : t .pending ≡ last-open (rest image start .entries)
+  open-is = ap (λ (u : Tally). u .pending) (w .same) ∙ go (rest image start .entries) where
+    go : (es : List Entry) → tally none-yet es .pending ≡ last-open es
     go [] = refl
-    go (e ∷ es) = held-is none-yet e es
+    go (e ∷ es) = pending-is none-yet e es
 
 -- ---- all rules
 
@@ -182,15 +183,15 @@ pub reading-by : (image : List ℕ) (h : ℕ) → give h ≡ head image → judg
 unfolding reading
 reading-by image h e = ap (λ (a : Answer ℕ). onward a (λ (h : ℕ). judged image (reading-from image h))) e
 
-pub reading-refused : (image : List ℕ) (n : ℕ) → refuse n ≡ head image → refuse n ≡ reading image
+pub reading-refused : (image : List ℕ) (n : ℕ) → refuse (numbered n) ≡ head image → refuse (numbered n) ≡ reading image
 unfolding reading
 reading-refused image n e = ap (λ (a : Answer ℕ). onward a (λ (h : ℕ). judged image (reading-from image h))) e
 
-pub settled-none : (image : List ℕ) (n : ℕ) → refuse n ≡ reading image → refuse n ≡ settled-reading image
+pub settled-none : (image : List ℕ) (x : Refusal) → refuse x ≡ reading image → refuse x ≡ settled-reading image
 unfolding settled-reading
-settled-none image n e = ap (λ (a : Answer Reading). onward a (if-settled image)) e
+settled-none image x e = ap (λ (a : Answer Reading). onward a (if-settled image)) e
 
 pub settled-by : (image : List ℕ) (r : Reading) (t : Bool) → give r ≡ reading image → settled image r ≡ t
-    → checked t 16 (give r) ≡ settled-reading image
+    → checked t (numbered 16) (give r) ≡ settled-reading image
 unfolding settled-reading if-settled
-settled-by image r t e s = ap (λ (b : Bool). checked b 16 (give r)) (sym s) ∙ ap (λ (a : Answer Reading). onward a (if-settled image)) e
+settled-by image r t e s = ap (λ (b : Bool). checked b (numbered 16) (give r)) (sym s) ∙ ap (λ (a : Answer Reading). onward a (if-settled image)) e

@@ -12,33 +12,13 @@ use Rattle.spec.specs.Record.{Entry}
 use Rattle.spec.specs.Files.{doubled}
 use Rattle.reading.specs.declared.Cursor.{Cursor}
 use Rattle.reading.specs.declared.Spot.{Spot}
-use Rattle.reading.specs.declared.Step.{Step}
+use Rattle.reading.specs.declared.Item.{Item}
 use Rattle.reading.specs.declared.Found.{Found}
-use Rattle.reading.specs.Cursor.{advance, Sound, left}
+use Rattle.reading.specs.Cursor.{advance, Cursor-sound, left}
 use Rattle.reading.specs.Rest.{Run, entry-of, rest}
-use Rattle.reading.specs.Fold.{Whole, Turned, Not-record, Folded, fold-start, fold-end, fold-stop, fold-step}
+use Rattle.reading.specs.Fold.{Whole, Passes, Not-record, Folded, fold-start, fold-end, fold-stop, fold-step}
 use Rattle.reading.specs.FileLaws.{twice}
-
--- ---- one element, for any test
-
-module _ {A : Type 0} (p : A → Bool) (x : A) (xs : List A) where
-  any-hit : p x ≡ true → any p (x ∷ xs) ≡ true
-  any-hit h = rw (h, any)
-
-  any-miss : p x ≡ false → any p (x ∷ xs) ≡ any p xs
-  any-miss h = rw (h, any)
-
-  keep-hit : p x ≡ true → keep p (x ∷ xs) ≡ x ∷ keep p xs
-  keep-hit h = rw (h, keep)
-
-  keep-miss : p x ≡ false → keep p (x ∷ xs) ≡ keep p xs
-  keep-miss h = rw (h, keep)
-
-  first-hit : p x ≡ true → first-such p (x ∷ xs) ≡ some x
-  first-hit h = rw (h, first-such)
-
-  first-miss : p x ≡ false → first-such p (x ∷ xs) ≡ first-such p xs
-  first-miss h = rw (h, first-such)
+use Rattle.laws.specs.Lists.{any-yes, any-no, keep-yes, keep-no, first-yes, first-no}
 
 -- ---- is there one that passes
 
@@ -46,15 +26,15 @@ abbrev pub any-of : (Entry → Bool) → Unit {0} → Run → Bool
 any-of p u r = any p (r .entries)
 
 module _ (p : Entry → Bool) {image : List ℕ} {start c : Cursor} (w : Folded (any-of p) image start tt c tt) where
-  pub any-over : (r : Step) → r ≡ advance image c → Not-record r → false ≡ any p (rest image start .entries)
+  pub any-over : (r : Item) → r ≡ advance image c → Not-record r → false ≡ any p (rest image start .entries)
   any-over r e z = fold-end (any-of p) image start tt c tt w r e z
 
-  module _ {e : Spot} {next : Cursor} (t : Turned image c e next) where
+  module _ {e : Spot} {next : Cursor} (t : Passes image c e next) where
     pub any-found : p (entry-of image e) ≡ true → true ≡ any p (rest image start .entries)
-    any-found h = fold-stop (any-of p) image start tt c tt w e next t true (any-hit p (entry-of image e) (rest image next .entries) h)
+    any-found h = fold-stop (any-of p) image start tt c tt w e next t true (any-yes p (entry-of image e) (rest image next .entries) h)
 
     pub any-onward : p (entry-of image e) ≡ false → Folded (any-of p) image start tt next tt
-    any-onward h = fold-step (any-of p) image start tt c tt w e next t tt (any-miss p (entry-of image e) (rest image next .entries) h)
+    any-onward h = fold-step (any-of p) image start tt c tt w e next t tt (any-no p (entry-of image e) (rest image next .entries) h)
 
 -- ---- how many pass
 
@@ -66,28 +46,28 @@ pub record Counted (p : Entry → Bool) (image : List ℕ) (start c : Cursor) (m
   pub fold : Folded (count-of p) image start 0 c m
   pub few : m + left c ≤ left start
 
-pub count-start : (p : Entry → Bool) {image : List ℕ} {start : Cursor} → Sound image start → Counted p image start start 0
+pub count-start : (p : Entry → Bool) {image : List ℕ} {start : Cursor} → Cursor-sound image start → Counted p image start start 0
 count-start p {image} {start} s = record { fold = fold-start (count-of p) image start 0 s; few = omega arith }
 
 module _ (p : Entry → Bool) {image : List ℕ} {start c : Cursor} {m : ℕ} (w : Counted p image start c m) where
-  pub count-over : (r : Step) → r ≡ advance image c → Not-record r → m ≡ length (keep p (rest image start .entries))
+  pub count-over : (r : Item) → r ≡ advance image c → Not-record r → m ≡ length (keep p (rest image start .entries))
   count-over r e z =
       sym (add-zero m) ∙ fold-end (count-of p) image start 0 c m (w .fold) r e z ∙ zero-add (length (keep p (rest image start .entries)))
 
-  module _ {e : Spot} {next : Cursor} (t : Turned image c e next) where
+  module _ {e : Spot} {next : Cursor} (t : Passes image c e next) where
     pub count-one : p (entry-of image e) ≡ true → Counted p image start next (m + 1)
     count-one h =
         record {
           fold =
               fold-step (count-of p) image start 0 c m (w .fold) e next t (m + 1)
-              (rw (keep-hit p (entry-of image e) (rest image next .entries) h) (omega arith));
+              (rw (keep-yes p (entry-of image e) (rest image next .entries) h) (omega arith));
           few = omega (arith, w .few, t .onward .less);
         }
 
     pub count-none : p (entry-of image e) ≡ false → Counted p image start next m
     count-none h =
         record {
-          fold = fold-step (count-of p) image start 0 c m (w .fold) e next t m (rw (keep-miss p (entry-of image e) (rest image next .entries) h));
+          fold = fold-step (count-of p) image start 0 c m (w .fold) e next t m (rw (keep-no p (entry-of image e) (rest image next .entries) h));
           few = omega (arith, w .few, t .onward .less);
         }
 
@@ -97,11 +77,11 @@ abbrev pub doubled-of : ℕ → Unit {0} → Run → Bool
 doubled-of st u r = doubled st (r .entries)
 
 module _ (st : ℕ) {image : List ℕ} {start c : Cursor} (w : Folded (doubled-of st) image start tt c tt) where
-  pub doubled-over : (r : Step) → r ≡ advance image c → Not-record r → false ≡ doubled st (rest image start .entries)
+  pub doubled-over : (r : Item) → r ≡ advance image c → Not-record r → false ≡ doubled st (rest image start .entries)
   unfolding doubled
   doubled-over r e z = fold-end (doubled-of st) image start tt c tt w r e z
 
-  module _ {e : Spot} {next : Cursor} (t : Turned image c e next) where
+  module _ {e : Spot} {next : Cursor} (t : Passes image c e next) where
     pub doubled-found : twice st (rest image next .entries) (entry-of image e) ≡ true → true ≡ doubled st (rest image start .entries)
     unfolding doubled twice
     doubled-found h = fold-stop (doubled-of st) image start tt c tt w e next t true (rw (h, doubled))
@@ -126,27 +106,27 @@ abbrev pub first-of : (Entry → Bool) → (Entry → Bool) → Unit {0} → Run
 first-of p q u r = first-such p (keep q (r .entries))
 
 module _ (p q : Entry → Bool) {image : List ℕ} {start c : Cursor} (w : Folded (first-of p q) image start tt c tt) where
-  pub first-over : (r : Step) → r ≡ advance image c → Not-record r → none ≡ first-such p (keep q (rest image start .entries))
+  pub first-over : (r : Item) → r ≡ advance image c → Not-record r → none ≡ first-such p (keep q (rest image start .entries))
   first-over r e z = fold-end (first-of p q) image start tt c tt w r e z
 
-  module _ {e : Spot} {next : Cursor} (t : Turned image c e next) where
+  module _ {e : Spot} {next : Cursor} (t : Passes image c e next) where
     kept : q (entry-of image e) ≡ true → keep q (entry-of image e ∷ rest image next .entries) ≡ entry-of image e ∷ keep q (rest image next .entries)
-    kept h = keep-hit q (entry-of image e) (rest image next .entries) h
+    kept h = keep-yes q (entry-of image e) (rest image next .entries) h
 
     pub first-found : q (entry-of image e) ≡ true → p (entry-of image e) ≡ true
         → some (entry-of image e) ≡ first-such p (keep q (rest image start .entries))
     first-found h g =
         fold-stop (first-of p q) image start tt c tt w e next t (some (entry-of image e))
-        (ap (first-such p) (kept h) ∙ first-hit p (entry-of image e) (keep q (rest image next .entries)) g)
+        (ap (first-such p) (kept h) ∙ first-yes p (entry-of image e) (keep q (rest image next .entries)) g)
 
     pub first-other : q (entry-of image e) ≡ true → p (entry-of image e) ≡ false → Folded (first-of p q) image start tt next tt
     first-other h g =
         fold-step (first-of p q) image start tt c tt w e next t tt
-        (ap (first-such p) (kept h) ∙ first-miss p (entry-of image e) (keep q (rest image next .entries)) g)
+        (ap (first-such p) (kept h) ∙ first-no p (entry-of image e) (keep q (rest image next .entries)) g)
 
     pub first-skip : q (entry-of image e) ≡ false → Folded (first-of p q) image start tt next tt
     first-skip h =
-        fold-step (first-of p q) image start tt c tt w e next t tt (ap (first-such p) (keep-miss q (entry-of image e) (rest image next .entries) h))
+        fold-step (first-of p q) image start tt c tt w e next t tt (ap (first-such p) (keep-no q (entry-of image e) (rest image next .entries) h))
 
 -- ---- the one with an index, of those kept
 
@@ -156,20 +136,20 @@ nth-of q i r = getElem? (keep q (r .entries)) i
 nth-less : (q : Entry → Bool) (x : Entry) (xs : List Entry) (i : ℕ) → q x ≡ true → (i ≡ 0 → ⊥)
     → getElem? (keep q (x ∷ xs)) i ≡ getElem? (keep q xs) (i - 1)
 nth-less q x xs zero h z = absurd (z refl)
-nth-less q x xs (suc i) h z = let k : suc i - 1 ≡ i = omega arith in rw (keep-hit q x xs h, k)
+nth-less q x xs (suc i) h z = let k : suc i - 1 ≡ i = omega arith in rw (keep-yes q x xs h, k)
 
 module _ (q : Entry → Bool) {image : List ℕ} {start c : Cursor} {i₀ i : ℕ} (w : Folded (nth-of q) image start i₀ c i) where
-  pub nth-over : (r : Step) → r ≡ advance image c → Not-record r → none ≡ getElem? (keep q (rest image start .entries)) i₀
+  pub nth-over : (r : Item) → r ≡ advance image c → Not-record r → none ≡ getElem? (keep q (rest image start .entries)) i₀
   nth-over r e z = fold-end (nth-of q) image start i₀ c i w r e z
 
-  module _ {e : Spot} {next : Cursor} (t : Turned image c e next) where
+  module _ {e : Spot} {next : Cursor} (t : Passes image c e next) where
     pub nth-found : q (entry-of image e) ≡ true → i ≡ 0 → some (entry-of image e) ≡ getElem? (keep q (rest image start .entries)) i₀
     nth-found h z =
         fold-stop (nth-of q) image start i₀ c i w e next t (some (entry-of image e))
-        (rw (keep-hit q (entry-of image e) (rest image next .entries) h, z))
+        (rw (keep-yes q (entry-of image e) (rest image next .entries) h, z))
 
     pub nth-onward : q (entry-of image e) ≡ true → (i ≡ 0 → ⊥) → Folded (nth-of q) image start i₀ next (i - 1)
     nth-onward h z = fold-step (nth-of q) image start i₀ c i w e next t (i - 1) (nth-less q (entry-of image e) (rest image next .entries) i h z)
 
     pub nth-skip : q (entry-of image e) ≡ false → Folded (nth-of q) image start i₀ next i
-    nth-skip h = fold-step (nth-of q) image start i₀ c i w e next t i (rw (keep-miss q (entry-of image e) (rest image next .entries) h))
+    nth-skip h = fold-step (nth-of q) image start i₀ c i w e next t i (rw (keep-no q (entry-of image e) (rest image next .entries) h))

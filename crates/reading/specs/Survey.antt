@@ -7,11 +7,11 @@ use lib.ListN.{length}
 use Rattle.spec.specs.declared.Ending.{Ending}
 use Rattle.spec.specs.Step.{Image}
 use Rattle.spec.specs.Chain.{reading-from}
-use Rattle.reading.specs.declared.Step.{Step}
+use Rattle.reading.specs.declared.Item.{Item}
 use Rattle.reading.specs.declared.Tally.{Tally}
 use Rattle.reading.specs.declared.Pass.{Pass}
 use Rattle.reading.specs.declared.Survey.{Survey}
-use Rattle.reading.specs.Cursor.{Sound}
+use Rattle.reading.specs.Cursor.{Cursor-sound}
 use Rattle.reading.specs.Rest.{rest}
 use Rattle.reading.specs.Bridge.{shown, reading-is}
 use Rattle.reading.specs.Ends.{Closes, rest-closes}
@@ -38,18 +38,18 @@ abbrev pub told : ℕ → ℕ → ℕ → Bool → Ending → Tally → Survey
 told N h tail turned ending t = record { place = record { head = h; tail = tail; turned = turned; length = N }; ending = ending; tally = t }
 
 -- the survey of a pass that ends so
-abbrev pub survey-of : ℕ → ℕ → Step → Tally → Survey
-survey-of N h (Step.Record e c) t = told N h 0 false Ending.Broken t
-survey-of N h (Step.End tail turned) t = told N h tail turned Ending.Tail t
-survey-of N h (Step.TornWrap a) t = told N h 0 true (Ending.TornWrap a) t
-survey-of N h (Step.Broken tail turned) t = told N h tail turned Ending.Broken t
+abbrev pub survey-of : ℕ → ℕ → Item → Tally → Survey
+survey-of N h (Item.Record e c) t = told N h 0 false Ending.Broken t
+survey-of N h (Item.End tail turned) t = told N h tail turned Ending.Tail t
+survey-of N h (Item.TornWrap a) t = told N h 0 true (Ending.TornWrap a) t
+survey-of N h (Item.Broken tail turned) t = told N h tail turned Ending.Broken t
 
-pub first-sound : (image : Image) (h : ℕ) → h ≤ length image → length image ≤ 2 ^ 24 → Sound image (first-cursor image h)
+pub first-sound : (image : Image) (h : ℕ) → h ≤ length image → length image ≤ 2 ^ 24 → Cursor-sound image (first-cursor image h)
 first-sound image h l s = record { ordered = l; inside = omega arith; room = omega arith; small = s }
 
 module _ (image : Image) (h : ℕ) (l : h ≤ length image) (small : length image ≤ 2 ^ 24) (p : Pass)
     (q : p ≡ passed none-yet (rest image (first-cursor image h))) (spots : Spots image (p .tally)) (inside : End-inside image (p .end)) where
-  read-as : (s : Step) → p .end ≡ s → shown image (length image) h (rest image (first-cursor image h) .entries) s ≡ reading-from image h
+  read-as : (s : Item) → p .end ≡ s → shown image (length image) h (rest image (first-cursor image h) .entries) s ≡ reading-from image h
   read-as s d =
       ap (shown image (length image) h (rest image (first-cursor image h) .entries)) (sym d ∙ ap (λ (x : Pass). x .end) q) ∙ reading-is image h l
 
@@ -69,13 +69,13 @@ module _ (image : Image) (h : ℕ) (l : h ≤ length image) (small : length imag
         torn = torn;
       }
 
-  by-end : (s : Step) → p .end ≡ s → End-inside image s → Closes image (first-cursor image h) s
+  by-end : (s : Item) → p .end ≡ s → End-inside image s → Closes image (first-cursor image h) s
       → Seen image h (survey-of (length image) h s (p .tally))
-  by-end (Step.Record x d) f i o = absurd o
-  by-end (Step.End t w) f i o = seen-as t w Ending.Tail i (read-as (Step.End t w) f) (λ z. o z .1) tt
-  by-end (Step.TornWrap t) f i o =
-      seen-as 0 true (Ending.TornWrap t) (omega arith) (read-as (Step.TornWrap t) f) (λ z. absurd (let y : _≡_ {A = ℕ} 0 1 = cc in omega arith)) o
-  by-end (Step.Broken t w) f i o = seen-as t w Ending.Broken i (read-as (Step.Broken t w) f) (λ z. o z .1) tt
+  by-end (Item.Record x d) f i o = absurd o
+  by-end (Item.End t w) f i o = seen-as t w Ending.Tail i (read-as (Item.End t w) f) (λ z. o z .1) tt
+  by-end (Item.TornWrap t) f i o =
+      seen-as 0 true (Ending.TornWrap t) (omega arith) (read-as (Item.TornWrap t) f) (λ z. absurd (let y : _≡_ {A = ℕ} 0 1 = cc in omega arith)) o
+  by-end (Item.Broken t w) f i o = seen-as t w Ending.Broken i (read-as (Item.Broken t w) f) (λ z. o z .1) tt
 
   pub seen : Seen image h (survey-of (length image) h (p .end) (p .tally))
   seen = by-end (p .end) refl inside (rw q (rest-closes image (first-cursor image h)))

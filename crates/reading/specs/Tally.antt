@@ -11,12 +11,12 @@ use Rattle.spec.specs.Record.{Entry, name-of, name-ok}
 use Rattle.spec.specs.Reading.{marked}
 use Rattle.reading.specs.declared.Cursor.{Cursor}
 use Rattle.reading.specs.declared.Spot.{Spot}
-use Rattle.reading.specs.declared.Step.{Step}
+use Rattle.reading.specs.declared.Item.{Item}
 use Rattle.reading.specs.declared.Tally.{Tally}
 use Rattle.reading.specs.declared.Pass.{Pass}
-use Rattle.reading.specs.Cursor.{Sound, left, Inside, unfinished-at}
+use Rattle.reading.specs.Cursor.{Cursor-sound, left, Inside, unfinished-at}
 use Rattle.reading.specs.Rest.{Run, entry-of}
-use Rattle.reading.specs.Fold.{spot-of, spot-is, Whole, Turned, Folded, fold-start, fold-step}
+use Rattle.reading.specs.Fold.{spot-of, spot-is, Whole, Passes, Folded, fold-start, fold-step}
 use Rattle.reading.specs.FileLaws.{is-file}
 
 -- an FC or F8 record with a name has a good one
@@ -27,7 +27,7 @@ abbrev pub nowhere : Spot
 nowhere = record { at = 0; n = 0; d = 0 }
 
 abbrev pub none-yet : Tally
-none-yet = record { records = 0; first = nowhere; second = nowhere; last = nowhere; fine = true; further = false; held = false }
+none-yet = record { records = 0; first = nowhere; second = nowhere; last = nowhere; fine = true; further = false; pending = false }
 
 -- with one record more
 unfoldable pub noted : Tally → Entry → Tally
@@ -39,7 +39,7 @@ noted t e =
       last = spot-of e;
       fine = t .fine && name-fine e;
       further = t .further || (ltb 1 (t .records) && marked e);
-      held = is-unfinished (e .it .status);
+      pending = is-unfinished (e .it .status);
     }
 
 abbrev pub tally : Tally → List Entry → Tally
@@ -58,17 +58,17 @@ pub record Spots (image : List ℕ) (t : Tally) : Type 0 where
   pub last : Whole image (t .last)
 
 -- where the chain ends lies in the image
-abbrev pub End-inside : List ℕ → Step → Type 0
-End-inside image (Step.Record e c) = Unit {0}
-End-inside image (Step.End t w) = t ≤ length image
-End-inside image (Step.TornWrap t) = t ≤ length image
-End-inside image (Step.Broken t w) = t ≤ length image
+abbrev pub End-inside : List ℕ → Item → Type 0
+End-inside image (Item.Record e c) = Unit {0}
+End-inside image (Item.End t w) = t ≤ length image
+End-inside image (Item.TornWrap t) = t ≤ length image
+End-inside image (Item.Broken t w) = t ≤ length image
 
-pub end-inside : (image : List ℕ) (c : Cursor) (r : Step) → Inside image c r → End-inside image r
-end-inside image c (Step.Record e next) h = tt
-end-inside image c (Step.End t w) h = h
-end-inside image c (Step.TornWrap t) h = h
-end-inside image c (Step.Broken t w) h = h
+pub end-inside : (image : List ℕ) (c : Cursor) (r : Item) → Inside image c r → End-inside image r
+end-inside image c (Item.Record e next) h = tt
+end-inside image c (Item.End t w) h = h
+end-inside image c (Item.TornWrap t) h = h
+end-inside image c (Item.Broken t w) h = h
 
 pub record Passing (image : List ℕ) (start c : Cursor) (t : Tally) : Type 0 where
   pub fold : Folded passed image start none-yet c t
@@ -80,7 +80,7 @@ unfolding noted
 noted-records t e = refl
 
 module _ {image : List ℕ} where
-  pub passing-start : {start : Cursor} → Sound image start → 16 ≤ length image → Passing image start start none-yet
+  pub passing-start : {start : Cursor} → Cursor-sound image start → 16 ≤ length image → Passing image start start none-yet
   passing-start {start} s l =
       let w : Whole image nowhere = record { fits = omega arith } in
       record { fold = fold-start passed image start none-yet s; spots = record { first = w; second = w; last = w }; few = omega arith }
@@ -99,7 +99,7 @@ module _ {image : List ℕ} where
         last = v;
       }
 
-  pub passing-step : {start c next : Cursor} {e : Spot} {t u : Tally} → Passing image start c t → Turned image c e next
+  pub passing-step : {start c next : Cursor} {e : Spot} {t u : Tally} → Passing image start c t → Passes image c e next
       → u ≡ noted t (entry-of image e) → Passing image start next u
   passing-step {start} {c} {next} {e} {t} {u} p w q =
       rw q
@@ -110,10 +110,10 @@ module _ {image : List ℕ} where
       }
 
   -- the tally as the code makes it
-  pub noted-is : (t : Tally) (e : Spot) (one two : Spot) (fine further held : Bool) → Whole image e → one ≡ cond (eqb (t .records) 0) e (t .first)
+  pub noted-is : (t : Tally) (e : Spot) (one two : Spot) (fine further pending : Bool) → Whole image e → one ≡ cond (eqb (t .records) 0) e (t .first)
       → two ≡ cond (leb (t .records) 1) e (t .second)
       → fine ≡ (t .fine && name-fine (entry-of image e)) → further ≡ (t .further || (ltb 1 (t .records) && marked (entry-of image e)))
-      → held ≡ unfinished-at image (e .at)
+      → pending ≡ unfinished-at image (e .at)
       → record {
         records = t .records + 1;
         first = one;
@@ -121,7 +121,7 @@ module _ {image : List ℕ} where
         last = e;
         fine = fine;
         further = further;
-        held = held;
+        pending = pending;
       } ≡ noted t (entry-of image e)
   unfolding noted
-  noted-is t e one two fine further held w a b c d h = rw (a, b, c, d, h, spot-is image e w)
+  noted-is t e one two fine further pending w a b c d h = rw (a, b, c, d, h, spot-is image e w)

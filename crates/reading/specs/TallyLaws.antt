@@ -8,7 +8,7 @@ use mathlib.Core.List.{List, [], _∷_}
 use lib.ListN.{length}
 use borrow.Author.Tests.{ne-eqb, lt-leb, lt-ltb}
 use Rattle.spec.specs.Basics.{any, all, Each}
-use Rattle.spec.specs.Bytes.{is-unfinished, is-clean}
+use Rattle.spec.specs.Bytes.{is-clean}
 use Rattle.spec.specs.Record.{Entry}
 use Rattle.spec.specs.Reading.{marked, second-ok, marks-ok, head-clean}
 use Rattle.spec.specs.Mount.{head-low}
@@ -18,6 +18,7 @@ use Rattle.reading.specs.Rest.{entry-of}
 use Rattle.reading.specs.Fold.{spot-of}
 use Rattle.reading.specs.Faithful.{Stands}
 use Rattle.reading.specs.Tally.{name-fine, none-yet, noted, tally}
+use Rattle.laws.specs.Settled.{last-pending}
 
 -- ---- for any tally so far
 
@@ -139,12 +140,7 @@ marks-are image (x ∷ (y ∷ es)) t q f h =
     let c : t .further ≡ any marked es = ap (λ (u : Tally). u .further) q ∙ further-is x y es in
     ap₂ (λ (v : Bool) (w : Bool). not v && w) c (ap₂ (second-ok all) a b) ∙ and-swap (not (any marked es)) (second-ok all x y)
 
--- the last record
-abbrev pub last-held : Entry → List Entry → Bool
-last-held e [] = is-unfinished (e .it .status)
-last-held e (f ∷ es) = last-held f es
-
-pub held-is : (t : Tally) (e : Entry) (es : List Entry) → tally t (e ∷ es) .held ≡ last-held e es
+pub pending-is : (t : Tally) (e : Entry) (es : List Entry) → tally t (e ∷ es) .pending ≡ last-pending e es
 unfolding noted
-held-is t e [] = refl
-held-is t e (f ∷ es) = held-is (noted t e) f es
+pending-is t e [] = refl
+pending-is t e (f ∷ es) = pending-is (noted t e) f es

@@ -1,7 +1,7 @@
 // The cursor over the chain: the one place that knows of markers, of the turn and of last things.
 use crate::Cursor;
+use crate::Item;
 use crate::Spot;
-use crate::Step;
 use spec::Next;
 use spec::Status;
 ghost use mathlib.Core.Path.{_≡_};
@@ -13,7 +13,7 @@ ghost use Rattle.spec.specs.Record.{status-of};
 ghost use Rattle.spec.specs.Chain.{allowed};
 ghost use Rattle.record.specs.Within.{Within};
 ghost use Rattle.spec.specs.declared.Next.{Next};
-ghost use Rattle.reading.specs.Cursor.{Sound, Inside, start, look, goes-on, turn, torn-end, settle, advance};
+ghost use Rattle.reading.specs.Cursor.{Cursor-sound, Inside, start, look, goes-on, turn, torn-end, settle, advance};
 
 // The cursor at the head h, low being the start of its sector.
 pub fn start_at(h: usize, low: usize, length: usize) -> Cursor
@@ -24,15 +24,15 @@ pub fn start_at(h: usize, low: usize, length: usize) -> Cursor
         end: length,
         room: low,
         turned: false,
-        held: false,
+        pending: false,
     }
 }
 
 // Behind an unfinished record only an end may stand.
-fn allowed(held: bool, x: Next) -> Next
-    ensures { λ r. ⌜ r ≡ allowed held x ⌝ }
+fn allowed(pending: bool, x: Next) -> Next
+    ensures { λ r. ⌜ r ≡ allowed pending x ⌝ }
 {
-    if held {
+    if pending {
         return match x {
             Next::Record(_, _) => Next::Bad,
             Next::Wrap => Next::Bad,
@@ -46,12 +46,12 @@ fn allowed(held: bool, x: Next) -> Next
 }
 
 fn look(image: &[u8], c: Cursor) -> Next
-    requires { ⌜ Sound (now image) c ⌝ }
+    requires { ⌜ Cursor-sound (now image) c ⌝ }
     ensures { λ r. ⌜ (r ≡ look (now (image .entry)) c) × Within r (c .end - c .at) ⌝ }
 {
     let at = c.at;
     let end = c.end;
-    allowed(c.held, record::next_of(&image[at..end]))
+    allowed(c.pending, record::next_of(&image[at..end]))
 }
 
 // After a marker, or at the end, the chain goes on at 0 if there is room.
@@ -69,25 +69,25 @@ fn goes_on(room: usize, x: Next) -> bool
 }
 
 fn turn(c: Cursor) -> Cursor
-    ensures { λ r. ⌜ r ≡ turn (c .room) (c .held) ⌝ }
+    ensures { λ r. ⌜ r ≡ turn (c .room) (c .pending) ⌝ }
 {
     Cursor {
         at: 0,
         end: c.room,
         room: 0,
         turned: true,
-        held: c.held,
+        pending: c.pending,
     }
 }
 
 // A torn marker is legal only where the chain may still turn.
-fn torn_end(c: Cursor) -> Step
+fn torn_end(c: Cursor) -> Item
     ensures { λ r. ⌜ r ≡ torn-end (c .room) (c .turned) (c .at) ⌝ }
 {
     if 0 < c.room {
-        return Step::TornWrap(c.at);
+        return Item::TornWrap(c.at);
     }
-    Step::Broken(c.at, c.turned)
+    Item::Broken(c.at, c.turned)
 }
 
 // Whether the record at this address is torn or reserved.
@@ -103,13 +103,13 @@ pub fn unfinished(image: &[u8], at: usize) -> bool
 }
 
 // The record at c, with the cursor past it.
-fn record_at(image: &[u8], c: Cursor, n: usize, d: usize) -> Step
-    requires { ⌜ Sound (now image) c × Within (Next.Record n d) (c .end - c .at) ⌝ }
+fn record_at(image: &[u8], c: Cursor, n: usize, d: usize) -> Item
+    requires { ⌜ Cursor-sound (now image) c × Within (Next.Record n d) (c .end - c .at) ⌝ }
     ensures { λ r. ⌜ r ≡ settle (now (image .entry)) c (Next.Record n d) ⌝ }
 {
-    let held = unfinished(image, c.at);
+    let pending = unfinished(image, c.at);
     let s = record::size(n, d);
-    Step::Record(
+    Item::Record(
         Spot {
             at: c.at,
             n: n,
@@ -120,28 +120,28 @@ fn record_at(image: &[u8], c: Cursor, n: usize, d: usize) -> Step
             end: c.end,
             room: c.room,
             turned: c.turned,
-            held: held,
+            pending: pending,
         },
     )
 }
 
-fn settle(image: &[u8], c: Cursor, x: Next) -> Step
-    requires { ⌜ Sound (now image) c × Within x (c .end - c .at) ⌝ }
+fn settle(image: &[u8], c: Cursor, x: Next) -> Item
+    requires { ⌜ Cursor-sound (now image) c × Within x (c .end - c .at) ⌝ }
     ensures { λ r. ⌜ r ≡ settle (now (image .entry)) c x ⌝ }
 {
     match x {
         Next::Record(n, d) => record_at(image, c, n, d),
-        Next::Wrap => Step::Broken(c.at, c.turned),
+        Next::Wrap => Item::Broken(c.at, c.turned),
         Next::TornWrap => torn_end(c),
-        Next::Clear => Step::End(c.at, c.turned),
-        Next::Over => Step::End(c.at, c.turned),
-        Next::Bad => Step::Broken(c.at, c.turned),
+        Next::Clear => Item::End(c.at, c.turned),
+        Next::Over => Item::End(c.at, c.turned),
+        Next::Bad => Item::Broken(c.at, c.turned),
     }
 }
 
 // What stands at c, the turn made where it is due.
-pub fn advance(image: &[u8], c: Cursor) -> Step
-    requires { ⌜ Sound (now image) c ⌝ }
+pub fn advance(image: &[u8], c: Cursor) -> Item
+    requires { ⌜ Cursor-sound (now image) c ⌝ }
     ensures { λ r. ⌜ (r ≡ advance (now (image .entry)) c) × Inside (now (image .entry)) c r ⌝ }
 {
     let x = look(image, c);

@@ -1,15 +1,15 @@
-// Files: which records are live, which names are held twice, and the file of a name or of an index.
+// Files: which records are live, which names are pending twice, and the file of a name or of an index.
 use crate::Cursor;
 use crate::Found;
+use crate::Item;
 use crate::Spot;
-use crate::Step;
 use crate::chain::advance;
 use spec::Status;
 ghost use mathlib.Core.Path.{_≡_};
 ghost use lib.ListN.{length, getElem?};
 ghost use Rattle.spec.specs.Basics.{same, any, keep, first-such};
 ghost use Rattle.spec.specs.Files.{same-name, named, named-as, has-named, live, superseded, files, has-name, doubled};
-ghost use Rattle.reading.specs.Cursor.{Sound};
+ghost use Rattle.reading.specs.Cursor.{Cursor-sound};
 ghost use Rattle.reading.specs.Rest.{rest, entry-of};
 ghost use Rattle.reading.specs.Fold.{Whole};
 ghost use Rattle.reading.specs.FileLaws.{twice, is-file};
@@ -77,13 +77,13 @@ fn named_as(image: &[u8], status: Status, e: Spot, f: Spot) -> bool
 
 // Whether a record from the cursor on has this status and e's name.
 pub fn has_named(image: &[u8], start: Cursor, status: Status, e: Spot) -> bool
-    requires { ⌜ Sound (now image) start × Whole (now image) e ⌝ }
+    requires { ⌜ Cursor-sound (now image) start × Whole (now image) e ⌝ }
     ensures { λ r. ⌜ r ≡ has-named (status .byte) (rest (now (image .entry)) start .entries) (entry-of (now (image .entry)) e) ⌝ }
 {
     let mut c = start;
     loop {
         let s = advance(image, c);
-        let Step::Record(f, next) = s else {
+        let Item::Record(f, next) = s else {
             return false;
         };
         if named_as(image, status, e, f) {
@@ -95,7 +95,7 @@ pub fn has_named(image: &[u8], start: Cursor, status: Status, e: Spot) -> bool
 
 // Whether the record is a live file of the chain from start on.
 pub fn is_live(image: &[u8], start: Cursor, e: Spot) -> bool
-    requires { ⌜ Sound (now image) start × Whole (now image) e ⌝ }
+    requires { ⌜ Cursor-sound (now image) start × Whole (now image) e ⌝ }
     ensures { λ r. ⌜ r ≡ live (rest (now (image .entry)) start .entries) (entry-of (now (image .entry)) e) ⌝ }
 {
     if named(image, Status::COMMITTED, e) {
@@ -109,14 +109,14 @@ pub fn is_live(image: &[u8], start: Cursor, e: Spot) -> bool
 
 // The number of live files.
 pub fn count_files(image: &[u8], start: Cursor) -> usize
-    requires { ⌜ Sound (now image) start ⌝ }
+    requires { ⌜ Cursor-sound (now image) start ⌝ }
     ensures { λ r. ⌜ r ≡ length (files (rest (now (image .entry)) start .entries)) ⌝ }
 {
     let mut c = start;
     let mut count = 0;
     loop {
         let s = advance(image, c);
-        let Step::Record(e, next) = s else {
+        let Item::Record(e, next) = s else {
             return count;
         };
         if is_live(image, start, e) {
@@ -128,7 +128,7 @@ pub fn count_files(image: &[u8], start: Cursor) -> usize
 
 // The record has this status and a name, and so has a later one of the same name.
 fn again(image: &[u8], next: Cursor, status: Status, e: Spot) -> bool
-    requires { ⌜ Sound (now image) next × Whole (now image) e ⌝ }
+    requires { ⌜ Cursor-sound (now image) next × Whole (now image) e ⌝ }
     ensures { λ r. ⌜ r ≡ twice (status .byte) (rest (now (image .entry)) next .entries) (entry-of (now (image .entry)) e) ⌝ }
 {
     if named(image, status, e) {
@@ -139,13 +139,13 @@ fn again(image: &[u8], next: Cursor, status: Status, e: Spot) -> bool
 
 // Whether two records of this status have one name.
 pub fn doubled(image: &[u8], start: Cursor, status: Status) -> bool
-    requires { ⌜ Sound (now image) start ⌝ }
+    requires { ⌜ Cursor-sound (now image) start ⌝ }
     ensures { λ r. ⌜ r ≡ doubled (status .byte) (rest (now (image .entry)) start .entries) ⌝ }
 {
     let mut c = start;
     loop {
         let s = advance(image, c);
-        let Step::Record(e, next) = s else {
+        let Item::Record(e, next) = s else {
             return false;
         };
         if again(image, next, status, e) {
@@ -157,7 +157,7 @@ pub fn doubled(image: &[u8], start: Cursor, status: Status) -> bool
 
 // An F8 record that has an FC record of its name.
 pub fn is_superseded(image: &[u8], start: Cursor, e: Spot) -> bool
-    requires { ⌜ Sound (now image) start × Whole (now image) e ⌝ }
+    requires { ⌜ Cursor-sound (now image) start × Whole (now image) e ⌝ }
     ensures { λ r. ⌜ r ≡ superseded (rest (now (image .entry)) start .entries) (entry-of (now (image .entry)) e) ⌝ }
 {
     if named(image, Status::MIGRATING, e) {
@@ -168,13 +168,13 @@ pub fn is_superseded(image: &[u8], start: Cursor, e: Spot) -> bool
 
 // Whether the chain has such a record.
 pub fn any_superseded(image: &[u8], start: Cursor) -> bool
-    requires { ⌜ Sound (now image) start ⌝ }
+    requires { ⌜ Cursor-sound (now image) start ⌝ }
     ensures { λ r. ⌜ r ≡ any (superseded (rest (now (image .entry)) start .entries)) (rest (now (image .entry)) start .entries) ⌝ }
 {
     let mut c = start;
     loop {
         let s = advance(image, c);
-        let Step::Record(e, next) = s else {
+        let Item::Record(e, next) = s else {
             return false;
         };
         if is_superseded(image, start, e) {
@@ -197,13 +197,15 @@ pub fn is_file(image: &[u8], e: Spot) -> bool
 
 // The file of this name, where nothing is superseded.
 pub fn file_named(image: &[u8], start: Cursor, name: &[u8]) -> Found
-    requires { ⌜ Sound (now image) start ⌝ }
-    ensures { λ r. ⌜ (found-in (now (image .entry)) r ≡ first-such (has-name (now (name .entry))) (keep is-file (rest (now (image .entry)) start .entries))) × Found-whole (now (image .entry)) r ⌝ }
+    requires { ⌜ Cursor-sound (now image) start ⌝ }
+    ensures { λ r. ⌜ (found-in (now (image .entry)) r
+        ≡ first-such (has-name (now (name .entry))) (keep is-file (rest (now (image .entry)) start .entries)))
+        × Found-whole (now (image .entry)) r ⌝ }
 {
     let mut c = start;
     loop {
         let s = advance(image, c);
-        let Step::Record(e, next) = s else {
+        let Item::Record(e, next) = s else {
             return Found::Nothing;
         };
         if is_file(image, e) {
@@ -217,14 +219,15 @@ pub fn file_named(image: &[u8], start: Cursor, name: &[u8]) -> Found
 
 // The file with this index, where nothing is superseded.
 pub fn file_indexed(image: &[u8], start: Cursor, index: usize) -> Found
-    requires { ⌜ Sound (now image) start ⌝ }
-    ensures { λ r. ⌜ (found-in (now (image .entry)) r ≡ getElem? (keep is-file (rest (now (image .entry)) start .entries)) index) × Found-whole (now (image .entry)) r ⌝ }
+    requires { ⌜ Cursor-sound (now image) start ⌝ }
+    ensures { λ r. ⌜ (found-in (now (image .entry)) r ≡ getElem? (keep is-file (rest (now (image .entry)) start .entries)) index)
+        × Found-whole (now (image .entry)) r ⌝ }
 {
     let mut c = start;
     let mut left = index;
     loop {
         let s = advance(image, c);
-        let Step::Record(e, next) = s else {
+        let Item::Record(e, next) = s else {
             return Found::Nothing;
         };
         if is_file(image, e) {

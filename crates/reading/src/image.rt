@@ -1,8 +1,8 @@
 // The whole reading of an image: the survey from a head on, which repairs and moves go by, and the judgement of its rules.
 use crate::Cursor;
 use crate::Headed;
+use crate::Item;
 use crate::Read;
-use crate::Step;
 use crate::Survey;
 use crate::Tally;
 use crate::chain::start_at;
@@ -12,13 +12,14 @@ use crate::rules::settled;
 use crate::scan::pass;
 use spec::Ending;
 use spec::Place;
+use spec::Refusal;
 use spec::floor;
 ghost use mathlib.Core.Path.{_≡_};
 ghost use Prim.Native.Nat.{_≤_, _^_};
 ghost use lib.ListN.{length};
 ghost use Rattle.spec.specs.Chain.{reading-from};
 ghost use Rattle.spec.specs.Reading.{judged, reading};
-ghost use Rattle.spec.specs.Answers.{settled-reading};
+ghost use Rattle.spec.specs.Door.{settled-reading};
 ghost use Rattle.reading.specs.Read.{first-cursor, answered, Told, Quiet};
 ghost use Rattle.reading.specs.Survey.{Seen, told, survey-of};
 
@@ -45,14 +46,14 @@ fn told(n: usize, h: usize, tail: usize, turned: bool, ending: Ending, tally: Ta
 }
 
 // The chain from h on ends so.
-fn survey_of(n: usize, h: usize, end: Step, t: Tally) -> Survey
+fn survey_of(n: usize, h: usize, end: Item, t: Tally) -> Survey
     ensures { λ r. ⌜ r ≡ survey-of n h end t ⌝ }
 {
     match end {
-        Step::Record(_, _) => told(n, h, 0, false, Ending::Broken, t),
-        Step::End(tail, turned) => told(n, h, tail, turned, Ending::Tail, t),
-        Step::TornWrap(at) => told(n, h, 0, true, Ending::TornWrap(at), t),
-        Step::Broken(tail, turned) => told(n, h, tail, turned, Ending::Broken, t),
+        Item::Record(_, _) => told(n, h, 0, false, Ending::Broken, t),
+        Item::End(tail, turned) => told(n, h, tail, turned, Ending::Tail, t),
+        Item::TornWrap(at) => told(n, h, 0, true, Ending::TornWrap(at), t),
+        Item::Broken(tail, turned) => told(n, h, tail, turned, Ending::Broken, t),
     }
 }
 
@@ -70,13 +71,14 @@ pub fn survey(image: &[u8], h: usize) -> Survey
 // What is read from the head h on.
 pub fn read_from(image: &[u8], h: usize) -> Read
     requires { ⌜ (h ≤ length (now image)) × (16 ≤ length (now image)) × (length (now image) ≤ 2 ^ 24) ⌝ }
-    ensures { λ r. ⌜ (answered (now (image .entry)) r ≡ judged (now (image .entry)) (reading-from (now (image .entry)) h)) × Told (now (image .entry)) r ⌝ }
+    ensures { λ r. ⌜ (answered (now (image .entry)) r ≡ judged (now (image .entry)) (reading-from (now (image .entry)) h))
+        × Told (now (image .entry)) r ⌝ }
 {
     let s = survey(image, h);
     if legal(image, first_cursor(image, h), s) {
         return Read::Good(s);
     }
-    Read::Refused(5)
+    Read::Refused(Refusal { number: 5 })
 }
 
 // What an image reads as.
@@ -87,14 +89,15 @@ pub fn read(image: &[u8]) -> Read
     let x = head(image);
     match x {
         Headed::At(h) => read_from(image, h),
-        Headed::Refused(n) => Read::Refused(n),
+        Headed::Refused(n) => Read::Refused(Refusal { number: n }),
     }
 }
 
 // What a settled image reads as, with nothing superseded; 16 for one that is not settled.
 pub fn read_settled(image: &[u8]) -> Read
     requires { ⌜ (16 ≤ length (now image)) × (length (now image) ≤ 2 ^ 24) ⌝ }
-    ensures { λ r. ⌜ (answered (now (image .entry)) r ≡ settled-reading (now (image .entry))) × Told (now (image .entry)) r × Quiet (now (image .entry)) r ⌝ }
+    ensures { λ r. ⌜ (answered (now (image .entry)) r ≡ settled-reading (now (image .entry))) × Told (now (image .entry)) r
+        × Quiet (now (image .entry)) r ⌝ }
 {
     let x = read(image);
     let Read::Good(s) = x else {
@@ -104,5 +107,5 @@ pub fn read_settled(image: &[u8]) -> Read
     if settled(image, first_cursor(image, place.head), s) {
         return x;
     }
-    Read::Refused(16)
+    Read::Refused(Refusal { number: 16 })
 }

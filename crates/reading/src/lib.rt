@@ -1,5 +1,5 @@
 // Reading an image: its head, its chain, its files, whether it breaks a rule, whether it is settled, whether a put has room.
-// Everything here only looks, and nothing passes over data bytes but the check of the free run.
+// Everything here only looks. Nothing passes over data bytes but the search for the head and the check of the free run.
 pub mod chain;
 pub mod files;
 pub mod free;
@@ -11,6 +11,7 @@ pub mod scan;
 
 use spec::Ending;
 use spec::Place;
+use spec::Refusal;
 
 // The head's address, or the refusal's number.
 pub enum Headed {
@@ -25,7 +26,7 @@ pub struct Cursor {
     pub end: usize,
     pub room: usize,
     pub turned: bool,
-    pub held: bool,
+    pub pending: bool,
 }
 
 // Where a record stands, with its n name bytes and d data bytes.
@@ -36,7 +37,7 @@ pub struct Spot {
 }
 
 // What stands at a cursor: a record, with the cursor past it; or how the chain ends, with the address and whether it had turned.
-pub enum Step {
+pub enum Item {
     Record(Spot, Cursor),
     End(usize, bool),
     TornWrap(usize),
@@ -59,13 +60,13 @@ pub struct Tally {
     pub last: Spot,
     pub fine: bool,
     pub further: bool,
-    pub held: bool,
+    pub pending: bool,
 }
 
 // The tally of a whole chain, and how the chain ends.
 pub struct Pass {
     pub tally: Tally,
-    pub end: Step,
+    pub end: Item,
 }
 
 // All that the calls go by: head, tail and turn; how the chain ends; the tally.
@@ -75,8 +76,8 @@ pub struct Survey {
     pub tally: Tally,
 }
 
-// What an image reads as, or the refusal's number.
+// What an image reads as, or the refusal.
 pub enum Read {
     Good(Survey),
-    Refused(u32),
+    Refused(Refusal),
 }

@@ -1,8 +1,8 @@
 // Put's room rule, in one walk over the chain: the new record, the files of the head's sector and two of the largest, placed one after
 // another behind the chain.
 use crate::Cursor;
+use crate::Item;
 use crate::Spot;
-use crate::Step;
 use crate::Survey;
 use crate::chain::advance;
 use crate::files::has_name;
@@ -18,7 +18,7 @@ ghost use Prim.Native.Nat.{_<_, _≤_, _^_, max};
 ghost use lib.ListN.{length};
 ghost use Rattle.spec.specs.Place.{address, in-head-sector, joining};
 ghost use Rattle.spec.specs.Placed.{placed};
-ghost use Rattle.reading.specs.Cursor.{Sound};
+ghost use Rattle.reading.specs.Cursor.{Cursor-sound};
 ghost use Rattle.reading.specs.Rest.{rest, entry-of};
 ghost use Rattle.reading.specs.Fold.{Whole};
 ghost use Rattle.reading.specs.Read.{reading-of};
@@ -93,14 +93,14 @@ fn stow_record(image: &[u8], place: Place, e: Spot, name: &[u8], stowed: Stowed)
 
 // All files that stay, in the order of the chain.
 fn stow_chain(image: &[u8], start: Cursor, place: Place, name: &[u8], first: Stowed) -> Stowed
-    requires { ⌜ Sound (now image) start ⌝ }
+    requires { ⌜ Cursor-sound (now image) start ⌝ }
     ensures { λ r. ⌜ r ≡ stow-files place first (others (now (name .entry)) (rest (now (image .entry)) start .entries)) ⌝ }
 {
     let mut c = start;
     let mut stowed = first;
     loop {
         let s = advance(image, c);
-        let Step::Record(e, next) = s else {
+        let Item::Record(e, next) = s else {
             return stowed;
         };
         stowed = stow_record(image, place, e, name, stowed);

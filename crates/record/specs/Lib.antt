@@ -1,4 +1,3 @@
 pub mod Within
-pub mod Suffix
+pub mod Flags
 pub mod NameLaws
-pub mod NextLaws

@@ -2,35 +2,35 @@
 use Prim.Native.Nat.{ℕ, zero, suc, _+_, _-_, _≤_, _<_}
 use native.Mathlib.Omega.{arith}
 use mathlib.Core.Path.{_≡_, refl}
-use mathlib.Core.Bool.{Bool, true, false, not}
+use mathlib.Core.Bool.{Bool, true, false}
 use mathlib.Core.List.{List, [], _∷_}
 use lib.ListN.{length, drop, getD, drop-of-length-le}
 use lib.Dec.{eqb}
-use borrow.Author.Tests.{le-leb, lt-leb}
 use Rattle.spec.specs.Basics.{all}
-use Rattle.spec.specs.Bytes.{ends-name, is-printable, is-slash}
-use Rattle.spec.specs.Record.{name-length, ends-in-slash, name-ok}
-use Rattle.record.specs.Suffix.{drop-next}
+use Rattle.spec.specs.Bytes.{ends-name, is-slash}
+use Rattle.spec.specs.Record.{name-length, ends-in-slash}
+use Rattle.laws.specs.Parts.{drop-next}
 
 -- ---- the end of a name, with n bytes of the window left: past the part, at an end, at another byte, past the window
 
-pub name-end : (n : ℕ) (held : Bool) (s : List ℕ) (i : ℕ) → length s ≤ i → name-length n held (drop i s) ≡ n
+pub name-end : (n : ℕ) (reserved : Bool) (s : List ℕ) (i : ℕ) → length s ≤ i → name-length n reserved (drop i s) ≡ n
 unfolding name-length
-name-end zero held s i h = refl
-name-end (suc k) held s i h = rw (drop-of-length-le s h)
+name-end zero reserved s i h = refl
+name-end (suc k) reserved s i h = rw (drop-of-length-le s h)
 
-module _ (n k : ℕ) (held : Bool) (s : List ℕ) (i : ℕ) (e : n ≡ suc k) (h : i < length s) where
-  pub name-hit : ends-name held (getD s i 0) ≡ true → name-length n held (drop i s) ≡ 0
+module _ (n k : ℕ) (reserved : Bool) (s : List ℕ) (i : ℕ) (e : n ≡ suc k) (h : i < length s) where
+  pub name-hit : ends-name reserved (getD s i 0) ≡ true → name-length n reserved (drop i s) ≡ 0
   unfolding name-length
   name-hit q = rw (e, drop-next s i h, q, name-length)
 
-  pub name-miss : ends-name held (getD s i 0) ≡ false → name-length n held (drop i s) ≡ suc (name-length k held (drop (i + 1) s))
+  pub name-miss : ends-name reserved (getD s i 0) ≡ false
+      → name-length n reserved (drop i s) ≡ suc (name-length k reserved (drop (i + 1) s))
   unfolding name-length
   name-miss q = rw (e, drop-next s i h, q, name-length)
 
-pub name-out : (n : ℕ) (held : Bool) (s : List ℕ) → n ≡ 0 → name-length n held s ≡ 0
+pub name-out : (n : ℕ) (reserved : Bool) (s : List ℕ) → n ≡ 0 → name-length n reserved s ≡ 0
 unfolding name-length
-name-out n held s e = rw e
+name-out n reserved s e = rw e
 
 -- ---- a test of every byte
 
@@ -53,23 +53,3 @@ slash-last (b ∷ []) h = refl
 slash-last (b ∷ (c ∷ s)) h =
     let e : suc (suc (length s)) - 1 ≡ suc (suc (length s) - 1) = omega arith in
     rw e (slash-last (c ∷ s) (omega arith))
-
--- ---- the whole check, as the code goes through it
-
-module _ (n : List ℕ) where
-  pub ok-empty : length n < 1 → false ≡ name-ok n
-  unfolding name-ok
-  ok-empty h = rw (name-ok, lt-leb 1 (length n) h)
-
-  pub ok-long : 1 ≤ length n → 63 < length n → false ≡ name-ok n
-  unfolding name-ok
-  ok-long l h = rw (name-ok, le-leb 1 (length n) l, lt-leb (length n) 63 h)
-
-  module _ (l : 1 ≤ length n) (h : length n ≤ 63) where
-    pub ok-byte : all is-printable n ≡ false → false ≡ name-ok n
-    unfolding name-ok
-    ok-byte p = rw (name-ok, le-leb 1 (length n) l, le-leb (length n) 63 h, p)
-
-    pub ok-slash : all is-printable n ≡ true → (t : Bool) → t ≡ ends-in-slash n → not t ≡ name-ok n
-    unfolding name-ok
-    ok-slash p t q = rw (name-ok, le-leb 1 (length n) l, le-leb (length n) 63 h, p, q)

@@ -1,5 +1,8 @@
 -- A record that was read lies within the l bytes it was read from.
 use Prim.Native.Nat.{ℕ, _≤_, _<_, _^_}
+use mathlib.Core.Path.{_≡_}
+use mathlib.Core.List.{List}
+use lib.ListN.{length}
 use Rattle.spec.specs.declared.Next.{Next}
 use Rattle.spec.specs.Record.{size-of}
 
@@ -10,3 +13,7 @@ Within Next.TornWrap l = Unit {0}
 Within Next.Clear l = Unit {0}
 Within Next.Over l = Unit {0}
 Within Next.Bad l = Unit {0}
+
+-- r is what the rule `what` reads at the front of s
+abbrev pub At-front : (List ℕ → Next) → List ℕ → Next → Type 0
+At-front what s r = (r ≡ what s) × Within r (length s)

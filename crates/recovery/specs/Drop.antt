@@ -9,7 +9,7 @@ use lib.ListN.{length, set, getD}
 use lib.Seq.{take-nil, getD-drop, getD-set-same}
 use lib.Dec.{eqb}
 use borrow.Author.Tests.{eqb-true, ne-eqb}
-use Rattle.spec.specs.Step.{Image, program, run}
+use Rattle.spec.specs.Step.{Image, Step, program, run}
 use Rattle.spec.specs.Basics.{any, keep, empty}
 use Rattle.spec.specs.Bytes.{is-unfinished, is-erased, is-reserved}
 use Rattle.spec.specs.Record.{Entry, name-of, size-of}
@@ -20,8 +20,8 @@ use Rattle.flash.specs.declared.Meter.{Meter}
 use Rattle.flash.specs.Did.{Did, did-one}
 use Rattle.reading.specs.declared.Cursor.{Cursor}
 use Rattle.reading.specs.declared.Spot.{Spot}
-use Rattle.reading.specs.declared.Step.{Step as Chain-step}
-use Rattle.reading.specs.Cursor.{Sound, turn, unfinished-at, advance}
+use Rattle.reading.specs.declared.Item.{Item}
+use Rattle.reading.specs.Cursor.{Cursor-sound, turn, unfinished-at, advance}
 use Rattle.reading.specs.Rest.{Run, entry-of, followed, rest, rest-step}
 use Rattle.reading.specs.Fold.{Not-record, rest-done}
 use Rattle.reading.specs.Bridge.{shown, reading-is}
@@ -29,8 +29,13 @@ use Rattle.reading.specs.Read.{first-cursor}
 use Rattle.flash.specs.Toward.{Toward, toward-more, toward-end}
 use Rattle.recovery.specs.Trail.{way, stood-fits, Tidy, Ahead, tidy-next, window-kept, look-dropped, here-again, there-again}
 use Rattle.recovery.specs.Path.{Path, here, path-snoc, rest-path, path-tidy, path-kept, Passed, rest-kept}
+use Rattle.laws.specs.Tests.{and-left}
 
 -- ---- the steps of one record, and of the others
+
+-- of the entries xs those that are superseded among es
+abbrev pub dropped : List Entry → List Entry → List Step
+dropped es xs = map delete-step (keep (superseded es) xs)
 
 abbrev pick : Bool → Entry → List Entry → List Entry
 pick t e es = elim t [ true ↦ e ∷ es | false ↦ es ]
@@ -44,10 +49,6 @@ any-replace : (p : Entry → Bool) (before : List Entry) (e f : Entry) (es : Lis
 any-replace p [] e f es h = ap (λ (t : Bool). elim t [ true ↦ true | false ↦ any p es ]) h
 any-replace p (x ∷ before) e f es h = ap (λ (b : Bool). elim (p x) [ true ↦ true | false ↦ b ]) (any-replace p before e f es h)
 
-and-first : (a b : Bool) → (a && b) ≡ true → a ≡ true
-and-first true b h = refl
-and-first false b h = h
-
 unnamed : (st : ℕ) (e : Entry) → (e .it .status ≡ st → ⊥) → named st e ≡ false
 unfolding named
 unnamed st e h = ap (λ (t : Bool). t && not (empty (name-of e))) (ne-eqb (e .it .status) st h)
@@ -56,9 +57,9 @@ unnamed st e h = ap (λ (t : Bool). t && not (empty (name-of e))) (ne-eqb (e .it
 old-status : (t : Image) (es : List Entry) (e : Spot) → superseded es (entry-of t e) ≡ true → getD t (e .at + 2) 0 ≡ 0xF8
 unfolding superseded named
 old-status t es e h =
-    let f : named 0xF8 (entry-of t e) ≡ true = and-first (named 0xF8 (entry-of t e)) (has-named 0xFC es (entry-of t e)) h in
+    let f : named 0xF8 (entry-of t e) ≡ true = and-left (named 0xF8 (entry-of t e)) (has-named 0xFC es (entry-of t e)) h in
     sym (getD-drop (e .at) t 2 0)
-    ∙ eqb-true (entry-of t e .it .status) 0xF8 (and-first (eqb (entry-of t e .it .status) 0xF8) (not (empty (name-of (entry-of t e)))) f)
+    ∙ eqb-true (entry-of t e .it .status) 0xF8 (and-left (eqb (entry-of t e .it .status) 0xF8) (not (empty (name-of (entry-of t e)))) f)
 
 -- ---- what a step of the loop needs of the image u that it leaves
 
@@ -67,12 +68,12 @@ pub record Still (t u : Image) (start : Cursor) (before : List Entry) (e : Spot)
   pub named : (x : Entry) → has-named 0xFC (rest u start .entries) x ≡ has-named 0xFC (rest t start .entries) x
   pub path : Path u start (before ++ (entry-of u e ∷ [])) behind
 
-pub rest-here : (image : Image) (c : Cursor) (e : Spot) (behind : Cursor) → advance image c ≡ Chain-step.Record e behind
+pub rest-here : (image : Image) (c : Cursor) (e : Spot) (behind : Cursor) → advance image c ≡ Item.Record e behind
     → rest image c .entries ≡ entry-of image e ∷ rest image behind .entries
-rest-here image c e behind h = ap (λ (r : Run). r .entries) (rest-step image c ∙ ap (λ (x : Chain-step). followed image x (rest image)) h)
+rest-here image c e behind h = ap (λ (r : Run). r .entries) (rest-step image c ∙ ap (λ (x : Item). followed image x (rest image)) h)
 
 module _ (t : Image) (start c : Cursor) (before : List Entry) (e : Spot) (behind : Cursor)
-    (p : Path t start before c) (tidy : Tidy start) (h : advance t c ≡ Chain-step.Record e behind) where
+    (p : Path t start before c) (tidy : Tidy start) (h : advance t c ≡ Item.Record e behind) where
   still-same : Still t t start before e behind
   still-same = record { later = refl; named = λ x. refl; path = path-snoc e p h }
 
@@ -84,7 +85,7 @@ module _ (t : Image) (start c : Cursor) (before : List Entry) (e : Spot) (behind
     ahead =
         ⊎-elim
         (λ w. inl (omega (arith, w .1 .place), omega (arith, w .1 .place, tidy-c .ordered, stood-fits t e behind c (w .1))))
-        (λ w. inr (omega (arith, w .1 .place, stood-fits t e behind (turn (c .room) (c .held)) (w .1))))
+        (λ w. inr (omega (arith, w .1 .place, stood-fits t e behind (turn (c .room) (c .pending)) (w .1))))
         (way t e behind c h)
 
     finished : (i : ℕ) → e .at ≡ i → unfinished-at (set t (i + 2) 0) i ≡ unfinished-at t i
@@ -93,7 +94,7 @@ module _ (t : Image) (start c : Cursor) (before : List Entry) (e : Spot) (behind
         ap is-unfinished (getD-drop i (set t (i + 2) 0) 2 0 ∙ getD-set-same t (i + 2) 0 0 (omega arith))
         ∙ sym (ap is-unfinished (getD-drop i t 2 0 ∙ ap (λ (k : ℕ). getD t (k + 2) 0) (sym q) ∙ old))
 
-    step-again : advance (set t (e .at + 2) 0) c ≡ Chain-step.Record e behind
+    step-again : advance (set t (e .at + 2) 0) c ≡ Item.Record e behind
     step-again =
         ⊎-elim
         (λ w.
@@ -103,11 +104,11 @@ module _ (t : Image) (start c : Cursor) (before : List Entry) (e : Spot) (behind
         (look-dropped t c (e .n) (e .d) (w .1 .what) (omega arith) (ap (λ (k : ℕ). getD t (k + 2) 0) (sym q) ∙ old)) (finished (c .at) q)))
         (λ w.
         let q : e .at ≡ 0 = w .1 .place in
-        let f = stood-fits t e behind (turn (c .room) (c .held)) (w .1) in
+        let f = stood-fits t e behind (turn (c .room) (c .pending)) (w .1) in
         ap (λ (i : ℕ). advance (set t (i + 2) 0) c) q
         ∙ (there-again t (set t (0 + 2) 0) c e behind (w .0) (window-kept t (0 + 2) 0 c (tidy-c .ordered) (inl (omega (arith, tidy-c .apart, f))))
         (w .1)
-        (look-dropped t (turn (c .room) (c .held)) (e .n) (e .d) (w .1 .what) (omega arith) (ap (λ (k : ℕ). getD t (k + 2) 0) (sym q) ∙ old))
+        (look-dropped t (turn (c .room) (c .pending)) (e .n) (e .d) (w .1 .what) (omega arith) (ap (λ (k : ℕ). getD t (k + 2) 0) (sym q) ∙ old))
         (finished 0 q)))
         (way t e behind c h)
 
@@ -167,7 +168,7 @@ module _ {s t : Image} {start c : Cursor} {m q : Meter} (w : Dropping s start m 
   unfolding superseded
   judged x = ap (λ (b : Bool). named 0xF8 x && b) (w .same x)
 
-  dropping-on : {u : Image} {r : Meter} (e : Spot) (behind : Cursor) → advance t c ≡ Chain-step.Record e behind → Still t u start (w .before) e behind
+  dropping-on : {u : Image} {r : Meter} (e : Spot) (behind : Cursor) → advance t c ≡ Item.Record e behind → Still t u start (w .before) e behind
       → Did t q (map delete-step (keep (superseded (rest t start .entries)) (entry-of t e ∷ []))) u r → Dropping s start m u behind r
   dropping-on {u} {r} e behind h k d =
       let p = superseded (rest s start .entries) in
@@ -184,7 +185,7 @@ module _ {s t : Image} {start c : Cursor} {m q : Meter} (w : Dropping s start m 
         path = k .path;
       }
 
-  pub dropping-more : {u : Image} {r : Meter} (e : Spot) (behind : Cursor) → Tidy start → advance t c ≡ Chain-step.Record e behind
+  pub dropping-more : {u : Image} {r : Meter} (e : Spot) (behind : Cursor) → Tidy start → advance t c ≡ Item.Record e behind
       → e .at + size-of (e .n) (e .d) ≤ length t
       → Did t q (map delete-step (keep (superseded (rest t start .entries)) (entry-of t e ∷ []))) u r → Dropping s start m u behind r
   dropping-more {u} {r} e behind tidy h fits d = dropping-on e behind h (go _ refl) d where
@@ -203,23 +204,23 @@ module _ {s t : Image} {start c : Cursor} {m q : Meter} (w : Dropping s start m 
         (did-one (done true g))
     go false g = still (done false g .bytes ∙ ap (run t) (take-nil (q .allowance - q .asked)))
 
-  pub dropping-end : (r : Chain-step) → r ≡ advance t c → Not-record r → Did s m (drop-steps (rest s start .entries)) t q
+  pub dropping-end : (r : Item) → r ≡ advance t c → Not-record r → Did s m (drop-steps (rest s start .entries)) t q
   dropping-end r e z =
       toward-end (w .left) (ap (λ (x : Run). map delete-step (keep (superseded (rest s start .entries)) (x .entries))) (rest-done t c r e z))
 
 -- ---- from the head on
 
-pub sound-same : (s t : Image) (c : Cursor) → Sound s c → length t ≡ length s → Sound t c
+pub sound-same : (s t : Image) (c : Cursor) → Cursor-sound s c → length t ≡ length s → Cursor-sound t c
 sound-same s t c w e = record { ordered = w .ordered; inside = rw e (w .inside); room = rw e (w .room); small = rw e (w .small) }
 
 pub tidy-first : (s : Image) (h : ℕ) → h ≤ length s → Tidy (first-cursor s h)
 tidy-first s h l = record { ordered = l; apart = omega arith }
 
-shown-entries : (s : Image) (h : ℕ) (es : List Entry) (x : Chain-step) → shown s (length s) h es x .entries ≡ es
-shown-entries s h es (Chain-step.Record e c) = refl
-shown-entries s h es (Chain-step.End t w) = refl
-shown-entries s h es (Chain-step.TornWrap t) = refl
-shown-entries s h es (Chain-step.Broken t w) = refl
+shown-entries : (s : Image) (h : ℕ) (es : List Entry) (x : Item) → shown s (length s) h es x .entries ≡ es
+shown-entries s h es (Item.Record e c) = refl
+shown-entries s h es (Item.End t w) = refl
+shown-entries s h es (Item.TornWrap t) = refl
+shown-entries s h es (Item.Broken t w) = refl
 
 pub entries-of : (s : Image) (h : ℕ) → h ≤ length s → rest s (first-cursor s h) .entries ≡ reading-from s h .entries
 entries-of s h l =

@@ -22,7 +22,8 @@ use Rattle.reading.specs.Rest.{entry-of, rest}
 use Rattle.reading.specs.RuleLaws.{head-none, first-low, first-clean}
 use Rattle.reading.specs.Read.{first-cursor}
 use Rattle.reading.specs.Survey.{Seen}
-use Rattle.recovery.specs.Sectors.{dirty-same, later-on}
+use Rattle.moving.specs.Kept.{later-on}
+use Rattle.recovery.specs.Sectors.{dirty-erased, dirty-same}
 use Rattle.recovery.specs.Repairs.{steps-1}
 
 -- ---- the sectors behind those that were erased are judged as before
@@ -52,22 +53,22 @@ module _ (s t : Image) (low : ℕ) (same : drop low t ≡ drop low s) where
 -- ---- the free run
 
 module _ (s : Image) (p : Place) where
-  pub run-turned : p .turned ≡ true → erase-steps s p ≡ map erase (keep (dirty s) (sectors (ceiling (p .tail)) (floor (p .head))))
+  pub run-turned : p .turned ≡ true → erase-steps s p ≡ dirty-erased s (sectors (ceiling (p .tail)) (floor (p .head)))
   unfolding erase-steps free-sectors
   run-turned e = rw (erase-steps, free-sectors, e)
 
-  run-both : p .turned ≡ false → erase-steps s p ≡ map erase (keep (dirty s) (sectors 0 (floor (p .head)) ++ sectors (ceiling (p .tail)) (p .length)))
+  run-both : p .turned ≡ false → erase-steps s p ≡ dirty-erased s (sectors 0 (floor (p .head)) ++ sectors (ceiling (p .tail)) (p .length))
   unfolding erase-steps free-sectors
   run-both e = rw (erase-steps, free-sectors, e)
 
-  pub run-unturned : {t u : Image} {m q r : Meter} → p .turned ≡ false → p .head ≤ p .tail → drop (floor (p .head)) t ≡ drop (floor (p .head)) s
-      → Did s m (map erase (keep (dirty s) (sectors 0 (floor (p .head))))) t q
-      → Did t q (map erase (keep (dirty t) (sectors (ceiling (p .tail)) (p .length)))) u r → Did s m (erase-steps s p) u r
-  run-unturned {t} e h k f g =
-      let a : ℕ = ceiling (p .tail) in
-      let j : keep (dirty t) (sectors a (p .length)) ≡ keep (dirty s) (sectors a (p .length)) = judged s t (floor (p .head)) k a (p .length)
-      (omega arith) in
-      rw (run-both e, keep-both (dirty s) (sectors 0 (floor (p .head))) (sectors a (p .length))) (did-both f (rw j at g))
+  -- with the addresses that the code has
+  pub run-unturned : {t u : Image} {m q r : Meter} {low from : ℕ} → low ≡ floor (p .head) → from ≡ ceiling (p .tail)
+      → p .turned ≡ false → p .head ≤ p .tail → drop low t ≡ drop low s
+      → Did s m (dirty-erased s (sectors 0 low)) t q → Did t q (dirty-erased t (sectors from (p .length))) u r → Did s m (erase-steps s p) u r
+  run-unturned {t} {low = low} {from = from} a b e h k f g =
+      let j : keep (dirty t) (sectors from (p .length)) ≡ keep (dirty s) (sectors from (p .length)) =
+      judged s t low k from (p .length) (omega arith) in
+      rw (run-both e, ← a, ← b, keep-both (dirty s) (sectors 0 low) (sectors from (p .length))) (did-both f (rw j at g))
 
 -- ---- the head
 

@@ -8,36 +8,37 @@ use mathlib.Core.List.{List, [], _∷_}
 use lib.ListN.{length, take, drop, getD, length-drop}
 use lib.Seq.{getD-drop}
 use lib.Dec.{ltb}
-use borrow.Author.Tests.{lt-ltb, ltb-true}
+use borrow.Author.Tests.{ltb-true}
 use Rattle.spec.specs.declared.Next.{Next}
 use Rattle.spec.specs.declared.Kind.{Kind}
 use Rattle.spec.specs.Basics.{long, blank}
 use Rattle.spec.specs.Bytes.{clears, on-way, is-high-begun, is-wrap-begun, is-erased, is-reserved, is-wrapped, is-wrap-open, is-spare, ends-name}
 use Rattle.spec.specs.Record.{size-of, name-length, data-len-of, low-of, high-of, status-of, spare-of}
 use Rattle.spec.specs.Next.{is-torn-marker, next, next-at, kind, sized, torn-at, torn-wrap-at, clear-at}
-use Rattle.record.specs.Suffix.{long-le, long-true}
+use Rattle.laws.specs.Parts.{long-le, long-true}
+use Rattle.laws.specs.Next.{sized-is}
 
 never : {A : Type 0} {n d : ℕ} {x : Next} → x ≡ Next.Bad → x ≡ Next.Record n d → A
 never e f = absurd (let z : _≡_ {A = ℕ} 0 1 = cc in omega arith)
 
 -- ---- the name's end
 
-name-kept : (k : ℕ) (held : Bool) (s t : List ℕ) (n : ℕ) → name-length k held s ≡ n → n < k → n < length t
+name-kept : (k : ℕ) (reserved : Bool) (s t : List ℕ) (n : ℕ) → name-length k reserved s ≡ n → n < k → n < length t
     → ((i : ℕ) → i ≤ n → getD t i 0 ≡ getD s i 0)
-    → name-length k held t ≡ n
+    → name-length k reserved t ≡ n
 unfolding name-length
-name-kept zero held s t n e h l f = absurd (not-suc-le-zero h)
-name-kept (suc k) held [] t n e h l f = absurd (omega arith)
-name-kept (suc k) held (b ∷ s) [] n e h l f = absurd (not-suc-le-zero l)
-name-kept (suc k) held (b ∷ s) (c ∷ t) n e h l f = go (ends-name held b) refl (name-kept k held s t) where
-  go : (v : Bool) → ends-name held b ≡ v
-      → ((m : ℕ) → name-length k held s ≡ m → m < k → m < length t → ((i : ℕ) → i ≤ m → getD t i 0 ≡ getD s i 0) → name-length k held t ≡ m)
-      → name-length (suc k) held (c ∷ t) ≡ n
-  go true q ih = rw (name-length, ap (ends-name held) (f 0 (omega arith)) ∙ q) (rw (name-length, q) at e)
+name-kept zero reserved s t n e h l f = absurd (not-suc-le-zero h)
+name-kept (suc k) reserved [] t n e h l f = absurd (omega arith)
+name-kept (suc k) reserved (b ∷ s) [] n e h l f = absurd (not-suc-le-zero l)
+name-kept (suc k) reserved (b ∷ s) (c ∷ t) n e h l f = go (ends-name reserved b) refl (name-kept k reserved s t) where
+  go : (v : Bool) → ends-name reserved b ≡ v
+      → ((m : ℕ) → name-length k reserved s ≡ m → m < k → m < length t → ((i : ℕ) → i ≤ m → getD t i 0 ≡ getD s i 0) → name-length k reserved t ≡ m)
+      → name-length (suc k) reserved (c ∷ t) ≡ n
+  go true q ih = rw (name-length, ap (ends-name reserved) (f 0 (omega arith)) ∙ q) (rw (name-length, q) at e)
   go false q ih =
-      let m : ℕ = name-length k held s in
+      let m : ℕ = name-length k reserved s in
       let j : suc m ≡ n = rw (name-length, q) at e in
-      rw (name-length, ap (ends-name held) (f 0 (omega arith)) ∙ q)
+      rw (name-length, ap (ends-name reserved) (f 0 (omega arith)) ∙ q)
       (ap suc (ih m refl (omega arith) (omega arith) (λ i r. f (suc i) (omega arith))) ∙ j)
 
 -- ---- what is read off the front
@@ -52,20 +53,16 @@ pub record Sized (s : List ℕ) (n' d' n d : ℕ) : Type 0 where
   pub short : n < 64
   pub fits : size-of n d ≤ length s
 
-sized-is : (s : List ℕ) (n' d' n d : ℕ) (t u : Bool) → ltb n' 64 ≡ t → long (size-of n' d') s ≡ u → sized s n' d' ≡ Next.Record n d
+sized-back : (s : List ℕ) (n' d' n d : ℕ) (t u : Bool) → ltb n' 64 ≡ t → long (size-of n' d') s ≡ u → sized s n' d' ≡ Next.Record n d
     → Sized s n' d' n d
 unfolding sized
-sized-is s n' d' n d true true e f h =
+sized-back s n' d' n d true true e f h =
     let q : Next.Record n' d' ≡ Next.Record n d = rw (sized, e, f) at h in
     let a : n' ≡ n = cc in
     let b : d' ≡ d = cc in
     record { name = a; data-len = b; short = rw a at (ltb-true n' 64 e); fits = rw (a, b) at (long-true (size-of n' d') s f) }
-sized-is s n' d' n d true false e f h = never (rw (sized, e, f)) h
-sized-is s n' d' n d false u e f h = never (rw (sized, e)) h
-
-sized-as : (s : List ℕ) (n d : ℕ) → n < 64 → size-of n d ≤ length s → sized s n d ≡ Next.Record n d
-unfolding sized
-sized-as s n d h l = rw (sized, lt-ltb n 64 h, long-le (size-of n d) s l)
+sized-back s n' d' n d true false e f h = never (rw (sized, e, f)) h
+sized-back s n' d' n d false u e f h = never (rw (sized, e)) h
 
 -- a torn marker is no record
 wrap-other : (s : List ℕ) {n d : ℕ} (u : Bool) → blank (drop 3 s) ≡ u → torn-wrap-at s ≡ Next.Record n d → ⊥
@@ -75,12 +72,12 @@ wrap-other s {n} {d} true e h =
 wrap-other s false e h = never (rw (torn-wrap-at, e)) h
 
 module _ (s t : List ℕ) (n d : ℕ) (len : length t ≡ length s) (same : (i : ℕ) → 4 ≤ i → i < size-of n d → getD t i 0 ≡ getD s i 0) where
-  record-kept : (held : Bool) → sized s (name-length 64 held (drop 8 s)) (data-len-of s) ≡ Next.Record n d
-      → sized t (name-length 64 held (drop 8 t)) (data-len-of t) ≡ Next.Record n d
-  record-kept held h =
-      let w = sized-is s (name-length 64 held (drop 8 s)) (data-len-of s) n d _ _ refl refl h in
-      let a : name-length 64 held (drop 8 t) ≡ n =
-      name-kept 64 held (drop 8 s) (drop 8 t) n (w .name) (w .short) (rw length-drop (omega (arith, w .fits)))
+  record-kept : (reserved : Bool) → sized s (name-length 64 reserved (drop 8 s)) (data-len-of s) ≡ Next.Record n d
+      → sized t (name-length 64 reserved (drop 8 t)) (data-len-of t) ≡ Next.Record n d
+  record-kept reserved h =
+      let w = sized-back s (name-length 64 reserved (drop 8 s)) (data-len-of s) n d _ _ refl refl h in
+      let a : name-length 64 reserved (drop 8 t) ≡ n =
+      name-kept 64 reserved (drop 8 s) (drop 8 t) n (w .name) (w .short) (rw length-drop (omega (arith, w .fits)))
       (λ i l. getD-drop 8 t i 0 ∙ same (8 + i) (omega arith) (omega arith) ∙ sym (getD-drop 8 s i 0)) in
       let b : data-len-of t ≡ d =
       omega (
@@ -92,7 +89,7 @@ module _ (s t : List ℕ) (n d : ℕ) (len : length t ≡ length s) (same : (i :
         same 7
             (omega arith) (omega arith),
       ) in
-      ap₂ (sized t) a b ∙ sized-as t n d (w .short) (omega (arith, w .fits))
+      ap₂ (sized t) a b ∙ sized-is t n d (w .short) (omega (arith, w .fits))
 
   torn-kept : (u : Bool) → long 16 s ≡ u → torn-at s ≡ Next.Record n d → torn-at t ≡ Next.Record n d
   unfolding torn-at

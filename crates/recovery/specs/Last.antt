@@ -7,7 +7,7 @@ use mathlib.Core.List.{List, [], _∷_, _++_}
 use lib.ListN.{length, getD}
 use lib.Seq.{getD-drop}
 use borrow.Author.Tests.{eq-eqb, ne-eqb}
-use Rattle.spec.specs.Step.{Image, Step, program, moved}
+use Rattle.spec.specs.Step.{Image, Step, shifted}
 use Rattle.spec.specs.Basics.{Each}
 use Rattle.spec.specs.Bytes.{is-erased, is-reserved}
 use Rattle.spec.specs.Record.{Entry}
@@ -29,10 +29,6 @@ use Rattle.reading.specs.Read.{Tallied, first-cursor}
 use Rattle.reading.specs.Survey.{Seen}
 use Rattle.recovery.specs.Repairs.{steps-3}
 
--- the four length bytes of a record, from its start
-abbrev pub zero-steps : List Step
-zero-steps = program 4 0x00 ∷ program 5 0x00 ∷ program 6 0x00 ∷ program 7 0x00 ∷ []
-
 -- ---- the name's end
 
 pub name-ended : (s : Image) (a : ℕ) → getD s a 0 ≡ 0 → missing-steps s a ≡ []
@@ -44,7 +40,7 @@ name-open s a e = ap (λ (t : Bool). elim t [ true ↦ [] | false ↦ name-end-s
 -- ---- by its status
 
 void-by : (s : Image) (e : Entry) (t u : Bool) → is-erased (e .it .status) ≡ t → is-reserved (e .it .status) ≡ u
-    → void-steps s e ≡ elim t [ true ↦ moved (e .at) torn-steps | false ↦ elim u [ true ↦ reserved-steps s e | false ↦ [] ] ]
+    → void-steps s e ≡ elim t [ true ↦ shifted (e .at) torn-steps | false ↦ elim u [ true ↦ reserved-steps s e | false ↦ [] ] ]
 unfolding void-steps
 void-by s e true u p q = rw (void-steps, p)
 void-by s e false true p q = rw (void-steps, p, q)
@@ -57,7 +53,7 @@ module _ (s : Image) (e : Spot) where
   status-is : entry-of s e .it .status ≡ getD s (e .at + 2) 0
   status-is = getD-drop (e .at) s 2 0
 
-  pub void-torn : getD s (e .at + 2) 0 ≡ 0xFF → void-steps s (entry-of s e) ≡ moved (e .at) torn-steps
+  pub void-torn : getD s (e .at + 2) 0 ≡ 0xFF → void-steps s (entry-of s e) ≡ shifted (e .at) torn-steps
   unfolding is-erased
   void-torn h = void-by s (entry-of s e) true _ (eq-eqb (entry-of s e .it .status) 0xFF (status-is ∙ h)) refl
 

@@ -1,6 +1,5 @@
+pub mod Readable
 pub mod Sectors
-pub mod Clean
-pub mod Close
 pub mod Repairs
 pub mod Free
 pub mod Pair

@@ -14,29 +14,29 @@ use Rattle.spec.specs.Move.{Work, begin, after}
 use Rattle.spec.specs.Mount.{repair-1, repair-2-on, repair-3, drop-steps, repair-4, mended}
 use Rattle.flash.specs.declared.Meter.{Meter}
 use Rattle.flash.specs.Did.{Did}
-use Rattle.reading.specs.declared.Step.{Step as Ending-step}
+use Rattle.reading.specs.declared.Item.{Item}
 use Rattle.reading.specs.Rest.{rest}
 use Rattle.reading.specs.Bridge.{shown, reading-is}
-use Rattle.reading.specs.SettledLaws.{close-filled}
+use Rattle.laws.specs.Settled.{close-filled}
 use Rattle.reading.specs.Read.{first-cursor}
 use Rattle.recovery.specs.Repairs.{steps-1, pair-steps, pair-head, steps-2, head-2, steps-3, repair-1-is, repair-2-is, repair-3-is, repair-4-is}
-use Rattle.recovery.specs.Pair.{Handed}
+use Rattle.recovery.specs.Pair.{Move-finished}
 use Rattle.recovery.specs.Mending.{Mending, mending-more, mending-stop}
 
 -- ---- the place of a reading
 
 module _ (image : Image) (h : ℕ) where
-  shown-head : (es : List Entry) (x : Ending-step) → shown image (length image) h es x .place .head ≡ h
-  shown-head es (Ending-step.Record e c) = refl
-  shown-head es (Ending-step.End t w) = refl
-  shown-head es (Ending-step.TornWrap t) = refl
-  shown-head es (Ending-step.Broken t w) = refl
+  shown-head : (es : List Entry) (x : Item) → shown image (length image) h es x .place .head ≡ h
+  shown-head es (Item.Record e c) = refl
+  shown-head es (Item.End t w) = refl
+  shown-head es (Item.TornWrap t) = refl
+  shown-head es (Item.Broken t w) = refl
 
-  shown-length : (es : List Entry) (x : Ending-step) → shown image (length image) h es x .place .length ≡ length image
-  shown-length es (Ending-step.Record e c) = refl
-  shown-length es (Ending-step.End t w) = refl
-  shown-length es (Ending-step.TornWrap t) = refl
-  shown-length es (Ending-step.Broken t w) = refl
+  shown-length : (es : List Entry) (x : Item) → shown image (length image) h es x .place .length ≡ length image
+  shown-length es (Item.Record e c) = refl
+  shown-length es (Item.End t w) = refl
+  shown-length es (Item.TornWrap t) = refl
+  shown-length es (Item.Broken t w) = refl
 
   module _ (l : h ≤ length image) where
     pub place-head : reading-from image h .place .head ≡ h
@@ -49,19 +49,19 @@ module _ (image : Image) (h : ℕ) where
         ap (λ (r : Reading). r .place .length) (sym (reading-is image h l))
         ∙ shown-length (rest image (first-cursor image h) .entries) (rest image (first-cursor image h) .ending)
 
--- ---- repair 2 moves the head only with a step
+-- ---- repair 2 leaves another head only with a step
 
-pair-moves : (N h : ℕ) (x y : Entry) (t u : Bool) → is-clean (y .it .low) ≡ t → is-start (y .it .low) ≡ u
+pair-step-or-same : (N h : ℕ) (x y : Entry) (t u : Bool) → is-clean (y .it .low) ≡ t → is-start (y .it .low) ≡ u
     → (empty (pair-steps N x y) ≡ false) ⊎ (pair-head h y ≡ h)
 unfolding pair-steps pair-head
-pair-moves N h x y true u e f = inl (rw (pair-steps, e) (close-filled N x y (y .it .low)))
-pair-moves N h x y false true e f = inl (rw (pair-steps, e, f))
-pair-moves N h x y false false e f = inr (rw (pair-head, e, f))
+pair-step-or-same N h x y true u e f = inl (rw (pair-steps, e) (close-filled N x y (y .it .low)))
+pair-step-or-same N h x y false true e f = inl (rw (pair-steps, e, f))
+pair-step-or-same N h x y false false e f = inr (rw (pair-head, e, f))
 
-moves : (N h : ℕ) (es : List Entry) → (empty (steps-2 N es) ≡ false) ⊎ (head-2 h es ≡ h)
-moves N h [] = inr refl
-moves N h (x ∷ []) = inr refl
-moves N h (x ∷ (y ∷ es)) = pair-moves N h x y _ _ refl refl
+step-or-same : (N h : ℕ) (es : List Entry) → (empty (steps-2 N es) ≡ false) ⊎ (head-2 h es ≡ h)
+step-or-same N h [] = inr refl
+step-or-same N h (x ∷ []) = inr refl
+step-or-same N h (x ∷ (y ∷ es)) = pair-step-or-same N h x y _ _ refl refl
 
 -- ---- each repair, done or left undone
 
@@ -85,15 +85,15 @@ module _ {s t : Image} {m r : Meter} {w : Work} {h : ℕ} (v : Mending s m w t h
         rw (repair-4-is w ∙ ap (after w (drop-steps (w .reading .entries))) (head-is l i))
         (mending-more v (drop-steps (w .reading .entries)) h l (rw (ap (λ (x : Reading). drop-steps (x .entries)) (v .reading l)) d) (inr refl))
 
-    pub repaired-2 : (k : ℕ) → Handed t h r u k q → Mending s m (repair-2-on w) u k q
+    pub repaired-2 : (k : ℕ) → Move-finished t h r u k q → Mending s m (repair-2-on w) u k q
     repaired-2 k d =
         let N : ℕ = w .reading .place .length in
         let es : List Entry = w .reading .entries in
         let n : N ≡ length t = ap (λ (x : Reading). x .place .length) (v .reading l) ∙ place-length t h i in
         let e : es ≡ reading-from t h .entries = ap (λ (x : Reading). x .entries) (v .reading l) in
-        let a : head-2 h es ≡ k = ap (head-2 h) e ∙ sym (d .handed) in
+        let a : head-2 h es ≡ k = ap (head-2 h) e ∙ sym (d .head-is) in
         rw (repair-2-is w h es, a)
-        (mending-more v (steps-2 N es) k l (rw (ap₂ steps-2 n e) (d .did)) (rw (← a) (moves N h es)))
+        (mending-more v (steps-2 N es) k l (rw (ap₂ steps-2 n e) (d .did)) (rw (← a) (step-or-same N h es)))
 
   module _ (l : r .allowance < r .asked) (j : ℕ) where
     pub skipped-2 : Mending s m (repair-2-on w) t j r

@@ -26,9 +26,9 @@ use Rattle.reading.specs.Survey.{Seen}
 use Rattle.recovery.specs.Repairs.{pair-steps, pair-head, steps-2, head-2}
 
 -- what repair 2 did, and the head that it left
-pub record Handed (s : Image) (h : ℕ) (m : Meter) (t : Image) (head : ℕ) (r : Meter) : Type 0 where
+pub record Move-finished (s : Image) (h : ℕ) (m : Meter) (t : Image) (head : ℕ) (r : Meter) : Type 0 where
   pub did : Did s m (steps-2 (length s) (reading-from s h .entries)) t r
-  pub handed : head ≡ head-2 h (reading-from s h .entries)
+  pub head-is : head ≡ head-2 h (reading-from s h .entries)
 
 -- ---- by the second record's low byte
 
@@ -63,16 +63,16 @@ module _ {s : Image} {h : ℕ} {v : Survey} (w : Seen s h v) where
   entries-are : reading-from s h .entries ≡ rest s (first-cursor s (v .place .head)) .entries
   entries-are = sym (ap (λ (r : Reading). r .entries) (w .same))
 
-  handed-by : {m r : Meter} {t : Image} (ss : List Step) (head : ℕ) → Did s m ss t r
+  finish-by : {m r : Meter} {t : Image} (ss : List Step) (head : ℕ) → Did s m ss t r
       → (steps-2 (length s) (rest s (first-cursor s (v .place .head)) .entries) ≡ ss)
       × (head-2 h (rest s (first-cursor s (v .place .head)) .entries) ≡ head)
-      → Handed s h m t head r
-  handed-by ss head d e =
-      record { did = rw (ap (steps-2 (length s)) entries-are ∙ e .0) d; handed = sym (ap (head-2 h) entries-are ∙ e .1) }
+      → Move-finished s h m t head r
+  finish-by ss head d e =
+      record { did = rw (ap (steps-2 (length s)) entries-are ∙ e .0) d; head-is = sym (ap (head-2 h) entries-are ∙ e .1) }
 
-  pub handed-few : {m : Meter} → v .tally .records < 2 → Handed s h m s h m
-  handed-few {m} l =
-      handed-by [] h (did-none s m)
+  pub finish-few : {m : Meter} → v .tally .records < 2 → Move-finished s h m s h m
+  finish-few {m} l =
+      finish-by [] h (did-none s m)
       (few (length s) h (rest s (first-cursor s (v .place .head)) .entries) (omega (arith, count-is (w .surveyed .tallied))))
 
   module _ (l : 2 ≤ v .tally .records) where
@@ -89,22 +89,22 @@ module _ {s : Image} {h : ℕ} {v : Survey} (w : Seen s h v) where
         two s (length s) h (rest s (first-cursor s (v .place .head)) .entries) (v .tally) (w .surveyed .tallied .same)
         (faithful s (first-cursor s (v .place .head)) (w .surveyed .tallied .sound)) (omega (arith, count-is (w .surveyed .tallied)))
 
-    handed-pair : {m r : Meter} {t : Image} (ss : List Step) (head : ℕ) → Did s m ss t r → (pair-steps (length s) x y ≡ ss) × (pair-head h y ≡ head)
-        → Handed s h m t head r
-    handed-pair ss head d e = handed-by ss head d (both .0 ∙ e .0, both .1 ∙ e .1)
+    finish-pair : {m r : Meter} {t : Image} (ss : List Step) (head : ℕ) → Did s m ss t r → (pair-steps (length s) x y ≡ ss) × (pair-head h y ≡ head)
+        → Move-finished s h m t head r
+    finish-pair ss head d e = finish-by ss head d (both .0 ∙ e .0, both .1 ∙ e .1)
 
-    pub handed-clean : {m r : Meter} {t : Image} → is-clean (entry-of s (v .tally .second) .it .low) ≡ true
+    pub finish-clean : {m r : Meter} {t : Image} → is-clean (entry-of s (v .tally .second) .it .low) ≡ true
         → Did s m (close-steps (length s) (entry-of s (v .tally .first)) (entry-of s (v .tally .second)) (entry-of s (v .tally .second) .it .low)) t r
-        → Handed s h m t (v .tally .second .at) r
+        → Move-finished s h m t (v .tally .second .at) r
     unfolding x y
-    handed-clean e d = handed-pair _ _ d (pair-by (length s) h x y true _ e refl)
+    finish-clean e d = finish-pair _ _ d (pair-by (length s) h x y true _ e refl)
 
-    pub handed-start : {m r : Meter} {t : Image} → is-clean (entry-of s (v .tally .second) .it .low) ≡ false
-        → entry-of s (v .tally .second) .it .low ≡ 0x00 → Did s m (program (v .tally .first .at + 1) 0x00 ∷ []) t r → Handed s h m t (v .tally .second .at) r
+    pub finish-start : {m r : Meter} {t : Image} → is-clean (entry-of s (v .tally .second) .it .low) ≡ false
+        → entry-of s (v .tally .second) .it .low ≡ 0x00 → Did s m (program (v .tally .first .at + 1) 0x00 ∷ []) t r → Move-finished s h m t (v .tally .second .at) r
     unfolding x y is-start
-    handed-start c e d = handed-pair _ _ d (pair-by (length s) h x y false true c (eq-eqb (y .it .low) 0x00 e))
+    finish-start c e d = finish-pair _ _ d (pair-by (length s) h x y false true c (eq-eqb (y .it .low) 0x00 e))
 
-    pub handed-plain : {m : Meter} → is-clean (entry-of s (v .tally .second) .it .low) ≡ false → (entry-of s (v .tally .second) .it .low ≡ 0x00 → ⊥)
-        → Handed s h m s h m
+    pub finish-plain : {m : Meter} → is-clean (entry-of s (v .tally .second) .it .low) ≡ false → (entry-of s (v .tally .second) .it .low ≡ 0x00 → ⊥)
+        → Move-finished s h m s h m
     unfolding x y is-start
-    handed-plain {m} c f = handed-pair [] h (did-none s m) (pair-by (length s) h x y false false c (ne-eqb (y .it .low) 0x00 f))
+    finish-plain {m} c f = finish-pair [] h (did-none s m) (pair-by (length s) h x y false false c (ne-eqb (y .it .low) 0x00 f))

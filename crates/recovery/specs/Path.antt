@@ -12,7 +12,7 @@ use Rattle.spec.specs.Step.{Image}
 use Rattle.spec.specs.Record.{size-of, Entry}
 use Rattle.reading.specs.declared.Cursor.{Cursor}
 use Rattle.reading.specs.declared.Spot.{Spot}
-use Rattle.reading.specs.declared.Step.{Step}
+use Rattle.reading.specs.declared.Item.{Item}
 use Rattle.reading.specs.Cursor.{look, goes-on, turn, past, settle, advance, left}
 use Rattle.reading.specs.CursorLaws.{advance-on, advance-here}
 use Rattle.reading.specs.Fits.{look-inside}
@@ -23,10 +23,10 @@ use Rattle.recovery.specs.Trail.{Stood, way, stood-fits, Tidy, Ahead, Of
 
 pub data Path (image : Image) : Cursor → List Entry → Cursor → Type 0 where
   here : {c : Cursor} → Path image c [] c
-  there : {c behind d : Cursor} {es : List Entry} (e : Spot) → advance image c ≡ Step.Record e behind → Path image behind es d
+  there : {c behind d : Cursor} {es : List Entry} (e : Spot) → advance image c ≡ Item.Record e behind → Path image behind es d
       → Path image c (entry-of image e ∷ es) d
 
-pub path-snoc : {image : Image} {c d behind : Cursor} {es : List Entry} (e : Spot) → Path image c es d → advance image d ≡ Step.Record e behind
+pub path-snoc : {image : Image} {c d behind : Cursor} {es : List Entry} (e : Spot) → Path image c es d → advance image d ≡ Item.Record e behind
     → Path image c (es ++ (entry-of image e ∷ [])) behind
 path-snoc e here h = there e h here
 path-snoc e (there f g p) h = there f g (path-snoc e p h)
@@ -34,7 +34,7 @@ path-snoc e (there f g p) h = there f g (path-snoc e p h)
 pub rest-path : {image : Image} {c d : Cursor} {es : List Entry} → Path image c es d → rest image c .entries ≡ es ++ rest image d .entries
 rest-path here = refl
 rest-path {image} {c} (there e h p) =
-    ap (λ (r : Run). r .entries) (rest-step image c ∙ ap (λ (x : Step). followed image x (rest image)) h)
+    ap (λ (r : Run). r .entries) (rest-step image c ∙ ap (λ (x : Item). followed image x (rest image)) h)
     ∙ ap (λ (l : List Entry). entry-of image e ∷ l) (rest-path p)
 
 pub path-tidy : {image : Image} {c d : Cursor} {es : List Entry} → Path image c es d → Tidy c → Tidy d
@@ -44,7 +44,7 @@ path-tidy {image} {c} (there e h p) t = path-tidy p (tidy-next image c e _ t h)
 -- ---- a byte that is still ahead is written: the way stays
 
 module _ (s : Image) (a b : ℕ) where
-  module _ (c : Cursor) (e : Spot) (behind : Cursor) (tidy : Tidy c) (h : advance s c ≡ Step.Record e behind) (o : Ahead behind a) where
+  module _ (c : Cursor) (e : Spot) (behind : Cursor) (tidy : Tidy c) (h : advance s c ≡ Item.Record e behind) (o : Ahead behind a) where
     off-here : Stood s c (look s c) e behind → Off a (c .at) (size-of (e .n) (e .d))
     off-here w =
         ⊎-elim
@@ -53,7 +53,7 @@ module _ (s : Image) (a b : ℕ) where
         o
 
     -- after the turn
-    low-there : Stood s (turn (c .room) (c .held)) (look s (turn (c .room) (c .held))) e behind → (size-of (e .n) (e .d) ≤ a) × (a < c .room)
+    low-there : Stood s (turn (c .room) (c .pending)) (look s (turn (c .room) (c .pending))) e behind → (size-of (e .n) (e .d) ≤ a) × (a < c .room)
     low-there w =
         ⊎-elim
         (λ (p : (behind .at ≤ a) × (a < behind .end)).
@@ -61,7 +61,7 @@ module _ (s : Image) (a b : ℕ) where
         (λ (p : a < behind .room). absurd (omega (arith, ap (λ (z : Cursor). z .room) (w .moved))))
         o
 
-    pub advance-kept : advance (set s a b) c ≡ Step.Record e behind
+    pub advance-kept : advance (set s a b) c ≡ Item.Record e behind
     advance-kept =
         ⊎-elim
         (λ w.
@@ -71,7 +71,7 @@ module _ (s : Image) (a b : ℕ) where
         (λ w.
         let low = low-there (w .1) in
         there-again s (set s a b) c e behind (w .0) (window-kept s a b c (tidy .ordered) (inl (omega (arith, low .1, tidy .apart)))) (w .1)
-        (look-kept s (turn (c .room) (c .held)) (e .n) (e .d) (w .1 .what) a b (inr (omega (arith, low .0))))
+        (look-kept s (turn (c .room) (c .pending)) (e .n) (e .d) (w .1 .what) a b (inr (omega (arith, low .0))))
         (unfinished-kept s a b 0 (λ q. omega (arith, low .0))))
         (way s e behind c h)
 
@@ -101,7 +101,7 @@ module _ (s : Image) (a b : ℕ) where
   settle-same : (v : Cursor) (x : Next) → look s v ≡ x → Off a (v .at) (v .end - v .at) → settle (set s a b) v x ≡ settle s v x
   settle-same v (Next.Record n d) l o =
       let f : size-of n d ≤ v .end - v .at = look-inside s v n d l in
-      ap (λ (h : Bool). Step.Record (record { at = v .at; n = n; d = d }) (past v (size-of n d) h))
+      ap (λ (h : Bool). Item.Record (record { at = v .at; n = n; d = d }) (past v (size-of n d) h))
       (unfinished-kept s a b (v .at) (λ q. ⊎-elim (λ (u : a < v .at). omega arith) (λ (u : v .at + (v .end - v .at) ≤ a). omega arith) o))
   settle-same v Next.Wrap l o = refl
   settle-same v Next.TornWrap l o = refl
@@ -117,7 +117,7 @@ module _ (s : Image) (a b : ℕ) where
     advance-same = go (goes-on (c .room) (look s c)) refl where
       go : (g : Bool) → goes-on (c .room) (look s c) ≡ g → advance (set s a b) c ≡ advance s c
       go true q =
-          let u : Cursor = turn (c .room) (c .held) in
+          let u : Cursor = turn (c .room) (c .pending) in
           advance-on (set s a b) c (ap (goes-on (c .room)) (window-kept s a b c (t .ordered) (p .before)) ∙ q)
           ∙ ap (settle (set s a b) u) (window-kept s a b u (omega arith) turned-off)
           ∙ settle-same u (look s u) refl turned-off ∙ sym (advance-on s c q)
@@ -127,7 +127,7 @@ module _ (s : Image) (a b : ℕ) where
           ∙ settle-same c (look s c) refl (p .before) ∙ sym (advance-here s c q)
 
     -- the record at c, and what is behind it
-    onward : (e : Spot) (behind : Cursor) → advance s c ≡ Step.Record e behind → Passed behind a × (entry-of (set s a b) e ≡ entry-of s e)
+    onward : (e : Spot) (behind : Cursor) → advance s c ≡ Item.Record e behind → Passed behind a × (entry-of (set s a b) e ≡ entry-of s e)
     onward e behind h =
         ⊎-elim
         (λ w.
@@ -147,27 +147,27 @@ module _ (s : Image) (a b : ℕ) where
         ))
         (p .before))
         (λ w.
-        let f = stood-fits s e behind (turn (c .room) (c .held)) (w .1) in (
+        let f = stood-fits s e behind (turn (c .room) (c .pending)) (w .1) in (
           rw (w .1 .moved) (record { before = inr (omega (arith, p .low, f)); low = omega arith }),
           entry-kept s a b e
               (inr (omega (arith, w .1 .place, p .low, f))),
         ))
         (way s e behind c h)
 
-  by-step : (k : ℕ) (c : Cursor) (r : Step) → advance s c ≡ r → Tidy c → Passed c a → left c < suc k → Less c r
+  by-step : (k : ℕ) (c : Cursor) (r : Item) → advance s c ≡ r → Tidy c → Passed c a → left c < suc k → Less c r
       → ((d : Cursor) → Tidy d → Passed d a → left d < k → rest (set s a b) d ≡ rest s d)
       → followed (set s a b) r (rest (set s a b)) ≡ followed s r (rest s)
-  by-step k c (Step.Record e behind) h t p l m ih =
+  by-step k c (Item.Record e behind) h t p l m ih =
       let q = onward c t p e behind h in
       ap₂ ahead (q .1) (ih behind (tidy-next s c e behind t h) (q .0) (omega arith))
-  by-step k c (Step.End x w) h t p l m ih = refl
-  by-step k c (Step.TornWrap x) h t p l m ih = refl
-  by-step k c (Step.Broken x w) h t p l m ih = refl
+  by-step k c (Item.End x w) h t p l m ih = refl
+  by-step k c (Item.TornWrap x) h t p l m ih = refl
+  by-step k c (Item.Broken x w) h t p l m ih = refl
 
   by-fuel : (k : ℕ) (c : Cursor) → Tidy c → Passed c a → left c < k → rest (set s a b) c ≡ rest s c
   by-fuel zero c t p l = absurd (not-suc-le-zero l)
   by-fuel (suc k) c t p l =
-      rest-step (set s a b) c ∙ ap (λ (r : Step). followed (set s a b) r (rest (set s a b))) (advance-same c t p)
+      rest-step (set s a b) c ∙ ap (λ (r : Item). followed (set s a b) r (rest (set s a b))) (advance-same c t p)
       ∙ by-step k c (advance s c) refl t p l (advance-less s c) (by-fuel k) ∙ sym (rest-step s c)
 
   pub rest-kept : (c : Cursor) → Tidy c → Passed c a → rest (set s a b) c ≡ rest s c

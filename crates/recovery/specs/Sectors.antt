@@ -5,22 +5,18 @@ use mathlib.Core.Path.{_≡_, refl, sym, ap, ap₂, _∙_}
 use mathlib.Core.Logic.{⊎-elim}
 use mathlib.Core.Bool.{Bool, true, false, not}
 use mathlib.Core.List.{List, [], _∷_, _++_, map, append-assoc}
-use lib.ListN.{length, take, drop, length-append, length-replicate}
+use lib.ListN.{length, take, drop, length-append}
 use lib.Seq.{drop-drop, drop-append-add, length-take-le}
-use Rattle.spec.specs.Step.{Image, erase, sector, apply}
+use Rattle.spec.specs.Step.{Image, Step, erase, sector, apply}
 use Rattle.spec.specs.Basics.{blank, keep}
 use Rattle.spec.specs.Geometry.{sectors}
 use Rattle.spec.specs.Mount.{dirty}
 use Rattle.flash.specs.declared.Meter.{Meter}
 use Rattle.flash.specs.Did.{Did, did-one}
-use Rattle.reading.specs.CursorLaws.{part-window}
-use Rattle.flash.specs.Sectors.{sectors-more}
+use Rattle.laws.specs.Parts.{part-window}
+use Rattle.laws.specs.Sectors.{sectors-more, length-sector}
 
 -- ---- what an erase leaves alone: the bytes behind the sector
-
-length-sector : length sector ≡ 4096
-unfolding sector
-length-sector = length-replicate {A = ℕ} 4096 0xFF
 
 erase-behind : (s : Image) (a k : ℕ) → a + 4096 ≤ k → a + 4096 ≤ length s → drop k (apply s (erase a)) ≡ drop k s
 erase-behind s a k h l =
@@ -36,6 +32,10 @@ pub erased-behind : {s t : Image} {m r : Meter} (a k : ℕ) → a + 4096 ≤ k �
 erased-behind {s} a k h l d = ⊎-elim (λ e. ap (drop k) e ∙ erase-behind s a k h l) (λ e. ap (drop k) e) (did-one d)
 
 -- ---- a sector that is not all FF
+
+-- those of these sectors are erased
+abbrev pub dirty-erased : Image → List ℕ → List Step
+dirty-erased s starts = map erase (keep (dirty s) starts)
 
 pub dirty-same : (s t : Image) (a : ℕ) → drop a t ≡ drop a s → dirty t a ≡ dirty s a
 dirty-same s t a e =
@@ -63,10 +63,3 @@ dirty-more s t a b h e =
     let l : List ℕ = keep (dirty s) (sectors (a + 4096) b) in
     ap (λ (k : List ℕ). map erase (keep (dirty s) k)) (sectors-more a b h)
     ∙ ap (λ (c : Bool). map erase (pick c a l)) (sym (dirty-same s t a e)) ∙ pick-first (dirty t a) a l
-
--- what stands from a on is the same, and so is what stands from k on
-pub later-on : (a k : ℕ) (s t : Image) → a ≤ k → drop a t ≡ drop a s → drop k t ≡ drop k s
-later-on a k s t h e =
-    let j : a + (k - a) ≡ k = omega arith in
-    let w : (u : Image) → drop (k - a) (drop a u) ≡ drop k u = λ u. drop-drop (k - a) a u ∙ ap (λ (n : ℕ). drop n u) j in
-    sym (w t) ∙ ap (drop (k - a)) e ∙ w s

@@ -6,7 +6,7 @@ use mathlib.Core.Logic.{_⊎_, inl, inr, ⊎-elim}
 use mathlib.Core.Bool.{Bool, true, false}
 use mathlib.Core.List.{List}
 use lib.ListN.{length, take, drop, set, getD, length-set, length-drop, length-take}
-use lib.Seq.{getD-take, getD-drop, getD-set-other, getD-set-same, take-set-le, drop-set-lt, drop-set-add}
+use lib.Seq.{getD-take, getD-drop, getD-set-other, getD-set-same}
 use lib.Dec.{ltb}
 use Rattle.spec.specs.declared.Next.{Next}
 use Rattle.spec.specs.Step.{Image}
@@ -16,9 +16,10 @@ use Rattle.spec.specs.Next.{next}
 use Rattle.spec.specs.Chain.{allowed}
 use Rattle.reading.specs.declared.Cursor.{Cursor}
 use Rattle.reading.specs.declared.Spot.{Spot}
-use Rattle.reading.specs.declared.Step.{Step}
+use Rattle.reading.specs.declared.Item.{Item}
 use Rattle.reading.specs.Cursor.{window, look, goes-on, turn, past, torn-end, unfinished-at, settle, advance}
-use Rattle.reading.specs.CursorLaws.{part-window, advance-on, advance-here}
+use Rattle.laws.specs.Parts.{part-window, part-set}
+use Rattle.reading.specs.CursorLaws.{advance-on, advance-here}
 use Rattle.reading.specs.Fits.{look-inside}
 use Rattle.reading.specs.Rest.{entry-of}
 use Rattle.reading.specs.Bridge.{rec-part}
@@ -33,13 +34,13 @@ pub record Stood (image : Image) (v : Cursor) (x : Next) (e : Spot) (behind : Cu
   pub moved : behind ≡ past v (size-of (e .n) (e .d)) (unfinished-at image (v .at))
 
 module _ (image : Image) (e : Spot) (behind : Cursor) where
-  torn-other : (v : Cursor) (t : Bool) → ltb 0 (v .room) ≡ t → torn-end (v .room) (v .turned) (v .at) ≡ Step.Record e behind → ⊥
+  torn-other : (v : Cursor) (t : Bool) → ltb 0 (v .room) ≡ t → torn-end (v .room) (v .turned) (v .at) ≡ Item.Record e behind → ⊥
   unfolding torn-end
-  torn-other v true f h = let q : Step.TornWrap (v .at) ≡ Step.Record e behind = rw (torn-end, f) at h in let z : _≡_ {A = ℕ} 0 1 = cc in omega arith
+  torn-other v true f h = let q : Item.TornWrap (v .at) ≡ Item.Record e behind = rw (torn-end, f) at h in let z : _≡_ {A = ℕ} 0 1 = cc in omega arith
   torn-other v false f h =
-      let q : Step.Broken (v .at) (v .turned) ≡ Step.Record e behind = rw (torn-end, f) at h in let z : _≡_ {A = ℕ} 0 1 = cc in omega arith
+      let q : Item.Broken (v .at) (v .turned) ≡ Item.Record e behind = rw (torn-end, f) at h in let z : _≡_ {A = ℕ} 0 1 = cc in omega arith
 
-  stood : (v : Cursor) (x : Next) → settle image v x ≡ Step.Record e behind → Stood image v x e behind
+  stood : (v : Cursor) (x : Next) → settle image v x ≡ Item.Record e behind → Stood image v x e behind
   stood v (Next.Record n d) h =
       let a : _≡_ {A = Spot} (record { at = v .at; n = n; d = d }) e = cc in
       let b : past v (size-of n d) (unfinished-at image (v .at)) ≡ behind = cc in
@@ -58,12 +59,12 @@ module _ (image : Image) (e : Spot) (behind : Cursor) where
   abbrev Way : Cursor → Type 0
   Way c =
       ((goes-on (c .room) (look image c) ≡ false) × Stood image c (look image c) e behind)
-      ⊎ ((goes-on (c .room) (look image c) ≡ true) × Stood image (turn (c .room) (c .held)) (look image (turn (c .room) (c .held))) e behind)
+      ⊎ ((goes-on (c .room) (look image c) ≡ true) × Stood image (turn (c .room) (c .pending)) (look image (turn (c .room) (c .pending))) e behind)
 
-  pub way : (c : Cursor) → advance image c ≡ Step.Record e behind → Way c
+  pub way : (c : Cursor) → advance image c ≡ Item.Record e behind → Way c
   way c h = go (goes-on (c .room) (look image c)) refl where
     go : (t : Bool) → goes-on (c .room) (look image c) ≡ t → Way c
-    go true q = inr (q, stood (turn (c .room) (c .held)) (look image (turn (c .room) (c .held))) (sym (advance-on image c q) ∙ h))
+    go true q = inr (q, stood (turn (c .room) (c .pending)) (look image (turn (c .room) (c .pending))) (sym (advance-on image c q) ∙ h))
     go false q = inl (q, stood c (look image c) (sym (advance-here image c q) ∙ h))
 
   -- a record lies within its stretch
@@ -85,7 +86,7 @@ Ahead c a = ((c .at ≤ a) × (a < c .end)) ⊎ (a < c .room)
 abbrev pub Off : ℕ → ℕ → ℕ → Type 0
 Off a i n = (a < i) ⊎ (i + n ≤ a)
 
-module _ (image : Image) (c : Cursor) (e : Spot) (behind : Cursor) (tidy : Tidy c) (h : advance image c ≡ Step.Record e behind) where
+module _ (image : Image) (c : Cursor) (e : Spot) (behind : Cursor) (tidy : Tidy c) (h : advance image c ≡ Item.Record e behind) where
   pub tidy-next : Tidy behind
   tidy-next =
       ⊎-elim
@@ -93,7 +94,7 @@ module _ (image : Image) (c : Cursor) (e : Spot) (behind : Cursor) (tidy : Tidy 
         ordered = omega (arith, tidy .ordered, stood-fits image e behind c (w .1));
         apart = omega (arith, tidy .apart);
       }))
-      (λ w. rw (w .1 .moved) (record { ordered = omega (arith, stood-fits image e behind (turn (c .room) (c .held)) (w .1)); apart = omega arith }))
+      (λ w. rw (w .1 .moved) (record { ordered = omega (arith, stood-fits image e behind (turn (c .room) (c .pending)) (w .1)); apart = omega arith }))
       (way image e behind c h)
 
   pub ahead-back : (a : ℕ) → Ahead behind a → Ahead c a
@@ -109,26 +110,18 @@ module _ (image : Image) (c : Cursor) (e : Spot) (behind : Cursor) (tidy : Tidy 
 -- ---- one byte is written
 
 module _ (s : Image) (a b : ℕ) where
-  pub part-kept : (i n : ℕ) → Off a i n → take n (drop i (set s a b)) ≡ take n (drop i s)
-  part-kept i n o =
-      ⊎-elim
-      (λ (h : a < i). ap (take n) (drop-set-lt i s a b h))
-      (λ (h : i + n ≤ a).
-      let j : a ≡ i + (a - i) = omega arith in
-      ap (λ (k : ℕ). take n (drop i (set s k b))) j ∙ ap (take n) (drop-set-add i s (a - i) b) ∙ take-set-le n (drop i s) (a - i) b (omega arith))
-      o
-
   pub window-kept : (c : Cursor) → c .at ≤ c .end → Off a (c .at) (c .end - c .at) → look (set s a b) c ≡ look s c
   unfolding look
   window-kept c l o =
-      ap (λ (w : List ℕ). allowed (c .held) (next w))
-      (sym (part-window (c .at) (c .end) (set s a b) l) ∙ part-kept (c .at) (c .end - c .at) o ∙ part-window (c .at) (c .end) s l)
+      ap (λ (w : List ℕ). allowed (c .pending) (next w))
+      (sym (part-window (c .at) (c .end) (set s a b) l) ∙ part-set s (c .at) (c .end - c .at) a b o ∙ part-window (c .at) (c .end) s l)
 
   pub entry-kept : (e : Spot) → Off a (e .at) (size-of (e .n) (e .d)) → entry-of (set s a b) e ≡ entry-of s e
   entry-kept e o =
       let z : ℕ = size-of (e .n) (e .d) in
       ap (λ (x : Rec). record { at = e .at; it = x })
-      (sym (rec-part z (e .n) (e .d) (drop (e .at) (set s a b)) (omega arith)) ∙ ap (λ (l : List ℕ). rec-of l (e .n) (e .d)) (part-kept (e .at) z o)
+      (sym (rec-part z (e .n) (e .d) (drop (e .at) (set s a b)) (omega arith))
+      ∙ ap (λ (l : List ℕ). rec-of l (e .n) (e .d)) (part-set s (e .at) z a b o)
       ∙ rec-part z (e .n) (e .d) (drop (e .at) s) (omega arith))
 
   pub unfinished-kept : (i : ℕ) → (i + 2 ≡ a → ⊥) → unfinished-at (set s a b) i ≡ unfinished-at s i
@@ -143,8 +136,8 @@ module _ (s : Image) (a b : ℕ) where
   window-long : (c : Cursor) → length (window (set s a b) c) ≡ length (window s c)
   window-long c = simp (length-drop, length-take, length-set)
 
-allowed-record : (held : Bool) (x : Next) (n d : ℕ) → allowed held x ≡ Next.Record n d → (x ≡ Next.Record n d)
-    × ((y : Next) → y ≡ Next.Record n d → allowed held y ≡ Next.Record n d)
+allowed-record : (pending : Bool) (x : Next) (n d : ℕ) → allowed pending x ≡ Next.Record n d → (x ≡ Next.Record n d)
+    × ((y : Next) → y ≡ Next.Record n d → allowed pending y ≡ Next.Record n d)
 allowed-record false x n d h = (h, λ y e. e)
 allowed-record true (Next.Record m l) n d h = absurd (let z : _≡_ {A = ℕ} 0 1 = cc in omega arith)
 allowed-record true Next.Wrap n d h = absurd (let z : _≡_ {A = ℕ} 0 1 = cc in omega arith)
@@ -161,7 +154,7 @@ module _ (s : Image) (c : Cursor) (n d : ℕ) (h : look s c ≡ Next.Record n d)
   pub look-kept : (a b : ℕ) → Off a (c .at) (size-of n d) → look (set s a b) c ≡ Next.Record n d
   unfolding look
   look-kept a b o =
-      let p = allowed-record (c .held) (next (window s c)) n d h in
+      let p = allowed-record (c .pending) (next (window s c)) n d h in
       let off : (i : ℕ) → i < size-of n d → c .at + i ≡ a
       → ⊥ = λ i l q. ⊎-elim (λ (u : a < c .at). omega arith) (λ (u : c .at + size-of n d ≤ a). omega arith) o in
       let same : (i : ℕ) → i < size-of n d
@@ -176,7 +169,7 @@ module _ (s : Image) (c : Cursor) (n d : ℕ) (h : look s c ≡ Next.Record n d)
   look-dropped l f =
       let a : ℕ = c .at + 2 in
       let t : Image = set s a 0 in
-      let p = allowed-record (c .held) (next (window s c)) n d h in
+      let p = allowed-record (c .pending) (next (window s c)) n d h in
       let same : (i : ℕ) → i < size-of n d → (i ≡ 2 → ⊥)
       → getD (window t c) i 0 ≡ getD (window s c) i 0 = λ i g o. byte-kept s a 0 c i (omega (arith, fits)) (λ q. o (omega arith)) in
       let now : status-of (window t c) ≡ 0 =
@@ -191,20 +184,20 @@ module _ (s : Image) (c : Cursor) (n d : ℕ) (h : look s c ≡ Next.Record n d)
 
 resettled : (s t : Image) (v : Cursor) (x : Next) (e : Spot) (behind : Cursor) → Stood s v x e behind → look t v ≡ Next.Record (e .n) (e .d)
     → unfinished-at t (v .at) ≡ unfinished-at s (v .at)
-    → settle t v (look t v) ≡ Step.Record e behind
+    → settle t v (look t v) ≡ Item.Record e behind
 resettled s t v x e behind w l u =
     ap (settle t v) l
-    ∙ ap₂ Step.Record (ap (λ (i : ℕ). record { at = i; n = e .n; d = e .d }) (sym (w .place)))
+    ∙ ap₂ Item.Record (ap (λ (i : ℕ). record { at = i; n = e .n; d = e .d }) (sym (w .place)))
     (ap (past v (size-of (e .n) (e .d))) u ∙ sym (w .moved))
 
 pub here-again : (s t : Image) (c : Cursor) (e : Spot) (behind : Cursor) → Stood s c (look s c) e behind → look t c ≡ Next.Record (e .n) (e .d)
     → unfinished-at t (c .at) ≡ unfinished-at s (c .at)
-    → advance t c ≡ Step.Record e behind
+    → advance t c ≡ Item.Record e behind
 here-again s t c e behind w l u = advance-here t c (ap (goes-on (c .room)) l) ∙ resettled s t c (look s c) e behind w l u
 
 pub there-again : (s t : Image) (c : Cursor) (e : Spot) (behind : Cursor) → goes-on (c .room) (look s c) ≡ true → look t c ≡ look s c
-    → Stood s (turn (c .room) (c .held)) (look s (turn (c .room) (c .held))) e behind → look t (turn (c .room) (c .held)) ≡ Next.Record (e .n) (e .d)
-    → unfinished-at t 0 ≡ unfinished-at s 0 → advance t c ≡ Step.Record e behind
+    → Stood s (turn (c .room) (c .pending)) (look s (turn (c .room) (c .pending))) e behind → look t (turn (c .room) (c .pending)) ≡ Next.Record (e .n) (e .d)
+    → unfinished-at t 0 ≡ unfinished-at s 0 → advance t c ≡ Item.Record e behind
 there-again s t c e behind g k w l u =
-    let v : Cursor = turn (c .room) (c .held) in
+    let v : Cursor = turn (c .room) (c .pending) in
     advance-on t c (ap (goes-on (c .room)) k ∙ g) ∙ resettled s t v (look s v) e behind w l u

@@ -1,7 +1,7 @@
 // Repair 1: behind a CLEAN head the free run is erased where it isn't FF, and the head becomes START.
 use crate::sectors::erase_dirty;
-use crate::start::to_start;
 use flash::Meter;
+use moving::to_start;
 use reading::image::survey;
 use reading::scan::low_of;
 use record::bytes::is_clean;
@@ -10,27 +10,33 @@ use spec::SECTOR;
 use spec::floor;
 ghost use mathlib.Core.Path.{_≡_};
 ghost use mathlib.Core.Bool.{false};
-ghost use Prim.Native.Nat.{_+_, _*_, _≤_, _<_, _^_};
+ghost use Prim.Native.Nat.{_+_, _*_, _≤_, _^_};
 ghost use lib.ListN.{length};
 ghost use Rattle.spec.specs.Geometry.{ceiling};
 ghost use Rattle.spec.specs.Chain.{reading-from};
 ghost use Rattle.spec.specs.Mount.{erase-steps};
 ghost use Rattle.flash.specs.Did.{Did};
 ghost use Rattle.reading.specs.FreeLaws.{In-image};
+ghost use Rattle.writing.specs.Counts.{Counts};
+ghost use Rattle.recovery.specs.Readable.{Readable};
 ghost use Rattle.recovery.specs.Repairs.{steps-1};
 
 // The first start of a sector that is not below a.
 fn ceiling(a: usize) -> usize
     requires { ⌜ a ≤ 2 ^ 24 ⌝ }
-    ensures { λ r. ⌜ (r ≡ ceiling a) × (r ≤ 2 ^ 24) ⌝ }
+    ensures { λ r. ⌜ r ≡ ceiling a ⌝ }
+    ensures { λ r. ⌜ r ≤ 2 ^ 24 ⌝ }
 {
     floor(a + (SECTOR - 1))
 }
 
 // The sectors that lie wholly in the free run and are not all FF.
 fn erase_run(image: &mut [u8], p: Place, m: Meter) -> Meter
-    requires { ⌜ In-image (now image) p × (p .turned ≡ false → p .head ≤ p .tail) × (m .asked + 2 * length (now image) ≤ 2 ^ 32) ⌝ }
-    ensures { λ r. ⌜ Did (now (image .entry)) m (erase-steps (now (image .entry)) p) (now (image .exit)) r × (r .asked ≤ m .asked + 2 * length (now (image .entry))) ⌝ }
+    requires { ⌜ In-image (now image) p ⌝ }
+    requires { ⌜ (p .turned ≡ false → p .head ≤ p .tail) ⌝ }
+    requires { ⌜ Counts m (2 * length (now image)) ⌝ }
+    ensures { λ r. ⌜ (let s = now (image .entry) in Did s m (erase-steps s p) (now (image .exit)) r) ⌝ }
+    ensures { λ r. ⌜ r .asked ≤ m .asked + 2 * length (now (image .entry)) ⌝ }
 {
     let low = floor(p.head);
     let from = ceiling(p.tail);
@@ -43,8 +49,10 @@ fn erase_run(image: &mut [u8], p: Place, m: Meter) -> Meter
 
 // The repair, on what is read from the head h on.
 pub fn erase_free(image: &mut [u8], h: usize, m: Meter) -> Meter
-    requires { ⌜ (h < length (now image)) × (16 ≤ length (now image)) × (length (now image) ≤ 2 ^ 24) × (m .asked + 2 * length (now image) + 2 ≤ 2 ^ 32) ⌝ }
-    ensures { λ r. ⌜ Did (now (image .entry)) m (steps-1 (now (image .entry)) (reading-from (now (image .entry)) h)) (now (image .exit)) r × (r .asked ≤ m .asked + 2 * length (now (image .entry)) + 2) ⌝ }
+    requires { ⌜ Readable (now image) h ⌝ }
+    requires { ⌜ Counts m (2 * length (now image) + 2) ⌝ }
+    ensures { λ r. ⌜ (let s = now (image .entry) in Did s m (steps-1 s (reading-from s h)) (now (image .exit)) r) ⌝ }
+    ensures { λ r. ⌜ r .asked ≤ m .asked + (2 * length (now (image .entry)) + 2) ⌝ }
 {
     let s = survey(image, h);
     let t = s.tally;

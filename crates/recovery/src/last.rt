@@ -1,7 +1,7 @@
 // Repair 3: the last thing of the chain, which is torn, reserved or a torn wrap.
 use flash::Meter;
-use flash::clear_by;
 use flash::program;
+use flash::program_bytes;
 use reading::Spot;
 use reading::Tally;
 use reading::image::survey;
@@ -9,11 +9,12 @@ use spec::Ending;
 use spec::HIGH;
 use spec::RECORD;
 use spec::Status;
+use writing::build::void_status;
 use writing::build::write_end;
 use writing::build::write_marker;
-ghost use Prim.Native.Nat.{_+_, _≤_, _<_, _^_};
+ghost use Prim.Native.Nat.{_+_, _≤_, _<_};
 ghost use lib.ListN.{length};
-ghost use Rattle.spec.specs.Step.{moved};
+ghost use Rattle.spec.specs.Step.{shifted};
 ghost use Rattle.spec.specs.Chain.{reading-from};
 ghost use Rattle.spec.specs.Mount.{torn-steps, missing-steps, reserved-steps, void-steps, last-steps, torn-wrap-steps};
 ghost use Rattle.flash.specs.Did.{Did};
@@ -21,45 +22,38 @@ ghost use Rattle.reading.specs.Rest.{entry-of, rest};
 ghost use Rattle.reading.specs.Fold.{Whole};
 ghost use Rattle.reading.specs.Read.{Tallied, first-cursor};
 ghost use Rattle.reading.specs.Survey.{Torn-inside};
-ghost use Rattle.recovery.specs.Last.{zero-steps};
+ghost use Rattle.writing.specs.Counts.{Counts};
+ghost use Rattle.recovery.specs.Readable.{Readable};
 ghost use Rattle.recovery.specs.Repairs.{steps-3};
 
-// The four length bytes, of the record that begins with the part.
-fn zero_lengths(part: &mut [u8], m: Meter) -> Meter
-    requires { ⌜ (7 < length (now part)) × (m .asked + 4 ≤ 2 ^ 32) ⌝ }
-    ensures { λ r. ⌜ Did (now (part .entry)) m zero-steps (now (part .exit)) r ⌝ }
-{
-    let a = program(part, 4, 0x00, m);
-    let b = program(part, 5, 0x00, a);
-    let c = program(part, 6, 0x00, b);
-    program(part, 7, 0x00, c)
-}
-
-// A torn record becomes a dead one with no name and no data: nine steps, always all. The status loses its top bit first,
-// so that no cut inside it leaves a status that counts as live.
+// A torn record becomes a dead one with no name and no data: nine steps, always all.
 fn build_void(part: &mut [u8], m: Meter) -> Meter
-    requires { ⌜ (8 < length (now part)) × (m .asked + 9 ≤ 2 ^ 32) ⌝ }
+    requires { ⌜ 8 < length (now part) ⌝ }
+    requires { ⌜ Counts m 9 ⌝ }
     ensures { λ r. ⌜ Did (now (part .entry)) m torn-steps (now (part .exit)) r ⌝ }
 {
+    let zeros = [0u8; 5];
     let a = program(part, 0, RECORD, m);
     let b = program(part, 1, HIGH, a);
-    let c = zero_lengths(part, b);
-    let d = program(part, 8, 0x00, c);
-    clear_by(part, 2, 0x7F, d)
+    let c = program_bytes(part, 4, &zeros, b);
+    void_status(part, 0, Status::ERASED, c)
 }
 
 // The image from the torn record's start on is lent to the function above.
 fn void_torn(image: &mut [u8], at: usize, m: Meter) -> Meter
-    requires { ⌜ (at + 8 < length (now image)) × (m .asked + 9 ≤ 2 ^ 32) ⌝ }
-    ensures { λ r. ⌜ Did (now (image .entry)) m (moved at torn-steps) (now (image .exit)) r ⌝ }
+    requires { ⌜ at + 8 < length (now image) ⌝ }
+    requires { ⌜ Counts m 9 ⌝ }
+    ensures { λ r. ⌜ Did (now (image .entry)) m (shifted at torn-steps) (now (image .exit)) r ⌝ }
 {
     build_void(&mut image[at..], m)
 }
 
 // The 00 that ends a name, if it is missing.
 fn end_name(image: &mut [u8], at: usize, m: Meter) -> Meter
-    requires { ⌜ (at < length (now image)) × (m .asked + 2 ≤ 2 ^ 32) ⌝ }
-    ensures { λ r. ⌜ Did (now (image .entry)) m (missing-steps (now (image .entry)) at) (now (image .exit)) r × (r .asked ≤ m .asked + 2) ⌝ }
+    requires { ⌜ at < length (now image) ⌝ }
+    requires { ⌜ Counts m 2 ⌝ }
+    ensures { λ r. ⌜ (let s = now (image .entry) in Did s m (missing-steps s at) (now (image .exit)) r) ⌝ }
+    ensures { λ r. ⌜ r .asked ≤ m .asked + 2 ⌝ }
 {
     if image[at] == 0x00 {
         return m;
@@ -67,19 +61,23 @@ fn end_name(image: &mut [u8], at: usize, m: Meter) -> Meter
     write_end(image, at, m)
 }
 
-// Its name gets an end, and its status loses the top bit first, as a torn record's does.
+// A reserved record's name gets an end, and its status goes.
 fn void_reserved(image: &mut [u8], e: Spot, m: Meter) -> Meter
-    requires { ⌜ Whole (now image) e × (m .asked + 4 ≤ 2 ^ 32) ⌝ }
-    ensures { λ r. ⌜ Did (now (image .entry)) m (reserved-steps (now (image .entry)) (entry-of (now (image .entry)) e)) (now (image .exit)) r × (r .asked ≤ m .asked + 4) ⌝ }
+    requires { ⌜ Whole (now image) e ⌝ }
+    requires { ⌜ Counts m 4 ⌝ }
+    ensures { λ r. ⌜ (let s = now (image .entry) in Did s m (reserved-steps s (entry-of s e)) (now (image .exit)) r) ⌝ }
+    ensures { λ r. ⌜ r .asked ≤ m .asked + 4 ⌝ }
 {
     let a = end_name(image, e.at + (8 + e.n), m);
-    clear_by(image, e.at + 2, 0x7E, a)
+    void_status(image, e.at, Status::RESERVED, a)
 }
 
 // A record that is torn, reserved or finished.
 fn void_record(image: &mut [u8], e: Spot, m: Meter) -> Meter
-    requires { ⌜ Whole (now image) e × (m .asked + 9 ≤ 2 ^ 32) ⌝ }
-    ensures { λ r. ⌜ Did (now (image .entry)) m (void-steps (now (image .entry)) (entry-of (now (image .entry)) e)) (now (image .exit)) r × (r .asked ≤ m .asked + 9) ⌝ }
+    requires { ⌜ Whole (now image) e ⌝ }
+    requires { ⌜ Counts m 9 ⌝ }
+    ensures { λ r. ⌜ (let s = now (image .entry) in Did s m (void-steps s (entry-of s e)) (now (image .exit)) r) ⌝ }
+    ensures { λ r. ⌜ r .asked ≤ m .asked + 9 ⌝ }
 {
     let status = image[e.at + 2];
     if status == Status::ERASED.byte {
@@ -93,8 +91,11 @@ fn void_record(image: &mut [u8], e: Spot, m: Meter) -> Meter
 
 // The last of the records that the tally counts.
 fn void_counted(image: &mut [u8], t: Tally, h: usize, m: Meter) -> Meter
-    requires { ⌜ Tallied (now image) (first-cursor (now image) h) t × (m .asked + 9 ≤ 2 ^ 32) ⌝ }
-    ensures { λ r. ⌜ Did (now (image .entry)) m (last-steps (now (image .entry)) (rest (now (image .entry)) (first-cursor (now (image .entry)) h) .entries)) (now (image .exit)) r × (r .asked ≤ m .asked + 9) ⌝ }
+    requires { ⌜ Tallied (now image) (first-cursor (now image) h) t ⌝ }
+    requires { ⌜ Counts m 9 ⌝ }
+    ensures { λ r. ⌜ (let s = now (image .entry) in
+        Did s m (last-steps s (rest s (first-cursor s h) .entries)) (now (image .exit)) r) ⌝ }
+    ensures { λ r. ⌜ r .asked ≤ m .asked + 9 ⌝ }
 {
     if t.records == 0 {
         return m;
@@ -105,20 +106,23 @@ fn void_counted(image: &mut [u8], t: Tally, h: usize, m: Meter) -> Meter
 
 // A torn wrap marker is written over with all its bytes.
 fn finish_wrap(image: &mut [u8], ending: Ending, m: Meter) -> Meter
-    requires { ⌜ Torn-inside (length (now image)) ending × (m .asked + 3 ≤ 2 ^ 32) ⌝ }
-    ensures { λ r. ⌜ Did (now (image .entry)) m (torn-wrap-steps ending) (now (image .exit)) r × (r .asked ≤ m .asked + 3) ⌝ }
+    requires { ⌜ Torn-inside (length (now image)) ending ⌝ }
+    requires { ⌜ Counts m 3 ⌝ }
+    ensures { λ r. ⌜ Did (now (image .entry)) m (torn-wrap-steps ending) (now (image .exit)) r ⌝ }
+    ensures { λ r. ⌜ r .asked ≤ m .asked + 3 ⌝ }
 {
     match ending {
-        Ending::Tail => m,
         Ending::TornWrap(at) => write_marker(image, at, m),
-        Ending::Broken => m,
+        _ => m,
     }
 }
 
 // The repair, on what is read from the head h on.
 pub fn void_last(image: &mut [u8], h: usize, m: Meter) -> Meter
-    requires { ⌜ (h ≤ length (now image)) × (16 ≤ length (now image)) × (length (now image) ≤ 2 ^ 24) × (m .asked + 12 ≤ 2 ^ 32) ⌝ }
-    ensures { λ r. ⌜ Did (now (image .entry)) m (steps-3 (now (image .entry)) (reading-from (now (image .entry)) h)) (now (image .exit)) r × (r .asked ≤ m .asked + 12) ⌝ }
+    requires { ⌜ Readable (now image) h ⌝ }
+    requires { ⌜ Counts m 12 ⌝ }
+    ensures { λ r. ⌜ (let s = now (image .entry) in Did s m (steps-3 s (reading-from s h)) (now (image .exit)) r) ⌝ }
+    ensures { λ r. ⌜ r .asked ≤ m .asked + 12 ⌝ }
 {
     let s = survey(image, h);
     let t = s.tally;

@@ -1,58 +1,55 @@
 // What mount repairs, in its order: the free run, an unfinished move, the last thing, superseded files.
 // Each repair reads the image that those before it left, from the head they left.
-pub mod close;
+mod finish;
 mod free;
-mod hand;
 mod last;
-pub mod sectors;
-mod start;
+mod sectors;
 mod superseded;
 
+use finish::finish_move;
 use flash::Meter;
 use free::erase_free;
-use hand::hand_over;
 use last::void_last;
+use moving::NewHead;
 use reading::files::count_files;
 use reading::image::first_cursor;
 use reading::image::survey;
 use superseded::drop_superseded;
 ghost use Prim.Native.Nat.{_≤_, _<_, _^_};
 ghost use lib.ListN.{length};
+ghost use Rattle.recovery.specs.Readable.{Readable};
 ghost use Rattle.recovery.specs.Mended.{Mends};
 ghost use Rattle.recovery.specs.Counted.{Counted};
 
-// The head that a repair left, and the meter.
-pub struct Progress {
-    pub head: usize,
-    pub meter: Meter,
-}
-
 // The four repairs. The next one reads what those before it left, so none begins once the allowance is used up.
-fn repair(image: &mut [u8], head: usize, m: Meter) -> Progress
-    requires { ⌜ (head < length (now image)) × (16 ≤ length (now image)) × (length (now image) ≤ 2 ^ 24) × (m .asked ≤ 2 ^ 24) × (m .asked ≤ m .allowance) ⌝ }
-    ensures { λ r. ⌜ Mends (now (image .entry)) head m (now (image .exit)) (r .head) (r .meter) × (r .head < length (now (image .entry))) ⌝ }
+fn repair(image: &mut [u8], head: usize, m: Meter) -> NewHead
+    requires { ⌜ Readable (now image) head ⌝ }
+    requires { ⌜ m .asked ≤ 2 ^ 24 ⌝ }
+    requires { ⌜ m .asked ≤ m .allowance ⌝ }
+    ensures { λ r. ⌜ Mends (now (image .entry)) head m (now (image .exit)) (r .head) (r .meter) ⌝ }
+    ensures { λ r. ⌜ r .head < length (now (image .entry)) ⌝ }
 {
     let a = erase_free(image, head, m);
     if a.allowance < a.asked {
-        return Progress {
+        return NewHead {
             head: head,
             meter: a,
         };
     }
-    let p = hand_over(image, head, a);
+    let p = finish_move(image, head, a);
     let b = p.meter;
     if b.allowance < b.asked {
         return p;
     }
     let c = void_last(image, p.head, b);
     if c.allowance < c.asked {
-        return Progress {
+        return NewHead {
             head: p.head,
             meter: c,
         };
     }
     let d = drop_superseded(image, p.head, c);
-    Progress {
+    NewHead {
         head: p.head,
         meter: d,
     }
@@ -68,7 +65,9 @@ pub struct Mended {
 
 // Mount, on an image that was read from this head.
 pub fn mend(image: &mut [u8], head: usize, m: Meter) -> Mended
-    requires { ⌜ (head < length (now image)) × (16 ≤ length (now image)) × (length (now image) ≤ 2 ^ 24) × (m .asked ≤ 2 ^ 24) × (m .asked ≤ m .allowance) ⌝ }
+    requires { ⌜ Readable (now image) head ⌝ }
+    requires { ⌜ m .asked ≤ 2 ^ 24 ⌝ }
+    requires { ⌜ m .asked ≤ m .allowance ⌝ }
     ensures { λ r. ⌜ Counted (now (image .entry)) head m (now (image .exit)) r ⌝ }
 {
     let p = repair(image, head, m);

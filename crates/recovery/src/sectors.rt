@@ -4,19 +4,21 @@ use flash::erase;
 use flash::is_blank;
 use spec::SECTOR;
 ghost use mathlib.Core.Path.{_≡_};
-ghost use mathlib.Core.List.{[], _∷_, map};
+ghost use mathlib.Core.List.{[], _∷_};
 ghost use Prim.Native.Nat.{ℕ, _+_, _≤_, _<_, _^_};
 ghost use lib.ListN.{length, drop};
-ghost use Rattle.spec.specs.Step.{Step};
-ghost use Rattle.spec.specs.Basics.{keep};
 ghost use Rattle.spec.specs.Geometry.{sectors};
-ghost use Rattle.spec.specs.Mount.{dirty};
 ghost use Rattle.flash.specs.Did.{Did};
+ghost use Rattle.writing.specs.Counts.{Counts};
+ghost use Rattle.recovery.specs.Sectors.{dirty-erased};
 
 // The sector at this address, unless it is all FF already.
 fn erase_if_dirty(image: &mut [u8], at: usize, m: Meter) -> Meter
-    requires { ⌜ (at + 4096 ≤ length (now image)) × (at ≤ 2 ^ 24) × (m .asked < 2 ^ 32) ⌝ }
-    ensures { λ r. ⌜ Did (now (image .entry)) m (map Step.erase (keep (dirty (now (image .entry))) (at ∷ []))) (now (image .exit)) r × (r .asked ≤ m .asked + 1) × ((k : ℕ) → at + 4096 ≤ k → drop k (now (image .exit)) ≡ drop k (now (image .entry))) ⌝ }
+    requires { ⌜ (at + 4096 ≤ length (now image)) × (at ≤ 2 ^ 24) ⌝ }
+    requires { ⌜ Counts m 1 ⌝ }
+    ensures { λ r. ⌜ (let s = now (image .entry) in Did s m (dirty-erased s (at ∷ [])) (now (image .exit)) r) ⌝ }
+    ensures { λ r. ⌜ r .asked ≤ m .asked + 1 ⌝ }
+    ensures { λ r. ⌜ ((k : ℕ) → at + 4096 ≤ k → drop k (now (image .exit)) ≡ drop k (now (image .entry))) ⌝ }
 {
     let end = at + SECTOR;
     if is_blank(&image[at..end]) {
@@ -27,8 +29,11 @@ fn erase_if_dirty(image: &mut [u8], at: usize, m: Meter) -> Meter
 
 // Those of the sectors that are not all FF. What stands from `to` on stays as it was.
 pub fn erase_dirty(image: &mut [u8], from: usize, to: usize, m: Meter) -> Meter
-    requires { ⌜ (from ≤ 2 ^ 24) × (to ≤ length (now image)) × (to ≤ 2 ^ 24) × (m .asked + to ≤ 2 ^ 32) ⌝ }
-    ensures { λ r. ⌜ Did (now (image .entry)) m (map Step.erase (keep (dirty (now (image .entry))) (sectors from to))) (now (image .exit)) r × (r .asked ≤ m .asked + to) × (drop to (now (image .exit)) ≡ drop to (now (image .entry))) ⌝ }
+    requires { ⌜ (from ≤ 2 ^ 24) × (to ≤ length (now image)) × (to ≤ 2 ^ 24) ⌝ }
+    requires { ⌜ Counts m to ⌝ }
+    ensures { λ r. ⌜ (let s = now (image .entry) in Did s m (dirty-erased s (sectors from to)) (now (image .exit)) r) ⌝ }
+    ensures { λ r. ⌜ r .asked ≤ m .asked + to ⌝ }
+    ensures { λ r. ⌜ drop to (now (image .exit)) ≡ drop to (now (image .entry)) ⌝ }
 {
     let mut q = m;
     let mut a = from;

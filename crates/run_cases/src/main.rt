@@ -57,9 +57,10 @@ fn mounted(image: &mut [u8]) {
     let m = mount(image, ENOUGH);
     number(m.answer() as usize);
     number(m.steps());
-    number(m.head());
-    number(m.tail());
-    number(m.files());
+    let r = m.report();
+    number(r.head);
+    number(r.tail);
+    number(r.files);
 }
 
 // A put within an allowance, the mount after it, and what get then gives of that name.
@@ -70,7 +71,8 @@ fn put_row(image: &mut [u8], name: &[u8], content: &[u8], allowance: usize) {
     mounted(image);
     let h = get_place(image, name);
     number(h.answer as usize);
-    number(h.length);
+    let x = h.extent;
+    number(x.length);
     first_bytes(get(image, name));
 }
 

@@ -36,7 +36,8 @@ tail-test p s h = go (leb s (limit p - p .tail)) refl where
   go true e = sym (le-leb (p .tail + s) (limit p) (omega (arith, leb-true s (limit p - p .tail) e)))
   go false e = sym (lt-leb (p .tail + s) (limit p) (omega (arith, leb-false s (limit p - p .tail) e)))
 
-pub after-as : (p : Place) (s a : ℕ) (t : Bool) → fits-at-tail p s ≡ t → address p s ≡ a → place-after p s ≡ with-tail p (a + s) (p .turned || not t)
+pub after-as : (p : Place) (s a : ℕ) (t : Bool) → fits-at-tail p s ≡ t → address p s ≡ a
+    → place-after p s ≡ with-tail p (a + s) (p .turned || not t)
 unfolding place-after
 after-as p s a t e ea = ap₂ (λ (n : ℕ) (b : Bool). with-tail p (n + s) (p .turned || not b)) ea e
 

@@ -1,19 +1,24 @@
 -- Tests on lists, and a result that may be a refusal. Nothing here is of document 01 itself.
+use Rattle.spec.specs.declared.Refusal.{Refusal}
 use Rattle.spec.specs.Prelude.{ℕ, zero, suc, Bool, true, false, Option, none, some, List, [], _∷_, _++_, take, drop, eqb}
 
--- a value, or a refusal with its number
+-- a value, or a refusal with all that it gives back
 pub data Answer (A : Type 0) : Type 0 where
-  refuse : ℕ → Answer A
+  refuse : Refusal → Answer A
   give : A → Answer A
 
--- go on if the test passes, else refuse with number n
-abbrev pub checked : {A : Type 0} → Bool → ℕ → Answer A → Answer A
-checked true n a = a
-checked false n a = refuse n
+-- the refusal that gives back no more than its number
+abbrev pub numbered : ℕ → Refusal
+numbered n = record { number = n }
+
+-- go on if the test passes, else refuse
+abbrev pub checked : {A : Type 0} → Bool → Refusal → Answer A → Answer A
+checked true x a = a
+checked false x a = refuse x
 
 -- go on with the value; a refusal stays
 abbrev pub onward : {A B : Type 0} → Answer A → (A → Answer B) → Answer B
-onward (refuse n) f = refuse n
+onward (refuse x) f = refuse x
 onward (give a) f = f a
 
 -- the bytes of s from address a up to b

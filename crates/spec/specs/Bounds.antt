@@ -8,8 +8,8 @@ use Rattle.spec.specs.Chain.{Reading}
 use Rattle.spec.specs.Reading.{reading}
 use Rattle.spec.specs.Files.{file-named}
 use Rattle.spec.specs.Place.{with-marker}
-use Rattle.spec.specs.Answers.{Plan, format, mount, put, remove, sweep, settled-reading}
-use Rattle.spec.specs.Answers.{format-plan, mount-plan, put-plan, remove-plan, sweep-plan}
+use Rattle.spec.specs.Answers.{Plan, format, mount, put, remove, sweep, format-plan, mount-plan, put-plan, remove-plan, sweep-plan}
+use Rattle.spec.specs.Door.{settled-reading}
 use Rattle.spec.specs.History.{Call, replay, steps-of, three-if}
 use Rattle.spec.specs.Demand.{Bytes-put}
 

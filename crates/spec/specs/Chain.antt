@@ -15,17 +15,17 @@ use Rattle.spec.specs.Next.{next}
 -- records one after another; whether the last of them is unfinished (torn or reserved); the place and the thing that ends them
 pub record Chain : Type 0 where
   pub entries : List Entry
-  pub held : Bool
+  pub pending : Bool
   pub tail : ℕ
   pub last : Next
 
 abbrev pub add : Entry → Chain → Chain
-add e c = record { entries = e ∷ c .entries; held = c .held; tail = c .tail; last = c .last }
+add e c = record { entries = e ∷ c .entries; pending = c .pending; tail = c .tail; last = c .last }
 
 abbrev pub stop : Bool → ℕ → Next → Chain
-stop held at x = record { entries = []; held = held; tail = at; last = x }
+stop pending at x = record { entries = []; pending = pending; tail = at; last = x }
 
--- "Last thing in the chain only, markers counted": behind an unfinished record (held) only an end may stand
+-- "Last thing in the chain only, markers counted": behind an unfinished record (pending) only an end may stand
 abbrev pub allowed : Bool → Next → Next
 allowed false x = x
 allowed true (Next.Record n d) = Next.Bad
@@ -35,18 +35,18 @@ allowed true Next.Clear = Next.Clear
 allowed true Next.Over = Next.Over
 allowed true Next.Bad = Next.Bad
 
--- "each record ends where the next begins": from address at, where s stands; held: an unfinished record stands before it; k bounds their number
+-- "each record ends where the next begins": from address at, where s stands; pending: an unfinished record stands before it; k bounds their number
 unfoldable pub chain : ℕ → Bool → ℕ → List ℕ → Chain
-chain zero held at s = stop held at Next.Bad
-chain (suc k) held at s =
-    elim (allowed held (next s)) [
+chain zero pending at s = stop pending at Next.Bad
+chain (suc k) pending at s =
+    elim (allowed pending (next s)) [
       | Next.Record n d ↦
           add (record { at = at; it = rec-of s n d }) (chain k (is-unfinished (status-of s)) (at + size-of n d) (drop (size-of n d) s))
-      | Next.Wrap ↦ stop held at Next.Wrap
-      | Next.TornWrap ↦ stop held at Next.TornWrap
-      | Next.Clear ↦ stop held at Next.Clear
-      | Next.Over ↦ stop held at Next.Over
-      | Next.Bad ↦ stop held at Next.Bad
+      | Next.Wrap ↦ stop pending at Next.Wrap
+      | Next.TornWrap ↦ stop pending at Next.TornWrap
+      | Next.Clear ↦ stop pending at Next.Clear
+      | Next.Over ↦ stop pending at Next.Over
+      | Next.Bad ↦ stop pending at Next.Bad
     ]
 
 -- ---- the whole chain
@@ -67,15 +67,15 @@ ended Next.Over = Ending.Tail
 ended Next.Bad = Ending.Broken
 
 abbrev pub read : ℕ → ℕ → ℕ → Bool → List Entry → Ending → Reading
-read N h T turned es e = record { place = record { head = h; tail = T; turned = turned; length = N }; entries = es; ending = e }
+read N h T read-turned es e = record { place = record { head = h; tail = T; turned = read-turned; length = N }; entries = es; ending = e }
 
 -- no turn: the chain ends where c does
-abbrev pub unturned : ℕ → ℕ → Chain → Reading
-unturned N h c = read N h (c .tail) false (c .entries) (ended (c .last))
+abbrev pub read-straight : ℕ → ℕ → Chain → Reading
+read-straight N h c = read N h (c .tail) false (c .entries) (ended (c .last))
 
 -- the chain goes on at 0 and ends where d does; "a marker after the turn is refusal 5"
-abbrev pub turned : ℕ → ℕ → Chain → Chain → Reading
-turned N h c d = read N h (d .tail) true (c .entries ++ d .entries) (ended (d .last))
+abbrev pub read-turned : ℕ → ℕ → Chain → Chain → Reading
+read-turned N h c d = read N h (d .tail) true (c .entries ++ d .entries) (ended (d .last))
 
 -- "Torn wrap: .. T is then 0"
 abbrev pub turn-torn : ℕ → ℕ → Chain → Reading
@@ -85,12 +85,12 @@ turn-torn N h c = read N h 0 true (c .entries) (Ending.TornWrap (c .tail))
 unfoldable pub joined : ℕ → ℕ → Chain → Chain → Reading
 joined N h c d =
     elim (c .last) [
-      | Next.Record n l ↦ unturned N h c
-      | Next.Wrap ↦ turned N h c d
+      | Next.Record n l ↦ read-straight N h c
+      | Next.Wrap ↦ read-turned N h c d
       | Next.TornWrap ↦ turn-torn N h c
-      | Next.Clear ↦ unturned N h c
-      | Next.Over ↦ turned N h c d
-      | Next.Bad ↦ unturned N h c
+      | Next.Clear ↦ read-straight N h c
+      | Next.Over ↦ read-turned N h c d
+      | Next.Bad ↦ read-straight N h c
     ]
 
 -- the chain from h up to the turn, and from 0 on; the records of an image are fewer than its bytes
@@ -98,14 +98,14 @@ abbrev pub from-head : Image → ℕ → Chain
 from-head image h = chain (suc (length image)) false h (drop h image)
 
 abbrev pub from-zero : Image → ℕ → Bool → Chain
-from-zero image h held = chain (suc (length image)) held 0 (take (floor h) image)
+from-zero image h pending = chain (suc (length image)) pending 0 (take (floor h) image)
 
 -- c is the chain from h; "with floor(h) = 0 a chain at N ends with T = N", and a marker, torn or not, is refusal 5
 unfoldable pub read-on : Image → ℕ → Chain → Reading
 read-on image h c =
     elim (eqb (floor h) 0) [
-      | true ↦ unturned (length image) h c
-      | false ↦ joined (length image) h c (from-zero image h (c .held))
+      | true ↦ read-straight (length image) h c
+      | false ↦ joined (length image) h c (from-zero image h (c .pending))
     ]
 
 -- all that is read from the head h on

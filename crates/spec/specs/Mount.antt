@@ -2,7 +2,7 @@
 use Rattle.spec.specs.Prelude.{ℕ, _+_, _-_, Bool, true, false, not, List, [], _∷_, _++_, map, length, getD, eqb}
 use Rattle.spec.specs.declared.Ending.{Ending}
 use Rattle.spec.specs.declared.Place.{Place}
-use Rattle.spec.specs.Step.{Image, Step, program, erase, moved}
+use Rattle.spec.specs.Step.{Image, Step, program, erase, shifted}
 use Rattle.spec.specs.Basics.{empty, keep}
 use Rattle.spec.specs.Geometry.{floor, ceiling, sectors}
 use Rattle.spec.specs.Bytes.{is-start, is-clean, is-erased, is-reserved}
@@ -77,7 +77,7 @@ reserved-steps image e = missing-steps image (e .at + (8 + length (name-of e))) 
 unfoldable pub void-steps : Image → Entry → List Step
 void-steps image e =
     elim (is-erased (e .it .status)) [
-      | true ↦ moved (e .at) torn-steps
+      | true ↦ shifted (e .at) torn-steps
       | false ↦ elim (is-reserved (e .it .status)) [ true ↦ reserved-steps image e | false ↦ [] ]
     ]
 
@@ -90,7 +90,7 @@ last-steps image (e ∷ (f ∷ es)) = last-steps image (f ∷ es)
 -- "Torn wrap: 5A, F0", "its repair programs that byte" (the first) "first, always": the marker's own 3 steps
 abbrev pub torn-wrap-steps : Ending → List Step
 torn-wrap-steps Ending.Tail = []
-torn-wrap-steps (Ending.TornWrap a) = moved a marker-steps
+torn-wrap-steps (Ending.TornWrap a) = shifted a marker-steps
 torn-wrap-steps Ending.Broken = []
 
 unfoldable pub repair-3 : Work → Work

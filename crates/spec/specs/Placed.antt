@@ -10,7 +10,7 @@ unfoldable pub placed : Place → ℕ → Placed
 placed p s = elim (fits p s) [ true ↦ At (address p s) (with-marker p s) (place-after p s) | false ↦ Full ]
 
 -- what every reading gives: the head lies inside an image of a good length
-pub record Sound (p : Place) : Type 0 where
+pub record Place-sound (p : Place) : Type 0 where
   pub inside : p .head < p .length
   pub short : p .length ≤ 16777216
 

@@ -6,7 +6,8 @@ use Rattle.spec.specs.Step.{Image}
 use Rattle.spec.specs.Basics.{give, keep, Each}
 use Rattle.spec.specs.Chain.{Reading}
 use Rattle.spec.specs.Place.{begins-there}
-use Rattle.spec.specs.Answers.{format, put, sweep, sweep-plan, settled-reading}
+use Rattle.spec.specs.Answers.{format, put, sweep, sweep-plan}
+use Rattle.spec.specs.Door.{settled-reading}
 use Rattle.spec.specs.History.{Call, replay, steps-of}
 use Rattle.spec.specs.Demand.{Bytes-put}
 
@@ -31,7 +32,7 @@ Answers-0 image (k ∷ ks) = (sweep image k .numbers .answer ≡ 0) × Answers-0
 -- their finished moves: each leaves one record behind, the first of the chain
 abbrev pub moves-made : Image → List ℕ → ℕ
 moves-made image [] = 0
-moves-made image (k ∷ ks) = sweep image k .numbers .first + moves-made (sweep image k .image) ks
+moves-made image (k ∷ ks) = sweep image k .numbers .moves + moves-made (sweep image k .image) ks
 
 -- a settled image, on which so many sweeps get past all records that begin in the head's sector
 pub record Passes (image : Image) : Type 0 where

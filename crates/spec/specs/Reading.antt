@@ -3,7 +3,7 @@ use Rattle.spec.specs.Prelude.{ℕ, _+_, min, Bool, true, false, _&&_, _
 use Rattle.spec.specs.declared.Ending.{Ending}
 use Rattle.spec.specs.declared.Place.{Place}
 use Rattle.spec.specs.Step.{Image}
-use Rattle.spec.specs.Basics.{Answer, give, checked, onward, part, blank, any, all}
+use Rattle.spec.specs.Basics.{Answer, give, numbered, checked, onward, part, blank, any, all}
 use Rattle.spec.specs.Geometry.{floor}
 use Rattle.spec.specs.Bytes.{is-start, is-clean}
 use Rattle.spec.specs.Record.{name-ok, Entry, name-of}
@@ -84,7 +84,7 @@ unfoldable pub legal : Image → Reading → Bool
 legal image r = whole (r .ending) && names-ok (r .entries) && single (r .entries) && marks-ok (r .entries) && free-ok image r
 
 unfoldable pub judged : Image → Reading → Answer Reading
-judged image r = checked (legal image r) 5 (give r)
+judged image r = checked (legal image r) (numbered 5) (give r)
 
 -- from this head on
 abbrev pub read-at : Image → ℕ → Answer Reading

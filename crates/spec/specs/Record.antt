@@ -44,9 +44,9 @@ size-of n d = 8 + up8 (n + 1) + up8 d
 
 -- the length of the name at the front of s, or k if none of its first k bytes ends it
 unfoldable pub name-length : ℕ → Bool → List ℕ → ℕ
-name-length zero held s = 0
-name-length (suc k) held [] = suc k
-name-length (suc k) held (b ∷ s) = elim (ends-name held b) [ true ↦ 0 | false ↦ suc (name-length k held s) ]
+name-length zero reserved s = 0
+name-length (suc k) reserved [] = suc k
+name-length (suc k) reserved (b ∷ s) = elim (ends-name reserved b) [ true ↦ 0 | false ↦ suc (name-length k reserved s) ]
 
 -- "the last not '/'"
 unfoldable pub ends-in-slash : List ℕ → Bool

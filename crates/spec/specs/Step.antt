@@ -30,7 +30,7 @@ bytes-at a [] = []
 bytes-at a (b ∷ w) = program a b ∷ bytes-at (a + 1) w
 
 -- steps whose addresses count from a record's start, for the record at address a
-abbrev pub moved : ℕ → List Step → List Step
-moved a [] = []
-moved a (program i b ∷ ss) = program (a + i) b ∷ moved a ss
-moved a (erase i ∷ ss) = erase (a + i) ∷ moved a ss
+abbrev pub shifted : ℕ → List Step → List Step
+shifted a [] = []
+shifted a (program i b ∷ ss) = program (a + i) b ∷ shifted a ss
+shifted a (erase i ∷ ss) = erase (a + i) ∷ shifted a ss

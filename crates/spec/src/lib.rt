@@ -2,6 +2,7 @@
 // Nothing here reads or writes an image; the layers above are proved against what stands here.
 ghost use mathlib.Core.Path.{_≡_};
 ghost use Prim.Native.Nat.{_≤_};
+ghost use lib.Dec.{eqb};
 ghost use Rattle.spec.specs.Geometry.{floor};
 ghost use Rattle.spec.specs.Reading.{limit};
 ghost use Rattle.spec.specs.Place.{fits-at-tail};
@@ -77,19 +78,23 @@ impl Place {
         ensures { λ r. ⌜ r ≡ placed self size ⌝ }
     {
         if self.fits_at_tail(size) {
-            return Placed::At(self.tail, false, self.moved(self.tail + size, self.turned));
+            return Placed::At(
+                self.tail,
+                false,
+                self.with_tail(self.tail + size, self.turned),
+            );
         }
         if self.turned {
             return Placed::Full;
         }
         if size <= floor(self.head) {
-            return Placed::At(0, self.tail < self.length, self.moved(size, true));
+            return Placed::At(0, self.tail < self.length, self.with_tail(size, true));
         }
         Placed::Full
     }
 
-    // The same with another tail.
-    fn moved(self, tail: usize, turned: bool) -> Place
+    // The same place with another tail, turned or not.
+    fn with_tail(self, tail: usize, turned: bool) -> Place
         ensures { λ r. ⌜ r ≡ with-tail self tail turned ⌝ }
     {
         Place {
@@ -99,6 +104,24 @@ impl Place {
             length: self.length,
         }
     }
+}
+
+// What a refusal gives back: document 01's number.
+pub struct Refusal {
+    pub number: u32,
+}
+
+// What mount reports of the image it leaves: head, tail, the number of live files.
+pub struct Report {
+    pub head: usize,
+    pub tail: usize,
+    pub files: usize,
+}
+
+// A stretch of the image.
+pub struct Extent {
+    pub offset: usize,
+    pub length: usize,
 }
 
 // A record's status byte.
@@ -127,6 +150,13 @@ impl Status {
         ensures { λ r. ⌜ r .byte ≡ byte ⌝ }
     {
         Status { byte: byte }
+    }
+
+    // Whether it is the other status.
+    pub fn is(self, other: Status) -> bool
+        ensures { λ r. ⌜ r ≡ eqb (self .byte) (other .byte) ⌝ }
+    {
+        self.byte == other.byte
     }
 }
 

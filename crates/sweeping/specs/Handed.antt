@@ -2,75 +2,38 @@
 use Prim.Native.Nat.{ℕ, _+_, _*_, _≤_, _<_}
 use native.Mathlib.Omega.{arith}
 use mathlib.Core.Path.{_≡_, refl, sym, ap, ap₂, _∙_}
-use mathlib.Core.Bool.{Bool, true, false}
 use mathlib.Core.Logic.{_⊎_, inl, inr, ⊎-elim}
-use mathlib.Core.List.{List, [], _∷_, _++_, map}
-use lib.ListN.{length, take, drop, getD, set, length-set}
-use lib.Seq.{getD-set-same, getD-set-other}
-use lib.Dec.{eqb}
-use borrow.Author.Tests.{eqb-true, eqb-false}
-use Rattle.spec.specs.Step.{Image, Step, program, erase, run}
-use Rattle.spec.specs.Geometry.{up8, floor, sectors}
-use Rattle.spec.specs.Record.{size-of, Entry, content-of, data-at}
+use mathlib.Core.List.{List, [], _∷_}
+use lib.ListN.{length, take, drop, getD}
+use Rattle.spec.specs.Step.{Image, Step, program, run}
+use Rattle.spec.specs.Geometry.{up8}
+use Rattle.spec.specs.Record.{size-of, Entry}
 use Rattle.spec.specs.Chain.{reading-from}
-use Rattle.spec.specs.Move.{clean-steps, vacated, forget-steps, vacate-steps, close-steps}
+use Rattle.spec.specs.Move.{clean-steps, close-steps}
 use Rattle.flash.specs.declared.Meter.{Meter}
 use Rattle.flash.specs.Did.{Did, did-none, did-both, did-all}
 use Rattle.reading.specs.declared.Cursor.{Cursor}
 use Rattle.reading.specs.declared.Spot.{Spot}
-use Rattle.reading.specs.declared.Step as chain
+use Rattle.reading.specs.declared.Item.{Item}
 use Rattle.reading.specs.Cursor.{advance}
 use Rattle.reading.specs.Rest.{Run, entry-of, rest}
 use Rattle.reading.specs.Fold.{Not-record, rest-done}
 use Rattle.reading.specs.Read.{first-cursor}
-use Rattle.writing.specs.Kept.{kept}
-use Rattle.recovery.specs.Close.{end-before, leave-steps, close-is}
-use Rattle.sweeping.specs.declared.Moved.{Moved}
-use Rattle.sweeping.specs.Way.{reached}
-use Rattle.sweeping.specs.First.{apart, second-even}
+use Rattle.moving.specs.Kept.{kept}
+use Rattle.moving.specs.Clean.{cleaned-is}
+use Rattle.moving.specs.Close.{close-same, close-low}
+use Rattle.moving.specs.declared.NewHead.{NewHead}
+use Rattle.reading.specs.Way.{reached}
+use Rattle.reading.specs.FirstRecord.{apart, second-even}
 use Rattle.sweeping.specs.Steps.{hand-steps, hand-head, handing, heading}
-use Rattle.sweeping.specs.Standing.{Led, Found, entries-are, stands}
+use Rattle.reading.specs.Standing.{Led, Taken, entries-are, stands}
+use Rattle.laws.specs.Steps.{run-append}
 
-pub record Handed (s : Image) (h : ℕ) (m : Meter) (t : Image) (r : Moved) : Type 0 where
+pub record Handed (s : Image) (h : ℕ) (m : Meter) (t : Image) (r : NewHead) : Type 0 where
   pub did : Did s m (handing s h) t (r .meter)
   pub head : r .head ≡ heading s h
   pub led : r .meter .asked ≤ r .meter .allowance → Led t (r .head)
   pub few : r .meter .asked ≤ m .asked + 2 * length s + 4
-
--- ---- the head's first byte is START then
-
-run-append : (s : Image) (a b : List Step) → run s (a ++ b) ≡ run (run s a) b
-run-append s [] b = refl
-run-append s (program i x ∷ a) b = run-append (run s (program i x ∷ [])) a b
-run-append s (erase i ∷ a) b = run-append (run s (erase i ∷ [])) a b
-
-zeroed : (s : Image) (y i : ℕ) → y < length s → getD (set (set s y 0) i 0) y 0 ≡ 0
-zeroed s y i h = go (eqb y i) refl where
-  go : (t : Bool) → eqb y i ≡ t → getD (set (set s y 0) i 0) y 0 ≡ 0
-  go true e = let q : y ≡ i = eqb-true y i e in rw (← q) (getD-set-same (set s y 0) y 0 0 (rw length-set h))
-  go false e = getD-set-other (set s y 0) i y 0 0 (eqb-false y i e) ∙ getD-set-same s y 0 0 h
-
--- START, and what (f) does then
-abbrev started : Entry → ℕ → List ℕ → List Step
-started x y starts = program y 0x00 ∷ forget-steps x starts
-
-last-low : (s : Image) (x : Entry) (y : ℕ) (starts : List ℕ) → y < length s → getD (run s (started x y starts)) y 0 ≡ 0
-last-low s x y [] h = zeroed s y (x .at + 1) h
-last-low s x y (a ∷ rest) h = getD-set-same s y 0 0 h
-
-last-length : (s : Image) (x : Entry) (y : ℕ) (starts : List ℕ) → length (run s (started x y starts)) ≡ length s
-last-length s x y [] = length-set (set s y 0) (x .at + 1) 0 ∙ length-set s y 0
-last-length s x y (a ∷ rest) = length-set s y 0
-
-close-low : (s : Image) (N : ℕ) (x y : Entry) → y .at < length (run s (close-steps N x y 0xA0)) → getD (run s (close-steps N x y 0xA0)) (y .at) 0 ≡ 0
-unfolding close-steps
-close-low s N x y h =
-    let starts : List ℕ = vacated N x y in
-    let clean : List Step = clean-steps (length (content-of x)) (data-at x) (content-of x) in
-    let u : Image = set (run (run s clean) (map erase starts)) (y .at) 0x80 in
-    let e : run s (clean ++ vacate-steps x y 0xA0 starts) ≡ run u (started x (y .at) starts) =
-    run-append s clean (vacate-steps x y 0xA0 starts) ∙ run-append (run s clean) (map erase starts) (program (y .at) 0x80 ∷ started x (y .at) starts) in
-    ap (λ (i : Image). getD i (y .at) 0) e ∙ last-low u x (y .at) starts (omega (arith, ap length e, last-length u x (y .at) starts))
 
 -- ---- how the code comes to it
 
@@ -86,22 +49,22 @@ module _ {s : Image} {h : ℕ} (w : Led s h) (m : Meter) where
         few = omega arith;
       }
 
-  pub hand-none : {k : Cursor} (q : chain.Step) → k ≡ first-cursor s h → q ≡ advance s k → Not-record q
+  pub hand-none : {k : Cursor} (q : Item) → k ≡ first-cursor s h → q ≡ advance s k → Not-record q
       → Handed s h m s (record { head = h; meter = m })
   hand-none q f e z =
       none-handed [] (entries-are s h w ∙ ap (λ (r : Run). r .entries) (rest-done s (first-cursor s h) q (e ∙ ap (advance s) f) z)) refl (λ N. refl)
 
-  module _ {x : Spot} {c : Cursor} (t : Found s (first-cursor s h) x c) where
+  module _ {x : Spot} {c : Cursor} (t : Taken s (first-cursor s h) x c) where
     listed : reading-from s h .entries ≡ entry-of s x ∷ rest s c .entries
-    listed = entries-are s h w ∙ ap (λ (r : Run). r .entries) (t .turned .split)
+    listed = entries-are s h w ∙ ap (λ (r : Run). r .entries) (t .passes .split)
 
-    pub hand-one : (q : chain.Step) → q ≡ advance s c → Not-record q → Handed s h m s (record { head = h; meter = m })
+    pub hand-one : (q : Item) → q ≡ advance s c → Not-record q → Handed s h m s (record { head = h; meter = m })
     hand-one q e z =
         none-handed (entry-of s x ∷ []) (listed ∙ ap (λ (r : Run). entry-of s x ∷ r .entries) (rest-done s c q e z)) refl (λ N. refl)
 
-    module _ {y : Spot} {d : Cursor} (u : Found s c y d) where
+    module _ {y : Spot} {d : Cursor} (u : Taken s c y d) where
       two : reading-from s h .entries ≡ entry-of s x ∷ (entry-of s y ∷ rest s d .entries)
-      two = listed ∙ ap (λ (r : Run). entry-of s x ∷ r .entries) (u .turned .split)
+      two = listed ∙ ap (λ (r : Run). entry-of s x ∷ r .entries) (u .passes .split)
 
       -- Y's first byte is none of X's data
       same-data : {v : Image} {a : Meter} → Did s m (program (y .at) 0xA0 ∷ []) v a
@@ -115,11 +78,8 @@ module _ {s : Image} {h : ℕ} (w : Led s h) (m : Meter) where
       same-close : {v : Image} {a : Meter} → length v ≡ length s → Did s m (program (y .at) 0xA0 ∷ []) v a
           → close-steps (length v) (entry-of v x) (entry-of v y) 0xA0 ≡ close-steps (length s) (entry-of s x) (entry-of s y) 0xA0
       same-close {v} l g =
-          let a : ℕ = x .at + 8 + up8 (x .n + 1) in
-          close-is v x y 0xA0 (record { fits = omega (arith, t .turned .whole .fits) })
-          ∙ ap₂ (λ (own : List ℕ) (N : ℕ). clean-steps (x .d) a own ++ leave-steps (x .at) (y .at) 0xA0 (sectors (floor (x .at)) (end-before N (y .at))))
-          (same-data g) l
-          ∙ sym (close-is s x y 0xA0 (t .turned .whole))
+          close-same s x y 0xA0 v l (cleaned-is v x (record { fits = omega (arith, t .passes .whole .fits) }) refl
+          ∙ ap (clean-steps (x .d) (x .at + 8 + up8 (x .n + 1))) (same-data g) ∙ sym (cleaned-is s x (t .passes .whole) refl))
 
       handing-is : handing s h ≡ program (y .at) 0xA0 ∷ close-steps (length s) (entry-of s x) (entry-of s y) 0xA0
       unfolding handing
@@ -130,7 +90,7 @@ module _ {s : Image} {h : ℕ} (w : Led s h) (m : Meter) where
       heading-is = ap (hand-head h) two
 
       pub hand-two : {v z : Image} {a q : Meter} → length v ≡ length s → length z ≡ length s → Did s m (program (y .at) 0xA0 ∷ []) v a
-          → Did v a (close-steps (length v) (entry-of v x) (entry-of v y) 0xA0) z q → q .asked ≤ a .asked + 2 * length v + 3
+          → Did v a (close-steps (length v) (entry-of v x) (entry-of v y) 0xA0) z q → q .asked ≤ a .asked + (2 * length v + 3)
           → Handed s h m z (record { head = y .at; meter = q })
       hand-two {v} {z} {a} {q} l k g i b =
           let did : Did s m (handing s h) z q = rw handing-is (did-both g (rw (same-close l g) at i)) in
@@ -139,7 +99,7 @@ module _ {s : Image} {h : ℕ} (w : Led s h) (m : Meter) where
           ∙ ap (run s) handing-is in
           ap (λ (i : Image). getD i (y .at) 0) j
           ∙ close-low (run s (program (y .at) 0xA0 ∷ [])) (length s) (entry-of s x) (entry-of s y)
-          (omega (arith, ap length j, u .turned .whole .fits)) in
+          (omega (arith, ap length j, u .passes .whole .fits)) in
           record {
             did = did;
             head = sym heading-is;
@@ -147,7 +107,7 @@ module _ {s : Image} {h : ℕ} (w : Led s h) (m : Meter) where
                 record {
                   even =
                       second-even s h (w .inside) (w .low) x c (reached s (first-cursor s h) x c (t .step)) (w .even) y d (reached s c y d (u .step));
-                  inside = omega (arith, u .turned .whole .fits);
+                  inside = omega (arith, u .passes .whole .fits);
                   low = inl (low n);
                   eights = rw k (w .eights);
                   long = omega (arith, w .long);

@@ -1,11 +1,7 @@
 pub mod Moves
-pub mod Way
-pub mod First
 pub mod Steps
-pub mod Copy
-pub mod Standing
 pub mod Stuck
 pub mod Planned
 pub mod Handed
-pub mod Moving
+pub mod WholeMove
 pub mod Sweeping

@@ -8,30 +8,31 @@ use lib.ListN.{length, getD}
 use Rattle.spec.specs.declared.Place.{Place}
 use Rattle.spec.specs.declared.Placed.{Placed}
 use Rattle.spec.specs.declared.Placed.the-variants as placed-as
-use Rattle.spec.specs.Step.{Image, Step}
+use Rattle.spec.specs.Step.{Image}
 use Rattle.spec.specs.Record.{size-of, size, Entry, name-of, content-of}
 use Rattle.spec.specs.Chain.{Reading, reading-from}
 use Rattle.spec.specs.Files.{live}
 use Rattle.spec.specs.Place.{fits}
-use Rattle.spec.specs.Placed.{placed, Sound}
+use Rattle.spec.specs.Placed.{placed, Place-sound}
 use Rattle.spec.specs.Sweep.{no-room, stuck}
 use Rattle.flash.specs.declared.Meter.{Meter}
 use Rattle.flash.specs.Did.{Did, did-none}
 use Rattle.reading.specs.declared.Cursor.{Cursor}
 use Rattle.reading.specs.declared.Spot.{Spot}
-use Rattle.reading.specs.declared.Step as chain
+use Rattle.reading.specs.declared.Item.{Item}
 use Rattle.reading.specs.Cursor.{advance}
 use Rattle.reading.specs.Rest.{Run, entry-of, rest}
 use Rattle.reading.specs.Fold.{Whole, name-length-is, content-length-is, Not-record, rest-done}
 use Rattle.reading.specs.Read.{first-cursor}
 use Rattle.writing.specs.Room.{placed-parts, placed-full}
 use Rattle.writing.specs.Put.{Ready}
-use Rattle.writing.specs.Head.{entry-at, copy-of, HeadEnds}
+use Rattle.moving.specs.Copied.{entry-at}
+use Rattle.moving.specs.Copy.{copy-of, HeadEnds, copy-few, copy-keeps-low}
 use Rattle.sweeping.specs.declared.Plan.{Plan}
 use Rattle.sweeping.specs.Steps.{copying}
-use Rattle.sweeping.specs.Stuck.{stuck-empty, room-empty, room-on, room-live, room-dead, stuck-live, stuck-last, stuck-not, copy-live, copy-dead}
-use Rattle.sweeping.specs.Copy.{copy-few, copy-keeps-low}
-use Rattle.sweeping.specs.Standing.{Led, Found, Standing, entries-are, stands, head-at, stands-past}
+use Rattle.laws.specs.Sweep.{room-on, room-live, room-dead, copy-live, copy-dead}
+use Rattle.sweeping.specs.Stuck.{stuck-empty, room-empty, stuck-live, stuck-last, stuck-not}
+use Rattle.reading.specs.Standing.{Led, Taken, Standing, entries-are, stands, head-at, stands-past}
 
 -- the place of the reading from its head on
 pub record Headed (s : Image) (p : Place) : Type 0 where
@@ -47,12 +48,12 @@ pub record Copies (s : Image) (p : Place) (n d : ℕ) : Type 0 where
   pub named : n ≤ 63
 
 -- there is no further move
-pub record Stops (s : Image) (h : ℕ) (full : Bool) : Type 0 where
+pub record No-move (s : Image) (h : ℕ) (full : Bool) : Type 0 where
   pub stop : stuck (reading-from s h) ≡ true
   pub room : no-room (reading-from s h) (reading-from s h .entries) ≡ full
 
 abbrev pub Planned : Image → Place → Plan → Type 0
-Planned s p (Plan.Stop b) = Stops s (p .head) b
+Planned s p (Plan.Stop b) = No-move s (p .head) b
 Planned s p Plan.Leave = (stuck (reading-from s (p .head)) ≡ false) × (copying s (p .head) ≡ [])
 Planned s p (Plan.Copy n d) = Copies s p n d
 
@@ -81,23 +82,23 @@ full-is s p (Plan.Copy n d) w = sym (room-on (reading-from s (p .head)) (w .on))
 -- ---- how the code comes to it
 
 module _ {s : Image} {p : Place} (w : Headed s p) where
-  pub plan-none : {k : Cursor} (q : chain.Step) → k ≡ first-cursor s (p .head) → q ≡ advance s k → Not-record q → Stops s (p .head) false
+  pub plan-none : {k : Cursor} (q : Item) → k ≡ first-cursor s (p .head) → q ≡ advance s k → Not-record q → No-move s (p .head) false
   plan-none {k} q f e z =
       let r : Reading = reading-from s (p .head) in
       let none : r .entries ≡ [] = entries-are s (p .head) (w .led)
       ∙ ap (λ (v : Run). v .entries) (rest-done s (first-cursor s (p .head)) q (e ∙ ap (advance s) f) z) in
       record { stop = stuck-empty r (r .entries) refl none; room = ap (no-room r) none ∙ room-empty r }
 
-  module _ {x : Spot} {c : Cursor} (t : Found s (first-cursor s (p .head)) x c) where
+  module _ {x : Spot} {c : Cursor} (t : Taken s (first-cursor s (p .head)) x c) where
     listed : reading-from s (p .head) .entries ≡ entry-of s x ∷ rest s c .entries
-    listed = entries-are s (p .head) (w .led) ∙ ap (λ (r : Run). r .entries) (t .turned .split)
+    listed = entries-are s (p .head) (w .led) ∙ ap (λ (r : Run). r .entries) (t .passes .split)
 
     living : (b : Bool) → b ≡ live (rest s (first-cursor s (p .head)) .entries) (entry-of s x)
         → live (entry-of s x ∷ rest s c .entries) (entry-of s x) ≡ b
-    living b e = sym (e ∙ ap (λ (r : Run). live (r .entries) (entry-of s x)) (t .turned .split))
+    living b e = sym (e ∙ ap (λ (r : Run). live (r .entries) (entry-of s x)) (t .passes .split))
 
     size-is : size (entry-of s x) ≡ size-of (x .n) (x .d)
-    size-is = ap₂ size-of (name-length-is s x (t .turned .whole)) (content-length-is s x (t .turned .whole))
+    size-is = ap₂ size-of (name-length-is s x (t .passes .whole)) (content-length-is s x (t .passes .whole))
 
     fitting : (b : Bool) → fits p (size-of (x .n) (x .d)) ≡ b → fits (reading-from s (p .head) .place) (size (entry-of s x)) ≡ b
     fitting b e = ap₂ fits (sym (w .same)) size-is ∙ e
@@ -106,7 +107,7 @@ module _ {s : Image} {p : Place} (w : Headed s p) where
       e : b ≡ live (rest s (first-cursor s (p .head)) .entries) (entry-of s x)
       e = f ∙ ap (λ (v : Cursor). live (rest s v .entries) (entry-of s x)) q
 
-      pub plan-full : {z : ℕ} {a : Placed} → b ≡ true → z ≡ size-of (x .n) (x .d) → a ≡ placed p z → a ≡ placed-as.Full → Stops s (p .head) true
+      pub plan-full : {z : ℕ} {a : Placed} → b ≡ true → z ≡ size-of (x .n) (x .d) → a ≡ placed p z → a ≡ placed-as.Full → No-move s (p .head) true
       plan-full l g i j =
           let r : Reading = reading-from s (p .head) in
           let no : fits (r .place) (size (entry-of s x)) ≡ false = fitting false
@@ -131,12 +132,12 @@ module _ {s : Image} {p : Place} (w : Headed s p) where
             steps =
                 copy-live r (entry-of s x) (rest s c .entries) listed (living b e ∙ l)
                 ∙ ap₂ (λ (v : Place) (i : ℕ). copy-of v (entry-at s i (x .n) (x .d))) (sym (w .same)) at;
-            ends = record { inside = omega (arith, t .turned .whole .fits, stand .whole); before = stand .up };
+            ends = record { inside = omega (arith, t .passes .whole .fits, stand .whole); before = stand .up };
             taken = taken;
-            named = omega (arith, t .turned .onward .name);
+            named = omega (arith, t .passes .onward .name);
           }
 
-      pub plan-last : b ≡ false → (r : chain.Step) → r ≡ advance s c → Not-record r → Stops s (p .head) false
+      pub plan-last : b ≡ false → (r : Item) → r ≡ advance s c → Not-record r → No-move s (p .head) false
       plan-last l r g z =
           let v : Reading = reading-from s (p .head) in
           record {
@@ -144,11 +145,11 @@ module _ {s : Image} {p : Place} (w : Headed s p) where
             room = ap (no-room v) listed ∙ room-dead v (entry-of s x) (rest s c .entries) (living b e ∙ l);
           }
 
-      pub plan-leave : {y : Spot} {d : Cursor} → b ≡ false → Found s c y d → (stuck (reading-from s (p .head)) ≡ false) × (copying s (p .head) ≡ [])
+      pub plan-leave : {y : Spot} {d : Cursor} → b ≡ false → Taken s c y d → (stuck (reading-from s (p .head)) ≡ false) × (copying s (p .head) ≡ [])
       unfolding copying
       plan-leave {y} {d} l u =
           let r : Reading = reading-from s (p .head) in
-          let behind : rest s c .entries ≡ entry-of s y ∷ rest s d .entries = ap (λ (v : Run). v .entries) (u .turned .split) in
+          let behind : rest s c .entries ≡ entry-of s y ∷ rest s d .entries = ap (λ (v : Run). v .entries) (u .passes .split) in
           let two : r .entries ≡ entry-of s x ∷ (entry-of s y ∷ rest s d .entries) = listed ∙ ap (λ (es : List Entry). entry-of s x ∷ es) behind in
           let dead : live (entry-of s x ∷ (entry-of s y ∷ rest s d .entries)) (entry-of s x) ≡ false =
           sym (ap (λ (es : List Entry). live (entry-of s x ∷ es) (entry-of s x)) behind) ∙ living b e ∙ l in (
@@ -159,8 +160,13 @@ module _ {s : Image} {p : Place} (w : Headed s p) where
 
 -- ---- step (a)
 
+-- its steps, how many they are at most, and the byte at the head, which stays
+abbrev Copied : Image → Place → Meter → Image → Meter → Type 0
+Copied s p m t r =
+    Did s m (copying s (p .head)) t r × ((r .asked ≤ m .asked + (length s + 15)) × (getD t (p .head) 0 ≡ getD s (p .head) 0))
+
 module _ {s : Image} {p : Place} (w : Headed s p) where
-  pub sound : Sound p
+  pub sound : Place-sound p
   sound =
       let o : Standing (length s) (p .head) (p .head) p = subst (Standing (length s) (p .head) (p .head)) (sym (w .same))
       (stands s (p .head) (w .led)) in
@@ -180,8 +186,7 @@ module _ {s : Image} {p : Place} (w : Headed s p) where
       }
 
   module _ {t : Image} {m r : Meter} where
-    pub copied : {n d : ℕ} → Copies s p n d → Did s m (copy-of p (entry-at s (p .head) n d)) t r
-        → Did s m (copying s (p .head)) t r × (r .asked ≤ m .asked + length s + 15) × (getD t (p .head) 0 ≡ getD s (p .head) 0)
+    pub copied : {n d : ℕ} → Copies s p n d → Did s m (copy-of p (entry-at s (p .head) n d)) t r → Copied s p m t r
     copied {n} {d} c f =
         let x : Spot = record { at = p .head; n = n; d = d } in
         let long : p .length ≡ length s = subst (Standing (length s) (p .head) (p .head)) (sym (w .same)) (stands s (p .head) (w .led)) .whole in
@@ -190,10 +195,11 @@ module _ {s : Image} {p : Place} (w : Headed s p) where
         let dl : length (content-of (entry-of s x)) ≡ d = content-length-is s x v in
         let z : size (entry-of s x) ≡ size-of n d = ap₂ size-of nl dl in (
           rw (c .steps) f,
-          omega (arith, f .count, copy-few p (entry-of s x), nl, dl, v .fits),
-          copy-keeps-low p (entry-of s x) refl (rw z (c .ends)) (rw z (c .taken)) f,
+          (
+            omega (arith, f .count, copy-few p (entry-of s x), nl, dl, v .fits),
+            copy-keeps-low p (entry-of s x) refl (rw z (c .ends)) (rw z (c .taken)) f,
+          ),
         )
 
-  pub not-copied : {m : Meter} → copying s (p .head) ≡ [] → Did s m (copying s (p .head)) s m × (m .asked ≤ m .asked + length s + 15)
-      × (getD s (p .head) 0 ≡ getD s (p .head) 0)
-  not-copied {m} e = (rw e (did-none s m), omega arith, refl)
+  pub not-copied : {m : Meter} → copying s (p .head) ≡ [] → Copied s p m s m
+  not-copied {m} e = (rw e (did-none s m), (omega arith, refl))

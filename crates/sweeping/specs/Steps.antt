@@ -1,13 +1,12 @@
 -- The definitions' moves: their steps and the head that each leaves, of the image that it meets.
-use Prim.Native.Nat.{ℕ, zero, suc}
+use Prim.Native.Nat.{ℕ}
 use mathlib.Core.Path.{_≡_, refl, sym, ap, ap₂, _∙_}
-use mathlib.Core.Bool.{true, false}
 use mathlib.Core.List.{List, [], _∷_, _++_, append-nil}
 use Rattle.spec.specs.Step.{Image, Step, run}
 use Rattle.spec.specs.Record.{Entry}
 use Rattle.spec.specs.Chain.{Reading, reading-from}
 use Rattle.spec.specs.Move.{Work, begin, reread, after, copy-steps, to-clean-step, close-steps, hand-over, moved-on, move}
-use Rattle.spec.specs.Sweep.{stuck, moves}
+use Rattle.spec.specs.Sweep.{moves}
 
 -- (b) to (f), of the records of a chain; with no second record there is nothing to do
 abbrev pub hand-steps : ℕ → List Entry → List Step
@@ -61,16 +60,3 @@ module _ (s : Image) (h : ℕ) (at-head : reading-from s h .place .head ≡ h) w
       let c : List Step = copy-steps (reading-from s h) (reading-from s h .entries) in
       let v : Work = reread w c (run s c) h in
       ap (λ (i : ℕ). moved-on (after w c i)) at-head ∙ ap moved-on (after-on w h refl c) ∙ hand-on v h refl (v .reading .entries)
-
--- ---- moves, one after another
-
-module _ (s : Image) (r : Reading) where
-  pub moves-stuck : (k : ℕ) → stuck r ≡ true → moves k s r ≡ []
-  unfolding moves
-  moves-stuck zero e = refl
-  moves-stuck (suc k) e = rw (e, moves)
-
-  pub moves-next : (k : ℕ) → stuck r ≡ false
-      → moves (suc k) s r ≡ move (begin s r) .steps ∷ moves k (move (begin s r) .image) (move (begin s r) .reading)
-  unfolding moves
-  moves-next k e = rw (e, moves)

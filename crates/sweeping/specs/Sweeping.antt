@@ -12,39 +12,39 @@ use Rattle.spec.specs.Sweep.{stuck, moves}
 use Rattle.flash.specs.declared.Meter.{Meter}
 use Rattle.reading.specs.declared.Survey.{Survey}
 use Rattle.reading.specs.Survey.{Seen}
-use Rattle.sweeping.specs.declared.Moved.{Moved}
-use Rattle.sweeping.specs.declared.Turn.{Turn}
+use Rattle.moving.specs.declared.NewHead.{NewHead}
+use Rattle.sweeping.specs.declared.MoveEnd.{MoveEnd}
 use Rattle.flash.specs.Began.{Began}
 use Rattle.sweeping.specs.Moves.{Moves, moves-none, moves-cut, moves-more}
-use Rattle.sweeping.specs.Steps.{moves-stuck, moves-next}
+use Rattle.laws.specs.Sweep.{moves-stuck, moves-next}
 use Rattle.sweeping.specs.Planned.{Headed}
-use Rattle.sweeping.specs.Moving.{moving, Left, Moved-as}
+use Rattle.sweeping.specs.WholeMove.{whole-move, Left, Move-made}
 
 -- a move that was cut
-pub record Cut-as (s : Image) (h : ℕ) (m : Meter) (t : Image) (q : Meter) : Type 0 where
+pub record Move-cut (s : Image) (h : ℕ) (m : Meter) (t : Image) (q : Meter) : Type 0 where
   pub on : stuck (reading-from s h) ≡ false
-  pub begun : Began s m (moving s h .steps) t q
+  pub begun : Began s m (whole-move s h .steps) t q
   pub over : q .allowance < q .asked
 
 -- a move that was finished, and the place that it leaves
-pub record On-as (s : Image) (h : ℕ) (m : Meter) (t : Image) (p : Place) (q : Meter) : Type 0 where
+pub record Move-done (s : Image) (h : ℕ) (m : Meter) (t : Image) (p : Place) (q : Meter) : Type 0 where
   pub on : stuck (reading-from s h) ≡ false
-  pub begun : Began s m (moving s h .steps) t q
+  pub begun : Began s m (whole-move s h .steps) t q
   pub within : q .asked ≤ q .allowance
   pub left : Left s h t (p .head)
   pub headed : Headed t p
   pub few : q .asked ≤ m .asked + 2 ^ 26
 
-abbrev pub Turned-as : Image → ℕ → Meter → Image → Turn → Type 0
-Turned-as s h m t Turn.Stuck = (stuck (reading-from s h) ≡ true) × (t ≡ s)
-Turned-as s h m t (Turn.Cut q) = Cut-as s h m t q
-Turned-as s h m t (Turn.On p q) = On-as s h m t p q
+abbrev pub Move-ended : Image → ℕ → Meter → Image → MoveEnd → Type 0
+Move-ended s h m t MoveEnd.Stuck = (stuck (reading-from s h) ≡ true) × (t ≡ s)
+Move-ended s h m t (MoveEnd.Cut q) = Move-cut s h m t q
+Move-ended s h m t (MoveEnd.Done p q) = Move-done s h m t p q
 
 -- the place that a survey saw of what a finished move left
-pub on-seen : {s t : Image} {h : ℕ} {m : Meter} {r : Moved} {v : Survey} → stuck (reading-from s h) ≡ false → Moved-as s h m t r
+pub done-seen : {s t : Image} {h : ℕ} {m : Meter} {r : NewHead} {v : Survey} → stuck (reading-from s h) ≡ false → Move-made s h m t r
     → r .meter .asked ≤ r .meter .allowance → Seen t (r .head) v
-    → On-as s h m t (v .place) (r .meter)
-on-seen {s} {t} {h} {m} {r} {v} on w l seen =
+    → Move-done s h m t (v .place) (r .meter)
+done-seen {s} {t} {h} {m} {r} {v} on w l seen =
     let left : Left s h t (v .place .head) = subst (Left s h t) (sym (seen .head)) (w .left l) in
     record {
       on = on;
@@ -83,17 +83,17 @@ module _ {s : Image} {m : Meter} {k h : ℕ} {t : Image} {q : Meter} {left : ℕ
 
   module _ (i : ℕ) (l : left ≡ suc i) where
     next-is : stuck (reading-from t (p .head)) ≡ false
-        → moves left t (reading-from t (p .head)) ≡ moving t (p .head) .steps ∷ moves i (moving t (p .head) .image) (moving t (p .head) .reading)
+        → moves left t (reading-from t (p .head)) ≡ whole-move t (p .head) .steps ∷ moves i (whole-move t (p .head) .image) (whole-move t (p .head) .reading)
     next-is e = ap (λ (j : ℕ). moves j t (reading-from t (p .head))) l ∙ moves-next t (reading-from t (p .head)) i e
 
-    pub sweeping-cut : {u : Image} {r : Meter} → Cut-as t (p .head) q u r → Moves s m (moves k s (reading-from s h)) u n r
+    pub sweeping-cut : {u : Image} {r : Meter} → Move-cut t (p .head) q u r → Moves s m (moves k s (reading-from s h)) u n r
     sweeping-cut {u} {r} c =
         rw (add-zero n) at (w .onward u 0 r
-        (rw (next-is (c .on)) (moves-cut (moves i (moving t (p .head) .image) (moving t (p .head) .reading)) (c .begun) (c .over))))
+        (rw (next-is (c .on)) (moves-cut (moves i (whole-move t (p .head) .image) (whole-move t (p .head) .reading)) (c .begun) (c .over))))
 
-    pub sweeping-more : {u : Image} {r : Meter} {v : Place} → On-as t (p .head) q u v r → Sweeping s m k h u r i v (n + 1)
+    pub sweeping-more : {u : Image} {r : Meter} {v : Place} → Move-done t (p .head) q u v r → Sweeping s m k h u r i v (n + 1)
     sweeping-more {u} {r} {v} c =
-        let e : moves i (moving t (p .head) .image) (moving t (p .head) .reading) ≡ moves i u (reading-from u (v .head)) = ap₂ (moves i)
+        let e : moves i (whole-move t (p .head) .image) (whole-move t (p .head) .reading) ≡ moves i u (reading-from u (v .head)) = ap₂ (moves i)
         (c .left .image) (c .left .reading) in
         record {
           onward = λ x j y g.

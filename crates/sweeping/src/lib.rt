@@ -1,6 +1,5 @@
-// The move, which hands the head over to the next record, and the sweep of up to five moves.
-// Each move reads the image that the one before it left, from the head it left.
-pub mod step;
+// The sweep: up to five moves, each reading the image that the one before it left, from the head it left.
+pub mod one_move;
 pub mod sweep;
 
 use flash::Meter;
@@ -14,17 +13,11 @@ pub enum Plan {
     Copy(usize, usize),
 }
 
-// The head that a move leaves, and its meter.
-pub struct Moved {
-    pub head: usize,
-    pub meter: Meter,
-}
-
-// How a sweep goes on: no further, cut within a move, or from the place that a finished move left.
-pub enum Turn {
+// How a move ended: there was none, it was cut, or it was finished and left this place.
+pub enum MoveEnd {
     Stuck,
     Cut(Meter),
-    On(Place, Meter),
+    Done(Place, Meter),
 }
 
 // The finished moves of a sweep, and its meter.

@@ -1,9 +1,9 @@
 // Up to five moves, one after another.
+use crate::MoveEnd;
 use crate::Plan;
 use crate::Swept;
-use crate::Turn;
-use crate::step::move_head;
-use crate::step::plan;
+use crate::one_move::move_head;
+use crate::one_move::plan;
 use flash::Meter;
 use reading::image::survey;
 use spec::Place;
@@ -13,25 +13,26 @@ ghost use Rattle.spec.specs.Chain.{reading-from};
 ghost use Rattle.spec.specs.Sweep.{moves};
 ghost use Rattle.sweeping.specs.Moves.{Moves};
 ghost use Rattle.sweeping.specs.Planned.{Headed};
-ghost use Rattle.sweeping.specs.Sweeping.{Turned-as};
+ghost use Rattle.sweeping.specs.Sweeping.{Move-ended};
 
 // One move, if there is one, and the place that it leaves; a move that was cut leaves none to go on from.
-fn next_move(image: &mut [u8], place: Place, m: Meter) -> Turn
-    requires { ⌜ Headed (now image) place × (m .asked ≤ 2 ^ 31) ⌝ }
-    ensures { λ r. ⌜ Turned-as (now (image .entry)) (place .head) m (now (image .exit)) r ⌝ }
+fn next_move(image: &mut [u8], place: Place, m: Meter) -> MoveEnd
+    requires { ⌜ Headed (now image) place ⌝ }
+    requires { ⌜ m .asked ≤ 2 ^ 31 ⌝ }
+    ensures { λ r. ⌜ Move-ended (now (image .entry)) (place .head) m (now (image .exit)) r ⌝ }
 {
     let p = plan(image, place);
     if let Plan::Stop(_) = p {
-        return Turn::Stuck;
+        return MoveEnd::Stuck;
     }
     let r = move_head(image, place, p, m);
     let q = r.meter;
     if q.allowance < q.asked {
-        return Turn::Cut(q);
+        return MoveEnd::Cut(q);
     }
     let s = survey(image, r.head);
     let next = s.place;
-    Turn::On(next, q)
+    MoveEnd::Done(next, q)
 }
 
 // The moves of a sweep at most.
@@ -48,8 +49,10 @@ fn at_most(n: usize) -> usize
 
 // The sweep of an image with this many records. Only finished moves are counted.
 pub fn sweep(image: &mut [u8], place: Place, records: usize, m: Meter) -> Swept
-    requires { ⌜ Headed (now image) place × (m .asked ≤ 2 ^ 16) ⌝ }
-    ensures { λ r. ⌜ Moves (now (image .entry)) m (moves (min 5 records) (now (image .entry)) (reading-from (now (image .entry)) (place .head))) (now (image .exit)) (r .moves) (r .meter) ⌝ }
+    requires { ⌜ Headed (now image) place ⌝ }
+    requires { ⌜ m .asked ≤ 2 ^ 16 ⌝ }
+    ensures { λ r. ⌜ (let s = now (image .entry) in
+        Moves s m (moves (min 5 records) s (reading-from s (place .head))) (now (image .exit)) (r .moves) (r .meter)) ⌝ }
 {
     let mut left = at_most(records);
     let mut p = place;
@@ -58,13 +61,13 @@ pub fn sweep(image: &mut [u8], place: Place, records: usize, m: Meter) -> Swept
     while 0 < left {
         let t = next_move(image, p, q);
         match t {
-            Turn::Stuck => {
+            MoveEnd::Stuck => {
                 return Swept { moves: n, meter: q };
             }
-            Turn::Cut(r) => {
+            MoveEnd::Cut(r) => {
                 return Swept { moves: n, meter: r };
             }
-            Turn::On(next, r) => {
+            MoveEnd::Done(next, r) => {
                 p = next;
                 q = r;
             }

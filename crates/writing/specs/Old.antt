@@ -5,13 +5,13 @@ use mathlib.Core.Bool.{Bool, true, false}
 use mathlib.Core.Option.{Option, none, some}
 use mathlib.Core.List.{List, [], _∷_}
 use Rattle.spec.specs.declared.Place.{Place}
+use Rattle.spec.specs.declared.Status.{Status}
 use lib.ListN.{length}
-use lib.Dec.{eqb}
 use native.Mathlib.Omega.{arith}
 use Rattle.spec.specs.Bytes.{is-committed}
-use Rattle.spec.specs.Step.{Step, program}
+use Rattle.spec.specs.Step.{Step}
 use Rattle.spec.specs.Record.{Entry}
-use Rattle.spec.specs.Write.{migrate-steps, put-steps}
+use Rattle.spec.specs.Write.{status-step, migrate-steps, put-steps}
 use Rattle.writing.specs.declared.Old.{Old}
 use Rattle.writing.specs.declared.Old.the-variants.{None, At}
 
@@ -21,11 +21,14 @@ old-of none = None
 old-of (some e) = At (e .at) (record { byte = e .it .status })
 
 -- an entry with this address and status
-abbrev pub entry-of : Old → Option Entry
-entry-of None = none
-entry-of (At a st) = some (record { at = a; it = record { low = 0; status = st .byte; name = []; content = [] } })
+abbrev pub bare : ℕ → Status → Entry
+bare a st = record { at = a; it = record { low = 0; status = st .byte; name = []; content = [] } }
 
-pub put-old : (p : Place) (o : Option Entry) (name content : List ℕ) → put-steps p (entry-of (old-of o)) name content ≡ put-steps p o name content
+abbrev pub old-entry : Old → Option Entry
+old-entry None = none
+old-entry (At a st) = some (bare a st)
+
+pub put-old : (p : Place) (o : Option Entry) (name content : List ℕ) → put-steps p (old-entry (old-of o)) name content ≡ put-steps p o name content
 unfolding put-steps
 put-old p none name content = refl
 put-old p (some e) name content = refl
@@ -35,12 +38,11 @@ abbrev pub Lies : Old → ℕ → Type 0
 Lies None N = Unit {0}
 Lies (At a st) N = a + 2 < N
 
--- at most one step each
-pub migrate-few : (o : Old) → length (migrate-steps (entry-of o)) ≤ 1
-unfolding is-committed
-migrate-few None = omega arith
-migrate-few (At a st) = go (eqb (st .byte) 0xFC) where
-  go : (t : Bool) → length {A = Step} (elim t [ true ↦ program (a + 2) 0xF8 ∷ [] | false ↦ [] ]) ≤ 1
+-- at most one step
+pub migrate-few : (o : Option Entry) → length (migrate-steps o) ≤ 1
+migrate-few none = omega arith
+migrate-few (some e) = go (is-committed (e .it .status)) where
+  go : (t : Bool) → length {A = Step} (elim t [ true ↦ status-step e 0xF8 ∷ [] | false ↦ [] ]) ≤ 1
   go true = omega arith
   go false = omega arith
 

@@ -10,7 +10,7 @@ use Rattle.spec.specs.declared.Placed.the-variants.{At, Full}
 use Rattle.spec.specs.Geometry.{floor}
 use Rattle.spec.specs.Reading.{limit}
 use Rattle.spec.specs.Place.{fits-at-tail, fits, address, with-marker, place-after}
-use Rattle.spec.specs.Placed.{placed, Sound}
+use Rattle.spec.specs.Placed.{placed, Place-sound}
 
 -- ---- the three parts of an answer
 
@@ -47,13 +47,13 @@ way p s e = go (leb (p .tail + s) (limit p)) (p .turned) refl refl e where
   go false true h k f = let z : _≡_ {A = ℕ} 0 1 = cc in absurd (omega arith)
   go false false h k f = at-start h k (rw (h, address)) (leb-true s (floor (p .head)) f)
 
-limit-inside : (p : Place) → Sound p → limit p ≤ p .length
+limit-inside : (p : Place) → Place-sound p → limit p ≤ p .length
 limit-inside p h = go (p .turned) refl where
   go : (u : Bool) → p .turned ≡ u → limit p ≤ p .length
   go true k = rw k (omega (arith, h .inside))
   go false k = rw k (omega arith)
 
-pub placed-inside : (p : Place) (s : ℕ) → Sound p → fits p s ≡ true → address p s + s ≤ p .length
+pub placed-inside : (p : Place) (s : ℕ) → Place-sound p → fits p s ≡ true → address p s + s ≤ p .length
 placed-inside p s h e = go (way p s e) where
   go : Way p s → address p s + s ≤ p .length
   go (at-tail t a l) = omega (arith, limit-inside p h)

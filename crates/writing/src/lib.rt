@@ -1,13 +1,11 @@
 // The record at its place: the steps that put it there in place of an old one.
 // Every byte goes through flash::program, and every sector through flash::erase.
 pub mod build;
-pub mod copy;
 pub mod format;
 
 use build::set_status;
 use build::write_marker;
 use build::write_record;
-use copy::copy_record;
 use flash::Meter;
 use record::size;
 use spec::Place;
@@ -16,14 +14,13 @@ use spec::Status;
 ghost use mathlib.Core.Path.{_≡_};
 ghost use mathlib.Core.Bool.{true};
 ghost use mathlib.Core.List.{_++_};
-ghost use Prim.Native.Nat.{_+_, _<_, _≤_, _^_};
+ghost use Prim.Native.Nat.{_+_, _<_};
 ghost use lib.ListN.{length};
-ghost use Rattle.spec.specs.Record.{size-of};
 ghost use Rattle.spec.specs.Write.{migrate-steps, delete-steps, put-steps};
 ghost use Rattle.flash.specs.Did.{Did};
-ghost use Rattle.writing.specs.Old.{entry-of, Lies};
+ghost use Rattle.writing.specs.Counts.{Counts};
+ghost use Rattle.writing.specs.Old.{old-entry, Lies};
 ghost use Rattle.writing.specs.Put.{marks, Ready};
-ghost use Rattle.writing.specs.Head.{HeadEnds, entry-at, copy-of};
 
 // The file that a put replaces: its address and its status, or none.
 pub enum Old {
@@ -31,10 +28,12 @@ pub enum Old {
     At(usize, Status),
 }
 
-// The old file's status FC to F8, if it is FC; then the marker, if one is needed.
-fn prepare(image: &mut [u8], old: Old, tail: usize, marker: bool, m: Meter) -> Meter
-    requires { ⌜ Lies old (length (now image)) × (marker ≡ true → tail + 2 < length (now image)) × (m .asked + 4 ≤ 2 ^ 32) ⌝ }
-    ensures { λ r. ⌜ Did (now (image .entry)) m (migrate-steps (entry-of old) ++ marks marker tail) (now (image .exit)) r ⌝ }
+// What goes before the new record: the old file's status FC to F8, if it is FC; then the marker, if one is needed.
+pub fn prepare(image: &mut [u8], old: Old, tail: usize, marker: bool, m: Meter) -> Meter
+    requires { ⌜ Lies old (length (now image)) ⌝ }
+    requires { ⌜ (marker ≡ true → tail + 2 < length (now image)) ⌝ }
+    requires { ⌜ Counts m 4 ⌝ }
+    ensures { λ r. ⌜ Did (now (image .entry)) m (migrate-steps (old-entry old) ++ marks marker tail) (now (image .exit)) r ⌝ }
 {
     let a = migrate(image, old, m);
     if marker {
@@ -43,9 +42,11 @@ fn prepare(image: &mut [u8], old: Old, tail: usize, marker: bool, m: Meter) -> M
     a
 }
 
+// FC to F8: the old file stays readable until it is deleted.
 fn migrate(image: &mut [u8], old: Old, m: Meter) -> Meter
-    requires { ⌜ Lies old (length (now image)) × (m .asked < 2 ^ 32) ⌝ }
-    ensures { λ r. ⌜ Did (now (image .entry)) m (migrate-steps (entry-of old)) (now (image .exit)) r ⌝ }
+    requires { ⌜ Lies old (length (now image)) ⌝ }
+    requires { ⌜ Counts m 1 ⌝ }
+    ensures { λ r. ⌜ Did (now (image .entry)) m (migrate-steps (old-entry old)) (now (image .exit)) r ⌝ }
 {
     let Old::At(at, status) = old else {
         return m;
@@ -56,9 +57,11 @@ fn migrate(image: &mut [u8], old: Old, m: Meter) -> Meter
     m
 }
 
-fn delete(image: &mut [u8], old: Old, m: Meter) -> Meter
-    requires { ⌜ Lies old (length (now image)) × (m .asked < 2 ^ 32) ⌝ }
-    ensures { λ r. ⌜ Did (now (image .entry)) m (delete-steps (entry-of old)) (now (image .exit)) r ⌝ }
+// The old file's status 00.
+pub fn delete(image: &mut [u8], old: Old, m: Meter) -> Meter
+    requires { ⌜ Lies old (length (now image)) ⌝ }
+    requires { ⌜ Counts m 1 ⌝ }
+    ensures { λ r. ⌜ Did (now (image .entry)) m (delete-steps (old-entry old)) (now (image .exit)) r ⌝ }
 {
     let Old::At(at, _) = old else {
         return m;
@@ -75,28 +78,15 @@ pub fn write_file(
     content: &[u8],
     m: Meter,
 ) -> Meter
-    requires { ⌜ Ready place (length (now image)) (length (now name)) (length (now content)) (m .asked) × Lies old (length (now image)) ⌝ }
-    ensures { λ r. ⌜ Did (now (image .entry)) m (put-steps place (entry-of old) (now (name .entry)) (now (content .entry))) (now (image .exit)) r ⌝ }
+    requires { ⌜ Ready place (length (now image)) (length (now name)) (length (now content)) (m .asked) ⌝ }
+    requires { ⌜ Lies old (length (now image)) ⌝ }
+    ensures { λ r. ⌜ (let steps = put-steps place (old-entry old) (now (name .entry)) (now (content .entry)) in
+        Did (now (image .entry)) m steps (now (image .exit)) r) ⌝ }
 {
     let Placed::At(at, marker, _) = place.after(size(name.len(), content.len())) else {
         return m;
     };
     let a = prepare(image, old, place.tail, marker, m);
     let b = write_record(image, at, name, content, a);
-    delete(image, old, b)
-}
-
-// The record at the head, with n name bytes and d data bytes, copied as in a put: the first part of a move.
-pub fn copy_head(image: &mut [u8], place: Place, n: usize, d: usize, m: Meter) -> Meter
-    requires { ⌜ Ready place (length (now image)) n d (m .asked) × HeadEnds place (size-of n d) ⌝ }
-    ensures { λ r. ⌜ Did (now (image .entry)) m (copy-of place (entry-at (now (image .entry)) (place .head) n d)) (now (image .exit)) r ⌝ }
-{
-    let Placed::At(at, marker, _) = place.after(size(n, d)) else {
-        return m;
-    };
-    let head = place.head;
-    let old = Old::At(head, Status::from_byte(image[head + 2]));
-    let a = prepare(image, old, place.tail, marker, m);
-    let b = copy_record(image, head, at, n, d, a);
     delete(image, old, b)
 }

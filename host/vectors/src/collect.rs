@@ -2,6 +2,7 @@
 use crate::emit::{equation, Vector};
 use crate::held::{plain, told, Told};
 use crate::histories;
+use crate::orders::{self, ORDERS};
 use crate::required::{REQUIRED, SOURCES};
 use crate::rooms::{self, ROOM_STATES};
 use model::*;
@@ -89,7 +90,8 @@ impl Collection {
     /// What has too few vectors.
     pub fn missing(&self) -> Vec<String> {
         let answers = ANSWERS.iter().flat_map(|(kind, all)| all.iter().map(move |a| format!("{kind} {a}")));
-        let tags = REQUIRED.iter().chain(&BYTE_TAGS).chain(&ROOM_TAGS).chain(&ROOM_STATES).map(|t| format!("tag {t}"));
+        let tags = REQUIRED.iter().chain(&BYTE_TAGS).chain(&ROOM_TAGS).chain(&ROOM_STATES).chain(&ORDERS);
+        let tags = tags.map(|t| format!("tag {t}"));
         let sources = SOURCES.iter().map(|s| format!("source {s}"));
         answers.chain(tags).chain(sources).filter(|w| self.count(w) < EACH).collect()
     }
@@ -279,6 +281,7 @@ pub fn collect() -> Collection {
     rooms::places(&mut r, &mut c);
     rooms::add(&mut r, &mut c);
     histories::add(&mut r, &mut c, HISTORIES);
+    orders::add(&mut c);
     c
 }
 

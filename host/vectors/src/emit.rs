@@ -88,15 +88,22 @@ pub fn allowance(call: &Call) -> u64 {
     call.allowance().min(1_000_000)
 }
 
-/// The numbers of a reply.
-fn numbers(r: &Reply) -> String {
-    format!("{} {} {} {} {}", r.answer, r.first, r.second, r.third, r.steps)
+/// The numbers of a reply, each under its name.
+fn numbers(call: &Call, r: &Reply) -> String {
+    let (answer, steps) = (r.answer, r.steps);
+    match call {
+        Call::Mount(_) => format!("(of-mount {answer} (report {} {} {}) {steps})", r.first, r.second, r.third),
+        Call::Sweep(_) => format!("(of-sweep {answer} {} {steps})", r.first),
+        Call::Get(_) => format!("(of-get {answer} (extent {} {}))", r.first, r.second),
+        Call::List(_) => format!("(of-list {answer} (extent {} {}) {})", r.first, r.second, r.third),
+        Call::Format(_) | Call::Put(..) | Call::Remove(..) => format!("(of-write {answer} {steps})"),
+    }
 }
 
 /// What a call answers and leaves, told this byte of its next step: the checking function
 /// and the equation.
 pub fn equation(before: &[u8], call: &Call, told: u64, reply: &Reply, after: &[u8]) -> (&'static str, String) {
-    let (b, a, n) = (pieces(before), pieces(after), numbers(reply));
+    let (b, a, n) = (pieces(before), pieces(after), numbers(call, reply));
     let k = allowance(call);
     match call {
         Call::Format(_) => ("check-format", format!("check-format {b} {k} {n} {a}")),
@@ -134,7 +141,8 @@ pub fn file(vectors: &[(usize, &Vector)]) -> String {
          use mathlib.Core.Bool.{Bool, true, false}\n\
          use mathlib.Core.List.{List, [], _∷_}\n\
          use Rattle.spec.specs.History.{Request, put, remove, sweep, mount, get, list}\n\
-         use Rattle.spec.specs.Run.{fill, lit, build, call, file, entry}\n\
+         use Rattle.spec.specs.Numbers.{of-write, of-mount, of-sweep, of-get, of-list}\n\
+         use Rattle.spec.specs.Run.{fill, lit, build, call, file, entry, report, extent}\n\
          use Rattle.spec.specs.Run.{check, check-format, check-part, check-place, check-room, check-history}\n",
     );
     for (i, v) in vectors {

@@ -33,6 +33,20 @@ const FAULTS: &[Fault] = &[
         "repair-4 (repair-3 (",
         "repair-3 (repair-4 (",
     ),
+    fault(
+        "repairs 2 and 3 in the other order",
+        &["repairs 2 and 3"],
+        "Mount.antt",
+        "repair-3 (repair-2-on (",
+        "repair-2-on (repair-3 (",
+    ),
+    fault(
+        "format makes its record FC",
+        &["format 0"],
+        "Write.antt",
+        "(program 2 0x00 ∷ program 0 0x00 ∷",
+        "(program 2 0xFC ∷ program 0 0x00 ∷",
+    ),
     fault("a marker also at T = N", &["place"], "Place.antt", "ltb (p .tail) (p .length)", "leb (p .tail) (p .length)"),
     fault(
         "a superseded F8 is live",
@@ -45,8 +59,8 @@ const FAULTS: &[Fault] = &[
         "a chain at N doesn't turn",
         &["chain ends at N"],
         "Chain.antt",
-        "| Next.Over ↦ turned N h c d",
-        "| Next.Over ↦ unturned N h c",
+        "| Next.Over ↦ read-turned N h c d",
+        "| Next.Over ↦ read-straight N h c",
     ),
     fault(
         "step (d) ends a sector late",
@@ -108,8 +122,8 @@ const FAULTS: &[Fault] = &[
         "the old file is deleted before the record is written",
         &["put replaces FC", "put replaces F8"],
         "Write.antt",
-        "(moved (address p s) (record-steps name content) ++ delete-steps old)",
-        "(delete-steps old ++ moved (address p s) (record-steps name content))",
+        "(shifted (address p s) (record-steps name content) ++ delete-steps old)",
+        "(delete-steps old ++ shifted (address p s) (record-steps name content))",
     ),
     fault(
         "an F8 file gets F8 again",
@@ -122,7 +136,7 @@ const FAULTS: &[Fault] = &[
         "reserved: only 00 ends the name",
         &["reserved, name cut"],
         "Bytes.antt",
-        "eqb b 0x00 || (held && leb 0x80 b)",
+        "eqb b 0x00 || (reserved && leb 0x80 b)",
         "eqb b 0x00",
     ),
     fault(

@@ -10,7 +10,10 @@ use mathlib.Core.List.{List, [], _∷_, _++_}
 use lib.ListN.{length, take, drop, replicate, set, getD}
 use lib.Dec.{eqb}
 use lib.Bits.{bitAnd}
-use Rattle.spec.specs.Answers.{Numbers, Outcome, format, part-of}
+use Rattle.spec.specs.Numbers.{Numbers, Outcome, of-write, of-mount, of-sweep, of-get, of-list, part-of}
+use Rattle.spec.specs.Answers.{format}
+use Rattle.spec.specs.declared.Report.{Report}
+use Rattle.spec.specs.declared.Extent.{Extent}
 use Rattle.spec.specs.History.{Request, put, remove, sweep, mount, get, list, Call, outcome, replay, steps-done, steps-of, File, Ledger, ledger}
 use Rattle.spec.specs.Step.{Step, program, erase, apply}
 use Rattle.spec.specs.declared.Place.{Place}
@@ -34,33 +37,42 @@ build (lit s ∷ ps) = s ++ build ps
 
 -- the byte v of the next step: 256 is none
 abbrev pub call : Request → ℕ → ℕ → Call
-call r k v = record { request = r; allowance = k; held = v }
+call r k v = record { request = r; allowance = k; cut-byte = v }
 
 abbrev pub file : List ℕ → List ℕ → File
 file n c = record { name = n; content = c }
 
--- the five numbers of a reply
-abbrev pub told : Numbers → ℕ → ℕ → ℕ → ℕ → ℕ → Bool
-told n r a b c k = eqb (n .answer) r && eqb (n .first) a && eqb (n .second) b && eqb (n .third) c && eqb (n .steps) k
+abbrev pub report : ℕ → ℕ → ℕ → Report
+report head tail files = record { head = head; tail = tail; files = files }
 
-abbrev pub right : Outcome → ℕ → ℕ → ℕ → ℕ → ℕ → List ℕ → Bool
-right o r a b c k m = told (o .numbers) r a b c k && Basics.same (o .image) m
+abbrev pub extent : ℕ → ℕ → Extent
+extent offset length = record { offset = offset; length = length }
 
-unfoldable pub check : List Piece → ℕ → ℕ → Request → ℕ → ℕ → ℕ → ℕ → ℕ → List Piece → Bool
+-- all numbers of two replies are equal
+abbrev pub told : Numbers → Numbers → Bool
+told n m =
+    eqb (n .answer) (m .answer) && eqb (n .report .head) (m .report .head) && eqb (n .report .tail) (m .report .tail)
+    && eqb (n .report .files) (m .report .files) && eqb (n .moves) (m .moves) && eqb (n .extent .offset) (m .extent .offset)
+    && eqb (n .extent .length) (m .extent .length) && eqb (n .size) (m .size) && eqb (n .steps) (m .steps)
+
+abbrev pub right : Outcome → Numbers → List ℕ → Bool
+right o n m = told (o .numbers) n && Basics.same (o .image) m
+
+unfoldable pub check : List Piece → ℕ → ℕ → Request → Numbers → List Piece → Bool
 unfolding NAMES
-check before allowed v q r x y z k after = right (outcome (build before) (call q allowed v)) r x y z k (build after)
+check before allowed v q n after = right (outcome (build before) (call q allowed v)) n (build after)
 
-unfoldable pub check-format : List Piece → ℕ → ℕ → ℕ → ℕ → ℕ → ℕ → List Piece → Bool
+unfoldable pub check-format : List Piece → ℕ → Numbers → List Piece → Bool
 unfolding NAMES
-check-format before allowed r x y z k after = right (format (build before) allowed) r x y z k (build after)
+check-format before allowed n after = right (format (build before) allowed) n (build after)
 
 -- get and list: the numbers, the image as it was, and the part
-abbrev pub part-right : List ℕ → Outcome → ℕ → ℕ → ℕ → ℕ → ℕ → List ℕ → Bool
-part-right m o r x y z k p = right o r x y z k m && Basics.same (part-of m (o .numbers)) p
+abbrev pub part-right : List ℕ → Outcome → Numbers → List ℕ → Bool
+part-right m o n p = right o n m && Basics.same (part-of m (o .numbers)) p
 
-unfoldable pub check-part : List Piece → Request → ℕ → ℕ → ℕ → ℕ → ℕ → List Piece → Bool
+unfoldable pub check-part : List Piece → Request → Numbers → List Piece → Bool
 unfolding NAMES
-check-part before q r x y z k part = part-right (build before) (outcome (build before) (call q 0 256)) r x y z k (build part)
+check-part before q n part = part-right (build before) (outcome (build before) (call q 0 256)) n (build part)
 
 -- two tests agree
 abbrev pub agree : Bool → Bool → Bool
@@ -106,7 +118,7 @@ listed : ℕ → ℕ → List ℕ → List (List ℕ)
 listed zero i m = []
 listed (suc k) i m =
     let n = outcome m (call (list i) 0 256) .numbers in
-    (part-of m n ++ (n .third ∷ [])) ∷ listed k (i + 1) m
+    (part-of m n ++ (n .size ∷ [])) ∷ listed k (i + 1) m
 
 held : List ℕ → List (List ℕ) → File → Bool
 held m ls f =
@@ -123,7 +135,7 @@ ledger-is (f ∷ l) (g ∷ k) = Basics.same (f .name) (g .name) && Basics.same (
 mounted-ok : Outcome → Ledger → List (List ℕ) → Bool
 mounted-ok o l others =
     let left = o .image in
-    let count = o .numbers .third in
+    let count = o .numbers .report .files in
     eqb (o .numbers .answer) 0 && eqb count (length l) && Basics.all (held left (listed count 0 left)) l
     && Basics.all (λ n. eqb (outcome left (call (get n) 0 256) .numbers .answer) 2) others
 

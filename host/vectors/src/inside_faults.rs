@@ -84,8 +84,8 @@ pub const INSIDE_FAULTS: &[Fault] = &[
         "torn wrap: the repair leaves the first byte",
         &["torn wrap"],
         "Mount.antt",
-        "(Ending.TornWrap a) = moved a marker-steps",
-        "(Ending.TornWrap a) = moved a (program 1 0x5A ∷ program 2 0xF0 ∷ [])",
+        "(Ending.TornWrap a) = shifted a marker-steps",
+        "(Ending.TornWrap a) = shifted a (program 1 0x5A ∷ program 2 0xF0 ∷ [])",
     ),
     fault(
         "a marker is unfinished at FF alone",
@@ -112,8 +112,8 @@ pub const INSIDE_FAULTS: &[Fault] = &[
         "only FF and 00 end a reserved name",
         &["reserved, end 80 or more"],
         "Bytes.antt",
-        "(held && leb 0x80 b)",
-        "(held && eqb b 0xFF)",
+        "(reserved && leb 0x80 b)",
+        "(reserved && eqb b 0xFF)",
     ),
     fault(
         "other statuses are refused",

@@ -12,6 +12,7 @@ mod held;
 mod helper;
 mod histories;
 mod inside_faults;
+mod orders;
 mod required;
 mod room_faults;
 mod rooms;

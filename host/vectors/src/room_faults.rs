@@ -31,6 +31,27 @@ pub const ROOM_FAULTS: &[Fault] = &[
         "(l ∷ l ∷ [])",
     ),
     fault(
+        "put asks for no room behind its record",
+        &["put 28", "no room, but by 01's rule"],
+        "Place.antt",
+        "fits-all p (s ∷ (standing p name es ++ (joining p s ++ (l ∷ l ∷ []))))",
+        "fits-all p (s ∷ [])",
+    ),
+    fault(
+        "the largest are placed before the others",
+        &["room: the largest first tells"],
+        "Place.antt",
+        "(standing p name es ++ (joining p s ++ (l ∷ l ∷ [])))",
+        "(l ∷ l ∷ (standing p name es ++ joining p s))",
+    ),
+    fault(
+        "the new record is placed before the others",
+        &["room: the new one first tells"],
+        "Place.antt",
+        "(standing p name es ++ (joining p s ++ (l ∷ l ∷ [])))",
+        "(joining p s ++ (standing p name es ++ (l ∷ l ∷ [])))",
+    ),
+    fault(
         "the others in the head's sector are not counted",
         &["no room, but without the others there"],
         "Place.antt",

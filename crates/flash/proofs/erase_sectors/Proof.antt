@@ -8,7 +8,7 @@ use lib.ListN.{length}
 use Rattle.spec.specs.Step.{erase}
 use Rattle.spec.specs.Geometry.{sectors}
 use Rattle.flash.specs.Toward.{Toward, toward-more, toward-end}
-use Rattle.flash.specs.Sectors.{sectors-none, sectors-more}
+use Rattle.laws.specs.Sectors.{sectors-none, sectors-more}
 use Rattle.flash.proofs.erase_sectors.Statement.{statement}
 use Rattle.flash.proofs.erase_sectors.Tie as tie
 

@@ -5,7 +5,7 @@ use lib.ListN.{length, take}
 use lib.Seq.{take-all}
 use Rattle.spec.specs.Step.{bytes-at}
 use Rattle.flash.specs.Did.{Did, did-none, did-both}
-use Rattle.flash.specs.Bytes.{bytes-more, length-first}
+use Rattle.laws.specs.Steps.{bytes-more, length-first}
 use borrow.Author.Needs.{needs}
 use native.Mathlib.Omega.{arith}
 use Rattle.flash.proofs.program_bytes.Statement.{statement}

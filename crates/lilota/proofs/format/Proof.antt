@@ -2,9 +2,11 @@
 use mathlib.Core.Path.{refl, _∙_}
 use native.Mathlib.Omega.{arith}
 use lib.ListN.{length}
-use Rattle.record.specs.Suffix.{flag}
-use Rattle.lilota.specs.Carry.{carried}
-use Rattle.lilota.specs.Length.{good, format-bad, format-good}
+use Rattle.laws.specs.Flag.{flag}
+use Rattle.laws.specs.Length.{good}
+use Rattle.lilota.specs.Numbers.{bad-length}
+use Rattle.lilota.specs.Carry.{carried, spent-told}
+use Rattle.lilota.specs.Format.{format-bad, format-good}
 use borrow.Author.Needs.{needs}
 use Rattle.lilota.proofs.format.Statement.{statement}
 use Rattle.lilota.proofs.format.Tie as tie
@@ -28,13 +30,16 @@ returns : tie.Need-returns
 returns c =
     let c5 = c .before .before .before .before .before in
     let a = c5 .before .before .before .args in
-    rw (c .ended .ensures) (carried (a .allowance) refl refl (c .before .before .before .format-image .ensures)
-    ∙ format-good (a .image .now) (a .allowance) (flag (c5 .before .good-length .ensures) (c5 .if1 .taken)))
+    rw (c .ended .ensures) (
+      carried (a .allowance) refl refl (c .before .before .before .format-image .ensures)
+          ∙ format-good (a .image .now) (a .allowance) (flag (c5 .before .good-length .ensures) (c5 .if1 .taken)),
+      spent-told (c .before .before .before .format-image .result),
+    )
 
 returns-2 : tie.Need-returns-2
 returns-2 c =
     let a = c .before .before .before .args in
-    format-bad (a .image .now) (a .allowance) (flag (c .before .good-length .ensures) (c .if1 .left))
+    (format-bad (a .image .now) (a .allowance) (flag (c .before .good-length .ensures) (c .if1 .left)), bad-length)
 
 pub format-spec : {M : Type 1} → statement M
 format-spec = tie.close (tie.spec good-length-requires format-image-requires ended-requires same-length returns returns-2)

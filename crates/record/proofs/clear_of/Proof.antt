@@ -1,5 +1,5 @@
 -- clear_of: the eight bytes are FF or not.
-use Rattle.record.specs.Suffix.{flag}
+use Rattle.laws.specs.Flag.{flag}
 use mathlib.Core.Path.{sym}
 use lib.Seq.{length-take-le}
 use Rattle.spec.specs.Next.{clear-at}

@@ -1,13 +1,22 @@
 -- record_of: the name's end and the length bytes give the size, which fits in the part or doesn't.
-use mathlib.Core.Path.{refl}
-use Rattle.record.specs.NextLaws.{record-at-none, sized-as, sized-is, sized-short, sized-open}
+use mathlib.Core.Path.{_≡_, refl}
+use mathlib.Core.Logic.{⊎-elim}
+use borrow.Author.Tests.{leb-true, leb-false}
+use Rattle.spec.specs.declared.Next.{Next}
+use Rattle.spec.specs.Next.{sized, record-at}
+use Rattle.laws.specs.Next.{record-at-none, sized-as, sized-is, sized-short, sized-open}
 use native.Mathlib.Omega.{arith}
 use borrow.Author.Needs.{needs}
 use Rattle.record.proofs.record_of.Statement.{statement}
 use Rattle.record.proofs.record_of.Tie as tie
+use Rattle.record.proofs.record_of.Reads as reads
+use Rattle.record.proofs.record_of.Lts as lts
+use Rattle.record.proofs.data_len.Reads as data-len-reads
+use Rattle.record.proofs.name.name_len.Reads as name-len-reads
+use Rattle.record.proofs.size.Reads as size-reads
 
 returns : tie.Need-returns
-returns c = (record-at-none (c .before .before .args .held) (c .before .before .args .part .now) (c .if1 .taken), tt)
+returns c = (record-at-none (c .before .before .args .reserved) (c .before .before .args .part .now) (c .if1 .taken), tt)
 
 sub-name-len : tie.Need-sub-name-len
 sub-name-len c = search needs
@@ -27,35 +36,38 @@ data-len-requires c κs = search needs
 size-requires : tie.Need-size-requires
 size-requires c κs = search needs
 
+-- the place where both lengths are known, and the record of these lengths there
+abbrev Known : Type 0
+Known =
+    lts.After-data-len
+    (name-len-reads.Asked, name-len-reads.Learnt, data-len-reads.Asked, data-len-reads.Learnt, size-reads.Asked, size-reads.Learnt)
+    reads.Pre reads.Post
+
+known : (k : Known) {x : Next}
+    → let a = k .before .before .before .before .before .args in
+    sized (a .part .now) (k .before .name-len .result) (k .data-len .result) ≡ x → x ≡ record-at (a .reserved) (a .part .now)
+known k e =
+    let a = k .before .before .before .before .before .args in
+    sized-as (a .reserved) (a .part .now) _ (k .before .name-len .result) (k .data-len .result) (k .before .name-len .ensures .0) refl
+    (k .data-len .ensures .0) e
+
 returns-2 : tie.Need-returns-2
 returns-2 c =
-    let a = c .before .before .before .before .before .before .before .before .args in
-    let s = a .part .now in
-    let n = c .before .before .before .before .name-len .result in
-    let d = c .before .before .before .data-len .result in (
-      sized-as (a .held) s _ n d (c .before .before .before .before .name-len .ensures .0) refl (c .before .before .before .data-len .ensures .0)
-          (sized-is s n d (omega arith) (omega arith)),
-      (omega arith, omega arith, omega arith),
-    )
+    let k = c .before .before .before in
+    let s = k .before .before .before .before .before .args .part .now in
+    let n = k .before .name-len .result in
+    let d = k .data-len .result in
+    (known k (sized-is s n d (omega arith) (omega (arith, leb-true))), (omega arith, omega (arith, leb-true), omega arith))
 
 returns-3 : tie.Need-returns-3
 returns-3 c =
-    let a = c .before .before .before .before .before .before .before .before .args in
-    let s = a .part .now in
-    let n = c .before .before .before .before .name-len .result in
-    let d = c .before .before .before .data-len .result in (
-      sized-as (a .held) s _ n d (c .before .before .before .before .name-len .ensures .0) refl (c .before .before .before .data-len .ensures .0)
-          (sized-short s n d (omega arith) (omega arith)),
+    let k = c .before in
+    let s = k .before .before .before .before .before .args .part .now in
+    let n = k .before .name-len .result in
+    let d = k .data-len .result in (
+      known k (⊎-elim (λ w. sized-short s n d (w .0 .taken) (omega (arith, leb-false))) (λ w. sized-open s n d (w .left)) (c .if2 .came)),
       tt,
     )
-
-returns-4 : tie.Need-returns-4
-returns-4 c =
-    let a = c .before .before .before .before .before .before .args in
-    let s = a .part .now in
-    let n = c .before .before .name-len .result in
-    let d = c .before .data-len .result in
-    (sized-as (a .held) s _ n d (c .before .before .name-len .ensures .0) refl (c .before .data-len .ensures .0) (sized-open s n d (omega arith)), tt)
 
 pub record-of-spec : {M : Type 1} → statement M
 record-of-spec =
@@ -69,5 +81,4 @@ record-of-spec =
     data-len-requires
     size-requires
     returns-2
-    returns-3
-    returns-4)
+    returns-3)

@@ -1,5 +1,5 @@
 -- torn_wrap_of: the bytes from 3 on are FF or not.
-use Rattle.record.specs.Suffix.{flag}
+use Rattle.laws.specs.Flag.{flag}
 use mathlib.Core.Path.{ap, _∙_}
 use borrow.Rule.Slice.PartAt.{part-to-end}
 use Rattle.spec.specs.Basics.{blank}

@@ -1,7 +1,6 @@
 -- The phases one after another, the marker only where it is needed.
 use Rattle.spec.specs.Write.{migrate-steps}
-use Rattle.writing.specs.Old.{entry-of, migrate-few}
-use Rattle.writing.specs.Old.{migrate-few}
+use Rattle.writing.specs.Old.{old-entry, migrate-few}
 use mathlib.Core.List.{append-nil}
 use Rattle.flash.specs.Did.{did-both}
 use native.Mathlib.Omega.{arith}
@@ -15,7 +14,7 @@ migrate-requires c κs = search needs
 write-marker-requires : tie.Need-write-marker-requires
 write-marker-requires c κs =
     let c7 = c .before .before .before .before .before .before .before in
-    omega (arith, c7 .pre .1 (c .before .if1 .taken), migrate-few (c7 .args .old))
+    omega (arith, c7 .pre .1 .0 (c .before .if1 .taken), migrate-few (old-entry (c7 .args .old)))
 
 same-length : tie.Need-same-length
 same-length c = search needs
@@ -31,7 +30,7 @@ same-length-2 c = search needs
 returns-2 : tie.Need-returns-2
 returns-2 c =
     let o = c .before .before .before .before .before .before .args .old in
-    rw (c .if1 .left, append-nil (migrate-steps (entry-of o))) (c .before .before .before .migrate .ensures)
+    rw (c .if1 .left, append-nil (migrate-steps (old-entry o))) (c .before .before .before .migrate .ensures)
 
 pub prepare-spec : {M : Type 1} → statement M
 prepare-spec =

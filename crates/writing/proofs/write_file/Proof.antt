@@ -1,6 +1,6 @@
 -- A size that fits is placed, so that the other answer can't come; then the phases one after another.
 use Rattle.writing.specs.Put.{never-full, spot, marker-spot, prepare-few, put-phases}
-use Rattle.writing.specs.Old.{entry-of, lies-same}
+use Rattle.writing.specs.Old.{old-entry, lies-same}
 use Rattle.writing.specs.Steps.{record-count}
 use lib.ListN.{length}
 use mathlib.Core.Path.{sym, _∙_}
@@ -33,27 +33,32 @@ prepare-requires c κs =
     let c4 = c .before .before .before .before in let c5 = c4 .before in let c9 = c5 .before .before .before .before in
     let a = c9 .args in
     let e = rw (c5 .size .ensures) at (sym (c4 .after .ensures) ∙ c .before .before .at .given .1) in
-    (c9 .pre .1, (λ k. omega (arith, marker-spot (a .place) _ _ _ _ _ _ _ (c9 .pre .0) e k)), omega (arith, c9 .pre .0 .few))
+    (c9 .pre .1, ((λ k. omega (arith, marker-spot (a .place) _ _ _ _ _ _ _ (c9 .pre .0) e k)), omega (arith, c9 .pre .0 .few)))
 
 write-record-requires : tie.Need-write-record-requires
 write-record-requires c κs =
     let c6 = c .before .before .before .before .before .before in let c8 = c6 .before .before in let c9 = c8 .before in
     let a = c9 .before .before .before .before .args in
     let r = c9 .before .before .before .before .pre .0 in
-    let e = rw (c9 .size .ensures) at (sym (c8 .after .ensures) ∙ c6 .at .given .1) in (
-      r .named,
-      omega (arith, spot (a .place) _ _ _ _ _ _ _ r e),
-      omega
-          (arith, r .few, prepare-few (a .old) (c6 .at .given .0 .1 .0) (a .place .tail)),
-    )
+    let e = rw (c9 .size .ensures) at (sym (c8 .after .ensures) ∙ c6 .at .given .1) in
+    let few = prepare-few (a .old) (c6 .at .given .0 .1 .0) (a .place .tail) in
+    (r .named, (omega (arith, spot (a .place) _ _ _ _ _ _ _ r e), omega (arith, r .few)))
 
 delete-requires : tie.Need-delete-requires
 delete-requires c κs =
-    let c17 = c .before .before .before .before .before .before .before .before .before .before .before .before .before .before .before .before .before in
+    let c7 = c .before .before .before .before .before .before .before in let c10 = c7 .before .before .before in
+    let c17 = c10 .before .before .before .before .before .before .before in
     let a = c17 .args in
-    let placed = c .before .before .before .before .before .before .before .before .before .before .at .given .0 in (
+    let placed = c10 .at .given .0 in (
       lies-same (a .old) (length (a .image .now)) _ (c17 .pre .1) (omega arith),
-      omega (arith, c17 .pre .0 .few, prepare-few (a .old) (placed .1 .0) (a .place .tail), record-count (placed .0) (a .name .now) (a .content .now)),
+      omega (
+        arith,
+        c17 .pre .0 .few,
+        c7 .prepare .ensures .count,
+        c .before .before .before .write-record .ensures .count,
+        prepare-few (a .old) (placed .1 .0) (a .place .tail),
+        record-count (placed .0) (a .name .now) (a .content .now),
+      ),
     )
 
 same-length : tie.Need-same-length
@@ -64,7 +69,7 @@ returns-2 c =
     let c6 = c .before .before .before .before .before .before in let c10 = c6 .before .before .before .before in
     let c13 = c10 .before .before .before in let c15 = c13 .before .before in let c16 = c15 .before in
     let a = c16 .before .before .before .before .args in
-    put-phases (a .place) (entry-of (a .old)) (a .name .now) (a .content .now) _ _ _
+    put-phases (a .place) (old-entry (a .old)) (a .name .now) (a .content .now) _ _ _
     (rw (c16 .size .ensures) at (sym (c15 .after .ensures) ∙ c13 .at .given .1))
     (c10 .prepare .ensures) (c6 .write-record .ensures) (c .before .before .delete .ensures)
 

@@ -1,20 +1,14 @@
--- `lilota::mount::lilota_mount` meets its contract: the five numbers say all that mount's answer says.
-use borrow.Author.Needs.{needs}
+-- The numbers of mount's answer, through pointers.
 use Rattle.lilota.specs.Numbers.{mounted-given}
+use borrow.Author.Needs.{needs}
 use Rattle.lilota.proofs.c.lilota_mount.Statement.{statement}
 use Rattle.lilota.proofs.c.lilota_mount.Tie as tie
 
 mount-requires : tie.Need-mount-requires
 mount-requires c κs = search needs
 
-head-requires : tie.Need-head-requires
-head-requires c κs = search needs
-
-tail-requires : tie.Need-tail-requires
-tail-requires c κs = search needs
-
-files-requires : tie.Need-files-requires
-files-requires c κs = search needs
+report-requires : tie.Need-report-requires
+report-requires c κs = search needs
 
 steps-requires : tie.Need-steps-requires
 steps-requires c κs = search needs
@@ -27,11 +21,11 @@ same-length c = search needs
 
 returns : tie.Need-returns
 returns c =
-    let c4 = c .before .before .before .before in let c7 = c4 .before .before .before in
-    mounted-given (c7 .mount .result) _ _ _ _ _ _ _ (c .answer .ensures) (c4 .head .ensures) (c .before .before .before .tail .ensures)
-    (c .before .before .files .ensures) (c .before .steps .ensures) (c7 .mount .ensures)
+    let c5 = c .before .before .before .before .before in
+    mounted-given (c5 .mount .result) _ _ _ _ _ (c .answer .ensures) (c .before .before .report .ensures) (c .before .steps .ensures)
+    (c5 .mount .ensures .0)
 
 pub lilota-mount-spec : {M : Type 1} → statement M
 lilota-mount-spec =
     tie.close
-    (tie.spec mount-requires head-requires tail-requires files-requires steps-requires answer-requires same-length returns)
+    (tie.spec mount-requires report-requires steps-requires answer-requires same-length returns)

@@ -22,7 +22,7 @@ same-length c = search needs
 returns : tie.Need-returns
 returns c =
     let c5 = c .before .before .before .before .before in
-    swept-given (c5 .sweep .result) _ _ _ _ _ (c .answer .ensures) (c .before .before .moves .ensures) (c .before .steps .ensures) (c5 .sweep .ensures)
+    swept-given (c5 .sweep .result) _ _ _ _ _ (c .answer .ensures) (c .before .before .moves .ensures) (c .before .steps .ensures) (c5 .sweep .ensures .0)
 
 pub lilota-sweep-spec : {M : Type 1} → statement M
 lilota-sweep-spec =

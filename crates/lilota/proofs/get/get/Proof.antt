@@ -1,7 +1,9 @@
 -- The part is where get_place says, which lies inside the image.
-use Prim.Native.Nat.{_-_}
+use Prim.Native.Nat.{_+_, _-_}
+use mathlib.Core.Path.{refl, ap}
+use Rattle.spec.specs.Numbers.{Outcome}
 use Rattle.lilota.specs.Look.{part-is}
-use Rattle.lilota.specs.Numbers.{held-at}
+use Rattle.lilota.specs.Numbers.{located}
 use borrow.Author.Needs.{needs}
 use Rattle.lilota.proofs.get.get.Statement.{statement}
 use Rattle.lilota.proofs.get.get.Tie as tie
@@ -23,8 +25,12 @@ part-result-end c = search needs
 
 returns : tie.Need-returns
 returns c =
-    let c2 = c .before .before in let c5 = c2 .before .before .before in
-    part-is (c5 .args .image .now) (held-at (c2 .get-place .result)) _ (c2 .get-place .ensures .0)
+    let image = c .before .before .before .before .before .before .args .image in
+    let p = c .before .before .before .get-place in (
+      part-is (image .now) (located (p .result)) _ (p .ensures .0),
+      ap (λ (o : Outcome). (image .ptr .0, o .numbers .extent .offset + image .ptr .1)) (p .ensures .0),
+      refl,
+    )
 
 pub get-spec : {M : Type 1} → statement M
 get-spec =

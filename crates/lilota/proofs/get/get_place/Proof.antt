@@ -1,44 +1,57 @@
--- A bad length or name is refused; else get_in found what the definition gets.
-use mathlib.Core.Path.{_∙_}
-use Rattle.record.specs.Suffix.{flag}
-use Rattle.lilota.specs.Look.{get-length, get-name, get-on}
+-- What the door refuses is refused; else the call goes on with what was read.
+use mathlib.Core.Path.{sym, ap, _∙_}
 use native.Mathlib.Omega.{arith}
+use Rattle.spec.specs.Answers.{file-of, getting}
+use Rattle.reading.specs.Read.{answered, reading-of}
+use Rattle.lilota.specs.Carry.{shut, let-in}
+use Rattle.lilota.specs.Calls.{get-is}
 use borrow.Author.Needs.{needs}
 use Rattle.lilota.proofs.get.get_place.Statement.{statement}
 use Rattle.lilota.proofs.get.get_place.Tie as tie
 
-good-length-requires : tie.Need-good-length-requires
-good-length-requires c κs = search needs
+admitted-named-requires : tie.Need-admitted-named-requires
+admitted-named-requires c κs = search needs
 
-name-ok-requires : tie.Need-name-ok-requires
-name-ok-requires c κs = search needs
+enum-known-x : tie.Need-enum-known-x
+enum-known-x c = search needs
 
-get-in-requires : tie.Need-get-in-requires
-get-in-requires c κs = flag (c .before .before .before .good-length .ensures) (c .before .before .if1 .taken)
+get-from-requires : tie.Need-get-from-requires
+get-from-requires c κs = (rw (c .before .x .given .1) at (c .before .before .before .admitted-named .ensures .1)) .0
+
+enum-known-x-2 : tie.Need-enum-known-x-2
+enum-known-x-2 c = search needs
+
+nowhere-requires : tie.Need-nowhere-requires
+nowhere-requires c κs = search needs
 
 returns : tie.Need-returns
 returns c =
-    let c4 = c .before .before .before .before in
-    let a = c4 .before .before .before .args in (
-      c .get-in .ensures .0 ∙ get-on (a .image .now) (a .name .now) (flag (c4 .good-length .ensures) (c .before .before .before .if1 .taken))
-          (flag (c .before .before .name-ok .ensures) (c .before .if2 .taken)),
-      c .get-in .ensures .1,
+    let g = c .before .before .before .before .before .before .before .args in
+    let s = g .image .now in (
+      c .get-from .ensures .0
+          ∙ let-in s 0 (reading-of s (c .before .before .x .given .0 .0)) (file-of (g .name .now) getting)
+          (sym (ap (answered s) (c .before .before .x .given .1)) ∙ c .before .before .before .before .admitted-named .ensures .0)
+          ∙ get-is s (g .name .now),
+      c .get-from .ensures .1,
     )
 
 returns-2 : tie.Need-returns-2
 returns-2 c =
-    let a = c .before .before .before .before .before .before .args in (
-      get-name (a .image .now) (a .name .now) (flag (c .before .before .before .good-length .ensures) (c .before .before .if1 .taken))
-          (flag (c .before .name-ok .ensures) (c .if2 .left)),
+    let g = c .before .before .before .before .before .before .before .args in
+    let s = g .image .now in
+    rw (c .nowhere .ensures) (
+      shut s 0 _ (file-of (g .name .now) getting) (sym (ap (answered s) (c .before .before .x2 .given .1)) ∙ c .before .before .before .before .admitted-named .ensures .0) ∙ get-is s (g .name .now),
       omega arith,
     )
-
-returns-3 : tie.Need-returns-3
-returns-3 c =
-    let a = c .before .before .before .before .args in
-    (get-length (a .image .now) (a .name .now) (flag (c .before .good-length .ensures) (c .if1 .left)), omega arith)
 
 pub get-place-spec : {M : Type 1} → statement M
 get-place-spec =
     tie.close
-    (tie.spec good-length-requires name-ok-requires get-in-requires returns returns-2 returns-3)
+    (tie.spec
+    admitted-named-requires
+    enum-known-x
+    get-from-requires
+    enum-known-x-2
+    nowhere-requires
+    returns
+    returns-2)

@@ -1,7 +1,9 @@
 -- The part is where list_place says, which lies inside the image.
-use Prim.Native.Nat.{_-_}
+use Prim.Native.Nat.{_+_, _-_}
+use mathlib.Core.Path.{refl, ap}
+use Rattle.spec.specs.Numbers.{Outcome}
 use Rattle.lilota.specs.Look.{part-is}
-use Rattle.lilota.specs.Numbers.{listed-at}
+use Rattle.lilota.specs.Numbers.{listed}
 use borrow.Author.Needs.{needs}
 use Rattle.lilota.proofs.list.list_name.Statement.{statement}
 use Rattle.lilota.proofs.list.list_name.Tie as tie
@@ -9,8 +11,8 @@ use Rattle.lilota.proofs.list.list_name.Tie as tie
 list-place-requires : tie.Need-list-place-requires
 list-place-requires c κs = tt
 
-add-end : tie.Need-add-end
-add-end c = search needs
+add-to : tie.Need-add-to
+add-to c = search needs
 
 sub-result : tie.Need-sub-result
 sub-result c = search needs
@@ -23,10 +25,14 @@ part-result-end c = search needs
 
 returns : tie.Need-returns
 returns c =
-    let c2 = c .before .before in let c4 = c2 .before .before in
-    part-is (c4 .args .image .now) (listed-at (c2 .list-place .result)) _ (c2 .list-place .ensures .0)
+    let image = c .before .before .before .before .before .args .image in
+    let p = c .before .before .before .list-place in (
+      part-is (image .now) (listed (p .result)) _ (p .ensures .0),
+      ap (λ (o : Outcome). (image .ptr .0, o .numbers .extent .offset + image .ptr .1)) (p .ensures .0),
+      refl,
+    )
 
 pub list-name-spec : {M : Type 1} → statement M
 list-name-spec =
     tie.close
-    (tie.spec list-place-requires add-end sub-result part-result-start part-result-end returns)
+    (tie.spec list-place-requires add-to sub-result part-result-start part-result-end returns)

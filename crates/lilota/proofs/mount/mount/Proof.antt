@@ -1,31 +1,59 @@
--- `lilota::mount::mount` meets its contract: a bad length is 22, a good one goes on.
-use mathlib.Core.Path.{_∙_}
+-- What the door refuses is refused; else the call goes on with what was read.
+use mathlib.Core.Path.{sym, ap, _∙_}
+use Rattle.spec.specs.Answers.{mount-of}
+use Rattle.reading.specs.Read.{answered, reading-of}
+use Rattle.lilota.specs.Carry.{shut, let-in}
+use Rattle.lilota.specs.Calls.{mount-is}
 use borrow.Author.Needs.{needs}
-use Rattle.record.specs.Suffix.{flag}
-use Rattle.lilota.specs.Mount.{mount-on, mount-length}
 use Rattle.lilota.proofs.mount.mount.Statement.{statement}
 use Rattle.lilota.proofs.mount.mount.Tie as tie
 
-good-length-requires : tie.Need-good-length-requires
-good-length-requires c κs = search needs
+accepted-requires : tie.Need-accepted-requires
+accepted-requires c κs = search needs
 
-mount-read-requires : tie.Need-mount-read-requires
-mount-read-requires c κs = flag (c .before .before .good-length .ensures) (c .before .if1 .taken)
+enum-known-x : tie.Need-enum-known-x
+enum-known-x c = search needs
+
+mount-from-requires : tie.Need-mount-from-requires
+mount-from-requires c κs = rw (c .before .before .x .given .1) at (c .before .before .before .before .accepted .ensures .1)
+
+enum-known-x-2 : tie.Need-enum-known-x-2
+enum-known-x-2 c = search needs
 
 same-length : tie.Need-same-length
 same-length c = search needs
 
 returns : tie.Need-returns
 returns c =
-    let c4 = c .before .before .before .before in let c5 = c4 .before in
-    let a = c5 .before .before .args in
-    let whole = flag (c5 .good-length .ensures) (c4 .if1 .taken) in
-    c .before .before .mount-read .ensures ∙ mount-on (a .image .now) (a .allowance) whole
+    let g = c .before .before .before .before .before .before .before .before .before .before .args in
+    let s = g .image .now in (
+      c .before .before .mount-from .ensures .0
+          ∙ let-in s (g .allowance) (reading-of s (c .before .before .before .before .before .x .given .0 .0)) (mount-of s)
+          (sym (ap (answered s) (c .before .before .before .before .before .x .given .1)) ∙ c .before .before .before .before .before .before .before .accepted .ensures .0)
+          ∙ mount-is s (g .allowance),
+      c .before .before .mount-from .ensures .1,
+    )
+
+same-length-2 : tie.Need-same-length-2
+same-length-2 c = search needs
 
 returns-2 : tie.Need-returns-2
 returns-2 c =
-    let a = c .before .before .before .args in
-    mount-length (a .image .now) (a .allowance) (flag (c .before .good-length .ensures) (c .if1 .left))
+    let g = c .before .before .before .before .before .before .args in
+    let s = g .image .now in (
+      shut s (g .allowance) _ (mount-of s) (sym (ap (answered s) (c .before .x2 .given .1)) ∙ c .before .before .before .accepted .ensures .0) ∙ mount-is s (g .allowance),
+      rw (c .before .x2 .given .1) at (c .before .before .before .accepted .ensures .1),
+    )
 
 pub mount-spec : {M : Type 1} → statement M
-mount-spec = tie.close (tie.spec good-length-requires mount-read-requires same-length returns returns-2)
+mount-spec =
+    tie.close
+    (tie.spec
+    accepted-requires
+    enum-known-x
+    mount-from-requires
+    enum-known-x-2
+    same-length
+    returns
+    same-length-2
+    returns-2)

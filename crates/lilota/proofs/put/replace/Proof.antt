@@ -9,7 +9,7 @@ first-cursor-requires : tie.Need-first-cursor-requires
 first-cursor-requires c κs = search needs
 
 old-file-requires : tie.Need-old-file-requires
-old-file-requires c κs = rw (c .first-cursor .ensures) (c .before .before .before .before .before .before .pre .0 .surveyed .tallied .sound)
+old-file-requires c κs = rw (c .first-cursor .ensures) (c .before .before .before .before .before .before .pre .0 .accepted .surveyed .tallied .sound)
 
 write-file-requires : tie.Need-write-file-requires
 write-file-requires c κs =

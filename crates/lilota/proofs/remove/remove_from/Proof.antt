@@ -4,7 +4,9 @@ use mathlib.Core.Option.{none, some}
 use native.Mathlib.Omega.{arith}
 use Rattle.reading.specs.Rest.{entry-of}
 use Rattle.reading.specs.Seek.{found-in}
-use Rattle.lilota.specs.Carry.{carried, refused}
+use Rattle.spec.specs.Basics.{numbered}
+use Rattle.lilota.specs.Numbers.{no-file}
+use Rattle.lilota.specs.Carry.{carried, refused, spent-told}
 use Rattle.lilota.specs.Remove.{found-file}
 use borrow.Author.Needs.{needs}
 use Rattle.lilota.proofs.remove.remove_from.Statement.{statement}
@@ -14,7 +16,7 @@ first-cursor-requires : tie.Need-first-cursor-requires
 first-cursor-requires c κs = search needs
 
 file-named-requires : tie.Need-file-named-requires
-file-named-requires c κs = rw (c .first-cursor .ensures) (c .before .before .before .before .before .pre .surveyed .tallied .sound)
+file-named-requires c κs = rw (c .first-cursor .ensures) (c .before .before .before .before .before .pre .accepted .surveyed .tallied .sound)
 
 enum-known-f : tie.Need-enum-known-f
 enum-known-f c = search needs
@@ -29,10 +31,12 @@ returns : tie.Need-returns
 returns c =
     let c2 = c .before .before in let c8 = c2 .before .before .before .before .before .before in
     let a = c8 .args in
-    let q = rw (c2 .before .first-cursor .ensures) at (c2 .file-named .ensures .0) in
-    refused (a .image .now) (a .allowance) 2
-    ∙ found-file (a .image .now) (a .allowance) (a .s) (a .name .now) (c8 .pre) (c2 .file-named .result) q none
-    (ap (found-in (a .image .now)) (c .enum-told .given .1))
+    let q = rw (c2 .before .first-cursor .ensures) at (c2 .file-named .ensures .0) in (
+      refused (a .image .now) (a .allowance) (numbered 2)
+          ∙ found-file (a .image .now) (a .allowance) (a .s) (a .name .now) (c8 .pre) (c2 .file-named .result) q none
+          (ap (found-in (a .image .now)) (c .enum-told .given .1)),
+      no-file,
+    )
 
 set-status-requires : tie.Need-set-status-requires
 set-status-requires c κs =
@@ -52,9 +56,12 @@ returns-2 c =
     let a = c14 .args in
     let f = c .before .before .before .before .before .before .f .given in
     let q = rw (c9 .first-cursor .ensures) at (c8 .file-named .ensures .0) in
-    rw (c .ended .ensures) (carried (a .allowance) refl refl (c .before .before .before .set-status .ensures)
-    ∙ found-file (a .image .now) (a .allowance) (a .s) (a .name .now) (c14 .pre) (c8 .file-named .result) q
-    (some (entry-of (a .image .now) (f .0 .0))) (ap (found-in (a .image .now)) (f .1)))
+    rw (c .ended .ensures) (
+      carried (a .allowance) refl refl (c .before .before .before .set-status .ensures)
+          ∙ found-file (a .image .now) (a .allowance) (a .s) (a .name .now) (c14 .pre) (c8 .file-named .result) q
+          (some (entry-of (a .image .now) (f .0 .0))) (ap (found-in (a .image .now)) (f .1)),
+      spent-told (c .before .before .before .set-status .result),
+    )
 
 pub remove-from-spec : {M : Type 1} → statement M
 remove-from-spec =

@@ -1,30 +1,59 @@
--- A bad length is refused; else what sweep_whole did is the defined sweep.
-use mathlib.Core.Path.{_∙_}
-use Rattle.record.specs.Suffix.{flag}
-use Rattle.lilota.specs.Sweep.{sweep-length, sweep-on}
+-- What the door refuses is refused; else the call goes on with what was read.
+use mathlib.Core.Path.{sym, ap, _∙_}
+use Rattle.spec.specs.Answers.{sweep-of}
+use Rattle.reading.specs.Read.{answered, reading-of}
+use Rattle.lilota.specs.Carry.{shut, let-in}
+use Rattle.lilota.specs.Calls.{sweep-is}
 use borrow.Author.Needs.{needs}
 use Rattle.lilota.proofs.sweep.sweep.Statement.{statement}
 use Rattle.lilota.proofs.sweep.sweep.Tie as tie
 
-good-length-requires : tie.Need-good-length-requires
-good-length-requires c κs = search needs
+admitted-requires : tie.Need-admitted-requires
+admitted-requires c κs = search needs
 
-sweep-whole-requires : tie.Need-sweep-whole-requires
-sweep-whole-requires c κs = flag (c .before .before .good-length .ensures) (c .before .if1 .taken)
+enum-known-x : tie.Need-enum-known-x
+enum-known-x c = search needs
+
+sweep-from-requires : tie.Need-sweep-from-requires
+sweep-from-requires c κs = rw (c .before .before .x .given .1) at (c .before .before .before .before .admitted .ensures .1)
+
+enum-known-x-2 : tie.Need-enum-known-x-2
+enum-known-x-2 c = search needs
 
 same-length : tie.Need-same-length
 same-length c = search needs
 
 returns : tie.Need-returns
 returns c =
-    let c4 = c .before .before .before .before in let c5 = c4 .before in
-    let a = c5 .before .before .args in
-    c .before .before .sweep-whole .ensures ∙ sweep-on (a .image .now) (a .allowance) (flag (c5 .good-length .ensures) (c4 .if1 .taken))
+    let g = c .before .before .before .before .before .before .before .before .before .before .args in
+    let s = g .image .now in (
+      c .before .before .sweep-from .ensures .0
+          ∙ let-in s (g .allowance) (reading-of s (c .before .before .before .before .before .x .given .0 .0)) (sweep-of s)
+          (sym (ap (answered s) (c .before .before .before .before .before .x .given .1)) ∙ c .before .before .before .before .before .before .before .admitted .ensures .0)
+          ∙ sweep-is s (g .allowance),
+      c .before .before .sweep-from .ensures .1,
+    )
+
+same-length-2 : tie.Need-same-length-2
+same-length-2 c = search needs
 
 returns-2 : tie.Need-returns-2
 returns-2 c =
-    let a = c .before .before .before .args in sweep-length (a .image .now) (a .allowance) (flag (c .before .good-length .ensures) (c .if1 .left))
+    let g = c .before .before .before .before .before .before .args in
+    let s = g .image .now in (
+      shut s (g .allowance) _ (sweep-of s) (sym (ap (answered s) (c .before .x2 .given .1)) ∙ c .before .before .before .admitted .ensures .0) ∙ sweep-is s (g .allowance),
+      rw (c .before .x2 .given .1) at (c .before .before .before .admitted .ensures .1),
+    )
 
 pub sweep-spec : {M : Type 1} → statement M
 sweep-spec =
-    tie.close (tie.spec good-length-requires sweep-whole-requires same-length returns returns-2)
+    tie.close
+    (tie.spec
+    admitted-requires
+    enum-known-x
+    sweep-from-requires
+    enum-known-x-2
+    same-length
+    returns
+    same-length-2
+    returns-2)

@@ -5,7 +5,7 @@ use borrow.Rule.Slice.PartAt.{part-count}
 use Rattle.spec.specs.declared.Next.{Next}
 use Rattle.record.specs.Within.{Within}
 use Rattle.reading.specs.CursorLaws.{look-is}
-use Rattle.reading.specs.Fits.{allowed-keeps}
+use Rattle.laws.specs.Fits.{allowed-keeps}
 use borrow.Author.Needs.{needs}
 use Rattle.reading.proofs.chain.look.Statement.{statement}
 use Rattle.reading.proofs.chain.look.Tie as tie
@@ -35,7 +35,7 @@ returns c =
     (c .before .next-of .ensures .1) in (
       look-is s k (c .allowed .result) (c .before .next-of .result) (p .ordered) (c .before .next-of .ensures .0) (c .allowed .ensures),
       subst (λ (x : Next). Within x (k .end - k .at)) (sym (c .allowed .ensures))
-          (allowed-keeps (λ (x : Next). Within x (k .end - k .at)) (k .held) (c .before .next-of .result) tt w),
+          (allowed-keeps (λ (x : Next). Within x (k .end - k .at)) (k .pending) (c .before .next-of .result) tt w),
     )
 
 pub look-spec : {M : Type 1} → statement M

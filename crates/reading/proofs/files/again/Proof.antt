@@ -1,5 +1,5 @@
 -- again: a record that doesn't count is not asked for a second one.
-use Rattle.record.specs.Suffix.{flag}
+use Rattle.laws.specs.Flag.{flag}
 use Rattle.reading.specs.FileLaws.{twice}
 use borrow.Author.Needs.{needs}
 use Rattle.reading.proofs.files.again.Statement.{statement}

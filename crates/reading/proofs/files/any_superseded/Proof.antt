@@ -1,6 +1,6 @@
 -- any_superseded: what was passed has no superseded record, so the answer is about the rest; each turn drops one record of the rest.
-use Rattle.record.specs.Suffix.{flag}
-use Rattle.reading.specs.Fold.{turned, Folded, fold-start}
+use Rattle.laws.specs.Flag.{flag}
+use Rattle.reading.specs.Fold.{passes, Folded, fold-start}
 use Rattle.reading.specs.Seek.{any-of, any-over, any-found, any-onward}
 use Rattle.spec.specs.Files.{superseded}
 use Rattle.reading.specs.Rest.{rest}
@@ -33,25 +33,25 @@ returns c =
 is-superseded-requires : tie.Need-is-superseded-requires Inv-loop μ-loop
 is-superseded-requires c κs =
     let c3 = c .before .before .before in
-    (c3 .before .before .before .pre, turned (c3 .advance .ensures) (c .before .s .given .1) .whole)
+    (c3 .before .before .before .pre, passes (c3 .advance .ensures) (c .before .s .given .1) .whole)
 
 returns-2 : tie.Need-returns-2 Inv-loop μ-loop
 returns-2 c =
     let c3 = c .before .before .before in let c5 = c3 .before .before in let c6 = c5 .before in
     let a = c6 .before .before .args in
-    let t = turned (c5 .advance .ensures) (c3 .s .given .1) in
+    let t = passes (c5 .advance .ensures) (c3 .s .given .1) in
     any-found (superseded (rest (a .image .now) (a .start) .entries)) (c6 .loop .inv) t (flag (c .before .is-superseded .ensures) (c .if1 .taken))
 
 loop-less : tie.Need-loop-less Inv-loop μ-loop
 loop-less c =
     let c3 = c .before .before .before in
-    turned (c3 .before .before .advance .ensures) (c3 .s .given .1) .onward .less
+    passes (c3 .before .before .advance .ensures) (c3 .s .given .1) .onward .less
 
 loop-again : tie.Need-loop-again Inv-loop μ-loop
 loop-again c =
     let c3 = c .before .before .before in let c5 = c3 .before .before in let c6 = c5 .before in
     let a = c6 .before .before .args in
-    let t = turned (c5 .advance .ensures) (c3 .s .given .1) in
+    let t = passes (c5 .advance .ensures) (c3 .s .given .1) in
     any-onward (superseded (rest (a .image .now) (a .start) .entries)) (c6 .loop .inv) t (flag (c .before .is-superseded .ensures) (c .if1 .left))
 
 pub any-superseded-spec : {M : Type 1} → statement M

@@ -1,6 +1,6 @@
 -- count_files: the count so far and the live files of the rest make the whole; there are fewer records than bytes, so no sum wraps.
-use Rattle.record.specs.Suffix.{flag}
-use Rattle.reading.specs.Fold.{turned}
+use Rattle.laws.specs.Flag.{flag}
+use Rattle.reading.specs.Fold.{passes}
 use Rattle.reading.specs.Seek.{Counted, count-start, count-over, count-one, count-none}
 use Rattle.spec.specs.Files.{live}
 use Rattle.reading.specs.Rest.{rest}
@@ -34,7 +34,7 @@ returns c =
 is-live-requires : tie.Need-is-live-requires Inv-loop μ-loop
 is-live-requires c κs =
     let c3 = c .before .before .before in
-    (c3 .before .before .before .pre, turned (c3 .advance .ensures) (c .before .s .given .1) .whole)
+    (c3 .before .before .before .pre, passes (c3 .advance .ensures) (c .before .s .given .1) .whole)
 
 add-count : tie.Need-add-count Inv-loop μ-loop
 add-count c =
@@ -44,25 +44,25 @@ add-count c =
 loop-less : tie.Need-loop-less Inv-loop μ-loop
 loop-less c =
     let c3 = c .before .before .before in
-    turned (c3 .before .before .advance .ensures) (c3 .s .given .1) .onward .less
+    passes (c3 .before .before .advance .ensures) (c3 .s .given .1) .onward .less
 
 loop-again : tie.Need-loop-again Inv-loop μ-loop
 loop-again c =
     let c3 = c .before .before .before in let c5 = c3 .before .before in let c6 = c5 .before in
     let a = c6 .before .before .args in
-    let t = turned (c5 .advance .ensures) (c3 .s .given .1) in
+    let t = passes (c5 .advance .ensures) (c3 .s .given .1) in
     count-one (live (rest (a .image .now) (a .start) .entries)) (c6 .loop .inv) t (flag (c .before .is-live .ensures) (c .if1 .taken))
 
 loop-less-2 : tie.Need-loop-less-2 Inv-loop μ-loop
 loop-less-2 c =
     let c3 = c .before .before .before in
-    turned (c3 .before .before .advance .ensures) (c3 .s .given .1) .onward .less
+    passes (c3 .before .before .advance .ensures) (c3 .s .given .1) .onward .less
 
 loop-again-2 : tie.Need-loop-again-2 Inv-loop μ-loop
 loop-again-2 c =
     let c3 = c .before .before .before in let c5 = c3 .before .before in let c6 = c5 .before in
     let a = c6 .before .before .args in
-    let t = turned (c5 .advance .ensures) (c3 .s .given .1) in
+    let t = passes (c5 .advance .ensures) (c3 .s .given .1) in
     count-none (live (rest (a .image .now) (a .start) .entries)) (c6 .loop .inv) t (flag (c .before .is-live .ensures) (c .if1 .left))
 
 pub count-files-spec : {M : Type 1} → statement M

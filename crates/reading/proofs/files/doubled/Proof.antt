@@ -1,6 +1,6 @@
 -- doubled: what was passed doubles no name, so the answer is about the rest; a record is compared with those behind it only.
-use Rattle.record.specs.Suffix.{flag}
-use Rattle.reading.specs.Fold.{turned, Folded, fold-start}
+use Rattle.laws.specs.Flag.{flag}
+use Rattle.reading.specs.Fold.{passes, Folded, fold-start}
 use Rattle.reading.specs.Seek.{doubled-of, doubled-over, doubled-found, doubled-onward}
 use Rattle.reading.proofs.Others.{other-step}
 use Rattle.reading.specs.Cursor.{left}
@@ -30,24 +30,24 @@ returns c =
 
 again-requires : tie.Need-again-requires Inv-loop μ-loop
 again-requires c κs =
-    let t = turned (c .before .before .before .advance .ensures) (c .before .s .given .1) in
+    let t = passes (c .before .before .before .advance .ensures) (c .before .s .given .1) in
     (t .onward .sound, t .whole)
 
 returns-2 : tie.Need-returns-2 Inv-loop μ-loop
 returns-2 c =
     let c3 = c .before .before .before in let c5 = c3 .before .before in let c6 = c5 .before in let c8 = c6 .before .before in
-    let t = turned (c5 .advance .ensures) (c3 .s .given .1) in
+    let t = passes (c5 .advance .ensures) (c3 .s .given .1) in
     doubled-found (c8 .args .status .byte) (c6 .loop .inv) t (flag (c .before .again .ensures) (c .if1 .taken))
 
 loop-less : tie.Need-loop-less Inv-loop μ-loop
 loop-less c =
     let c3 = c .before .before .before in
-    turned (c3 .before .before .advance .ensures) (c3 .s .given .1) .onward .less
+    passes (c3 .before .before .advance .ensures) (c3 .s .given .1) .onward .less
 
 loop-again : tie.Need-loop-again Inv-loop μ-loop
 loop-again c =
     let c3 = c .before .before .before in let c5 = c3 .before .before in let c6 = c5 .before in let c8 = c6 .before .before in
-    let t = turned (c5 .advance .ensures) (c3 .s .given .1) in
+    let t = passes (c5 .advance .ensures) (c3 .s .given .1) in
     doubled-onward (c8 .args .status .byte) (c6 .loop .inv) t (flag (c .before .again .ensures) (c .if1 .left))
 
 pub doubled-spec : {M : Type 1} → statement M

@@ -1,6 +1,6 @@
 -- file_indexed: `left` files are still to be passed among the rest.
-use Rattle.record.specs.Suffix.{flag}
-use Rattle.reading.specs.Fold.{turned, Folded, fold-start}
+use Rattle.laws.specs.Flag.{flag}
+use Rattle.reading.specs.Fold.{passes, Folded, fold-start}
 use Rattle.reading.specs.FileLaws.{is-file}
 use Rattle.reading.specs.Seek.{nth-of, nth-over, nth-found, nth-onward, nth-skip}
 use Rattle.reading.proofs.Others.{other-step}
@@ -32,12 +32,12 @@ returns c = (
 )
 
 is-file-requires : tie.Need-is-file-requires Inv-loop μ-loop
-is-file-requires c κs = turned (c .before .before .before .advance .ensures) (c .before .s .given .1) .whole
+is-file-requires c κs = passes (c .before .before .before .advance .ensures) (c .before .s .given .1) .whole
 
 returns-2 : tie.Need-returns-2 Inv-loop μ-loop
 returns-2 c =
     let c4 = c .before .before .before .before in let c6 = c4 .before .before in let c7 = c6 .before in
-    let t = turned (c6 .advance .ensures) (c4 .s .given .1) in
+    let t = passes (c6 .advance .ensures) (c4 .s .given .1) in
     (nth-found is-file (c7 .loop .inv) t (flag (c .before .before .is-file .ensures) (c .before .if1 .taken)) (c .if2 .taken), t .whole)
 
 sub-left : tie.Need-sub-left Inv-loop μ-loop
@@ -46,23 +46,23 @@ sub-left c = search needs
 loop-less : tie.Need-loop-less Inv-loop μ-loop
 loop-less c =
     let c4 = c .before .before .before .before in
-    turned (c4 .before .before .advance .ensures) (c4 .s .given .1) .onward .less
+    passes (c4 .before .before .advance .ensures) (c4 .s .given .1) .onward .less
 
 loop-again : tie.Need-loop-again Inv-loop μ-loop
 loop-again c =
     let c4 = c .before .before .before .before in let c6 = c4 .before .before in let c7 = c6 .before in
-    let t = turned (c6 .advance .ensures) (c4 .s .given .1) in
+    let t = passes (c6 .advance .ensures) (c4 .s .given .1) in
     nth-onward is-file (c7 .loop .inv) t (flag (c .before .before .is-file .ensures) (c .before .if1 .taken)) (c .if2 .left)
 
 loop-less-2 : tie.Need-loop-less-2 Inv-loop μ-loop
 loop-less-2 c =
     let c3 = c .before .before .before in
-    turned (c3 .before .before .advance .ensures) (c3 .s .given .1) .onward .less
+    passes (c3 .before .before .advance .ensures) (c3 .s .given .1) .onward .less
 
 loop-again-2 : tie.Need-loop-again-2 Inv-loop μ-loop
 loop-again-2 c =
     let c3 = c .before .before .before in let c5 = c3 .before .before in let c6 = c5 .before in
-    let t = turned (c5 .advance .ensures) (c3 .s .given .1) in
+    let t = passes (c5 .advance .ensures) (c3 .s .given .1) in
     nth-skip is-file (c6 .loop .inv) t (flag (c .before .is-file .ensures) (c .if1 .left))
 
 pub file-indexed-spec : {M : Type 1} → statement M

@@ -1,6 +1,6 @@
 -- file_named: what was passed has no such file, so the answer is about the rest.
-use Rattle.record.specs.Suffix.{flag}
-use Rattle.reading.specs.Fold.{turned, Folded, fold-start}
+use Rattle.laws.specs.Flag.{flag}
+use Rattle.reading.specs.Fold.{passes, Folded, fold-start}
 use Rattle.reading.specs.FileLaws.{is-file}
 use Rattle.reading.specs.Seek.{first-of, first-over, first-found, first-other, first-skip}
 use Rattle.spec.specs.Files.{has-name}
@@ -33,18 +33,18 @@ returns c =
     )
 
 is-file-requires : tie.Need-is-file-requires Inv-loop μ-loop
-is-file-requires c κs = turned (c .before .before .before .advance .ensures) (c .before .s .given .1) .whole
+is-file-requires c κs = passes (c .before .before .before .advance .ensures) (c .before .s .given .1) .whole
 
 has-name-requires : tie.Need-has-name-requires Inv-loop μ-loop
 has-name-requires c κs =
     let c3 = c .before .before .before in
-    turned (c3 .before .before .advance .ensures) (c3 .s .given .1) .whole
+    passes (c3 .before .before .advance .ensures) (c3 .s .given .1) .whole
 
 returns-2 : tie.Need-returns-2 Inv-loop μ-loop
 returns-2 c =
     let c5 = c .before .before .before .before .before in let c7 = c5 .before .before in let c8 = c7 .before in
     let c11 = c8 .before .before .before in
-    let t = turned (c7 .advance .ensures) (c5 .s .given .1) in (
+    let t = passes (c7 .advance .ensures) (c5 .s .given .1) in (
       first-found (has-name (c11 .args .name .now)) is-file (c8 .loop .inv) t
           (flag (c .before .before .before .is-file .ensures) (c .before .before .if1 .taken)) (flag (c .before .has-name .ensures) (c .if2 .taken)),
       t .whole,
@@ -53,25 +53,25 @@ returns-2 c =
 loop-less : tie.Need-loop-less Inv-loop μ-loop
 loop-less c =
     let c5 = c .before .before .before .before .before in
-    turned (c5 .before .before .advance .ensures) (c5 .s .given .1) .onward .less
+    passes (c5 .before .before .advance .ensures) (c5 .s .given .1) .onward .less
 
 loop-again : tie.Need-loop-again Inv-loop μ-loop
 loop-again c =
     let c5 = c .before .before .before .before .before in let c7 = c5 .before .before in let c8 = c7 .before in
     let c11 = c8 .before .before .before in
-    let t = turned (c7 .advance .ensures) (c5 .s .given .1) in
+    let t = passes (c7 .advance .ensures) (c5 .s .given .1) in
     first-other (has-name (c11 .args .name .now)) is-file (c8 .loop .inv) t
     (flag (c .before .before .before .is-file .ensures) (c .before .before .if1 .taken)) (flag (c .before .has-name .ensures) (c .if2 .left))
 
 loop-less-2 : tie.Need-loop-less-2 Inv-loop μ-loop
 loop-less-2 c =
     let c3 = c .before .before .before in
-    turned (c3 .before .before .advance .ensures) (c3 .s .given .1) .onward .less
+    passes (c3 .before .before .advance .ensures) (c3 .s .given .1) .onward .less
 
 loop-again-2 : tie.Need-loop-again-2 Inv-loop μ-loop
 loop-again-2 c =
     let c3 = c .before .before .before in let c5 = c3 .before .before in let c6 = c5 .before in let c9 = c6 .before .before .before in
-    let t = turned (c5 .advance .ensures) (c3 .s .given .1) in
+    let t = passes (c5 .advance .ensures) (c3 .s .given .1) in
     first-skip (has-name (c9 .args .name .now)) is-file (c6 .loop .inv) t (flag (c .before .is-file .ensures) (c .if1 .left))
 
 pub file-named-spec : {M : Type 1} → statement M

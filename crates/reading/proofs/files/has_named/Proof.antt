@@ -1,6 +1,6 @@
 -- has_named: what was passed has no such record, so the answer is about the rest; each turn drops one record of the rest.
-use Rattle.record.specs.Suffix.{flag}
-use Rattle.reading.specs.Fold.{turned, Folded, fold-start}
+use Rattle.laws.specs.Flag.{flag}
+use Rattle.reading.specs.Fold.{passes, Folded, fold-start}
 use Rattle.reading.specs.Seek.{any-of, any-over, any-found, any-onward}
 use Rattle.spec.specs.Files.{named-as, has-named}
 use Rattle.reading.specs.Rest.{entry-of}
@@ -35,7 +35,7 @@ returns c =
 named-as-requires : tie.Need-named-as-requires Inv-loop μ-loop
 named-as-requires c κs =
     let c3 = c .before .before .before in
-    (c3 .before .before .before .pre .1, turned (c3 .advance .ensures) (c .before .s .given .1) .whole)
+    (c3 .before .before .before .pre .1, passes (c3 .advance .ensures) (c .before .s .given .1) .whole)
 
 returns-2 : tie.Need-returns-2 Inv-loop μ-loop
 unfolding has-named
@@ -43,20 +43,20 @@ returns-2 c =
     let c3 = c .before .before .before in let c5 = c3 .before .before in let c6 = c5 .before in
     let a = c6 .before .before .args in
     let p = named-as (a .status .byte) (entry-of (a .image .now) (a .e)) in
-    let t = turned (c5 .advance .ensures) (c3 .s .given .1) in
+    let t = passes (c5 .advance .ensures) (c3 .s .given .1) in
     any-found p (c6 .loop .inv) t (flag (c .before .named-as .ensures) (c .if1 .taken))
 
 loop-less : tie.Need-loop-less Inv-loop μ-loop
 loop-less c =
     let c3 = c .before .before .before in
-    turned (c3 .before .before .advance .ensures) (c3 .s .given .1) .onward .less
+    passes (c3 .before .before .advance .ensures) (c3 .s .given .1) .onward .less
 
 loop-again : tie.Need-loop-again Inv-loop μ-loop
 loop-again c =
     let c3 = c .before .before .before in let c5 = c3 .before .before in let c6 = c5 .before in
     let a = c6 .before .before .args in
     let p = named-as (a .status .byte) (entry-of (a .image .now) (a .e)) in
-    let t = turned (c5 .advance .ensures) (c3 .s .given .1) in
+    let t = passes (c5 .advance .ensures) (c3 .s .given .1) in
     any-onward p (c6 .loop .inv) t (flag (c .before .named-as .ensures) (c .if1 .left))
 
 pub has-named-spec : {M : Type 1} → statement M

@@ -1,5 +1,5 @@
 -- is_file: status FC or F8, asked one after the other.
-use Rattle.record.specs.Suffix.{flag}
+use Rattle.laws.specs.Flag.{flag}
 use Rattle.reading.specs.FileLaws.{is-file}
 use borrow.Author.Needs.{needs}
 use Rattle.reading.proofs.files.is_file.Statement.{statement}

@@ -1,6 +1,6 @@
 -- is_live: by status; an F8 record is live if no FC record has its name.
 use mathlib.Core.Path.{sym}
-use Rattle.record.specs.Suffix.{flag}
+use Rattle.laws.specs.Flag.{flag}
 use Rattle.reading.specs.FileLaws.{live-fc, live-none, live-f8}
 use borrow.Author.Needs.{needs}
 use Rattle.reading.proofs.files.is_live.Statement.{statement}

@@ -1,5 +1,5 @@
 -- is_superseded: only an F8 record is asked for an FC record of its name.
-use Rattle.record.specs.Suffix.{flag}
+use Rattle.laws.specs.Flag.{flag}
 use Rattle.spec.specs.Files.{named, has-named, superseded}
 use borrow.Author.Needs.{needs}
 use Rattle.reading.proofs.files.is_superseded.Statement.{statement}

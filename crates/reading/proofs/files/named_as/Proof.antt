@@ -1,5 +1,5 @@
 -- named_as: a record that doesn't count is not compared.
-use Rattle.record.specs.Suffix.{flag}
+use Rattle.laws.specs.Flag.{flag}
 use borrow.Author.Needs.{needs}
 use Rattle.reading.proofs.files.named_as.Statement.{statement}
 use Rattle.reading.proofs.files.named_as.Tie as tie

@@ -1,5 +1,5 @@
 -- free_blank: one stretch after the turn, two before it.
-use Rattle.record.specs.Suffix.{flag}
+use Rattle.laws.specs.Flag.{flag}
 use Rattle.reading.specs.FreeLaws.{free-turned, free-first, free-both}
 use native.Mathlib.Omega.{arith}
 use borrow.Author.Needs.{needs}

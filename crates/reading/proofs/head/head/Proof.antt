@@ -1,6 +1,6 @@
 -- head: START at 0, a marker at 0, or what the walk and the search lead to.
 use mathlib.Core.Path.{ap, _∙_}
-use Rattle.record.specs.Suffix.{flag}
+use Rattle.laws.specs.Flag.{flag}
 use Rattle.spec.specs.Bytes.{is-start, is-wrap, is-high}
 use Rattle.spec.specs.Head.{sought, chosen, head}
 use native.Mathlib.Omega.{arith}

@@ -1,6 +1,6 @@
 -- magic: the two bytes one after the other.
 use borrow.Author.Tests.{eq-eqb, ne-eqb}
-use Rattle.record.specs.Suffix.{flag, unflag}
+use Rattle.laws.specs.Flag.{flag, unflag}
 use borrow.Author.Needs.{needs}
 use Rattle.reading.proofs.head.magic.Statement.{statement}
 use Rattle.reading.proofs.head.magic.Tie as tie

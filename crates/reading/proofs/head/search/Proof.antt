@@ -1,7 +1,7 @@
 -- search: the search from here, with some fuel, finds what the search from the start does.
 use Prim.Native.Nat.{_+_, _-_}
 use lib.ListN.{length}
-use Rattle.record.specs.Suffix.{flag}
+use Rattle.laws.specs.Flag.{flag}
 use Rattle.reading.specs.HeadLaws.{Sought, sought-start, sought-hit, sought-end, sought-step}
 use native.Mathlib.Omega.{arith}
 use Rattle.reading.proofs.head.search.Statement.{statement}

@@ -1,7 +1,7 @@
 -- walk: the walk from here, with some fuel, ends where the walk from 0 does.
 use Prim.Native.Nat.{_-_}
 use lib.ListN.{length}
-use Rattle.record.specs.Suffix.{flag}
+use Rattle.laws.specs.Flag.{flag}
 use Rattle.reading.specs.HeadLaws.{Walked, walked-start, walked-torn, walked-stop, walked-step}
 use Rattle.reading.proofs.Others.{other-next}
 use native.Mathlib.Omega.{arith}

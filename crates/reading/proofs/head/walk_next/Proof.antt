@@ -1,11 +1,12 @@
 -- walk_next: the part from here to the image's end is the definition's.
 use mathlib.Core.Path.{subst}
-use Rattle.record.specs.Suffix.{flag}
+use Rattle.laws.specs.Flag.{flag}
 use Prim.Native.Nat.{ℕ}
 use lib.ListN.{drop}
 use borrow.Rule.Slice.PartAt.{part-to-end}
 use Rattle.record.specs.Within.{Within}
-use Rattle.reading.specs.HeadLaws.{walk-next-is, walk-next-none, length-part}
+use Rattle.reading.specs.HeadLaws.{walk-next-is, length-part}
+use Rattle.laws.specs.Walk.{walk-next-none}
 use borrow.Author.Needs.{needs}
 use Rattle.reading.proofs.head.walk_next.Statement.{statement}
 use Rattle.reading.proofs.head.walk_next.Tie as tie

@@ -1,5 +1,5 @@
 -- read_from: the survey is the reading, and `legal` judges it.
-use Rattle.record.specs.Suffix.{flag}
+use Rattle.laws.specs.Flag.{flag}
 use Rattle.spec.specs.Reading.{judged}
 use borrow.Author.Needs.{needs}
 use Rattle.reading.proofs.image.read_from.Statement.{statement}

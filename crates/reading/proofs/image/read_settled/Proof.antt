@@ -1,7 +1,7 @@
 -- read_settled: a refusal stays; what was read is settled or refused, and a settled reading has nothing superseded.
 use mathlib.Core.Path.{sym, ap, _∙_}
 use mathlib.Core.Bool.{true, false}
-use Rattle.record.specs.Suffix.{flag}
+use Rattle.laws.specs.Flag.{flag}
 use Rattle.reading.specs.RuleLaws.{settled-quiet, settled-none, settled-by}
 use Rattle.reading.specs.Read.{first-cursor, reading-of, answered}
 use borrow.Author.Needs.{needs}

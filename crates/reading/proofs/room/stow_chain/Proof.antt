@@ -1,5 +1,5 @@
 -- What all files make of the first state is what the rest makes of the state so far.
-use Rattle.reading.specs.Fold.{turned, Folded, fold-start}
+use Rattle.reading.specs.Fold.{passes, Folded, fold-start}
 use Rattle.reading.specs.Room.{stow-of, stow-over, stow-onward}
 use Rattle.reading.proofs.Others.{other-step}
 use Rattle.reading.specs.Cursor.{left}
@@ -29,19 +29,19 @@ returns c =
 stow-record-requires : tie.Need-stow-record-requires Inv-loop μ-loop
 stow-record-requires c κs =
     let c3 = c .before .before .before in
-    let t = turned (c3 .advance .ensures) (c .before .s .given .1) in
+    let t = passes (c3 .advance .ensures) (c .before .s .given .1) in
     (t .whole, t .onward .name, t .onward .data-len)
 
 loop-less : tie.Need-loop-less Inv-loop μ-loop
 loop-less c =
     let c2 = c .before .before in let c4 = c2 .before .before in
-    let t = turned (c4 .advance .ensures) (c2 .s .given .1) in
+    let t = passes (c4 .advance .ensures) (c2 .s .given .1) in
     t .onward .less
 
 loop-again : tie.Need-loop-again Inv-loop μ-loop
 loop-again c =
     let c2 = c .before .before in let c4 = c2 .before .before in let c5 = c4 .before in
-    let t = turned (c4 .advance .ensures) (c2 .s .given .1) in
+    let t = passes (c4 .advance .ensures) (c2 .s .given .1) in
     stow-onward _ _ (c5 .loop .inv) t _ (c .stow-record .ensures)
 
 pub stow-chain-spec : {M : Type 1} → statement M

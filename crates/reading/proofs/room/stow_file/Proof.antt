@@ -1,6 +1,6 @@
 -- The two arms are the two cases of with-size.
 use Rattle.reading.specs.Room.{size-placed, size-compared}
-use Rattle.record.specs.Suffix.{flag}
+use Rattle.laws.specs.Flag.{flag}
 use borrow.Author.Needs.{needs}
 use Rattle.reading.proofs.room.stow_file.Statement.{statement}
 use Rattle.reading.proofs.room.stow_file.Tie as tie

@@ -1,6 +1,6 @@
 -- The two arms are the two cases of joining.
 use Rattle.reading.specs.Room.{new-placed, new-elsewhere}
-use Rattle.record.specs.Suffix.{flag}
+use Rattle.laws.specs.Flag.{flag}
 use mathlib.Core.Path.{_∙_}
 use borrow.Author.Needs.{needs}
 use Rattle.reading.proofs.room.stow_new.Statement.{statement}

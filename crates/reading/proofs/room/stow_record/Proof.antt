@@ -1,6 +1,6 @@
 -- A record that is no file, or is replaced, changes nothing; another counts by its size.
 use Rattle.reading.specs.Room.{stow-no-file, stow-replaced, stow-by}
-use Rattle.record.specs.Suffix.{flag}
+use Rattle.laws.specs.Flag.{flag}
 use mathlib.Core.Path.{_∙_}
 use borrow.Author.Needs.{needs}
 use Rattle.reading.proofs.room.stow_record.Statement.{statement}

@@ -1,5 +1,5 @@
 -- legal: the rules one after the other, each test of the code being one of them.
-use Rattle.record.specs.Suffix.{flag, flag-not}
+use Rattle.laws.specs.Flag.{flag, flag-not}
 use Rattle.reading.specs.Read.{reading-of}
 use Rattle.reading.specs.RuleLaws.{fine-is, legal-whole, legal-names, legal-single, legal-marks, legal-free}
 use borrow.Author.Needs.{needs}

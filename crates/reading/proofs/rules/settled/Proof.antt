@@ -1,6 +1,6 @@
 -- settled: a repair has a step exactly if its test says so, and the tests come in the repairs' order.
 use mathlib.Core.Path.{sym}
-use Rattle.record.specs.Suffix.{flag}
+use Rattle.laws.specs.Flag.{flag}
 use Rattle.reading.specs.RuleLaws.{open-is, unsettled-1, unsettled-2, unsettled-3, unsettled-wrap, settled-but}
 use Rattle.reading.specs.Read.{reading-of}
 use borrow.Author.Needs.{needs}

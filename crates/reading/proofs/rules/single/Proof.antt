@@ -1,5 +1,5 @@
 -- single: FC, then F8.
-use Rattle.record.specs.Suffix.{flag}
+use Rattle.laws.specs.Flag.{flag}
 use Rattle.spec.specs.Reading.{single}
 use borrow.Author.Needs.{needs}
 use Rattle.reading.proofs.rules.single.Statement.{statement}

@@ -1,5 +1,5 @@
 -- name_fine: only a file's name is checked, and it stands behind the header.
-use Rattle.record.specs.Suffix.{flag}
+use Rattle.laws.specs.Flag.{flag}
 use mathlib.Core.Path.{ap, _∙_}
 use Rattle.spec.specs.Record.{name-ok}
 use Rattle.reading.specs.FileLaws.{name-part}

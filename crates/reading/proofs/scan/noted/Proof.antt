@@ -27,7 +27,7 @@ returns c =
     let c3 = c .before .before .before in let c5 = c3 .before .before in let c6 = c5 .before in
     let p = c6 .before .before .before .before .pre in
     let a = c6 .before .before .before .before .args in
-    noted-is (a .t) (a .e) (c3 .spot-if .result) (c .before .spot-if2 .result) (c6 .fine-with .result) (c5 .further-with .result) (a .held) (p .0)
+    noted-is (a .t) (a .e) (c3 .spot-if .result) (c .before .spot-if2 .result) (c6 .fine-with .result) (c5 .further-with .result) (a .pending) (p .0)
     (c3 .spot-if .ensures) (c .before .spot-if2 .ensures) (c6 .fine-with .ensures) (c5 .further-with .ensures) (p .2)
 
 pub noted-spec : {M : Type 1} → statement M

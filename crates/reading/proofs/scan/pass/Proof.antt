@@ -1,6 +1,6 @@
 -- pass: the tally so far, gone on with over the rest, is the tally of all; the records are fewer than the bytes, so the count can't wrap.
 use Rattle.reading.specs.Cursor.{left}
-use Rattle.reading.specs.Fold.{turned, fold-end}
+use Rattle.reading.specs.Fold.{passes, fold-end}
 use Rattle.reading.specs.Tally.{none-yet, passed, Passing, passing-start, passing-step, end-inside}
 use Rattle.reading.proofs.Others.{other-step}
 use borrow.Author.Needs.{needs}
@@ -39,16 +39,16 @@ returns c =
 noted-requires : tie.Need-noted-requires Inv-loop μ-loop
 noted-requires c κs =
     let p = c .before .before .before .before .before .before .before .pre in
-    let t = turned (c .before .before .before .advance .ensures) (c .before .s .given .1) in
-    (t .whole, omega (arith, c .before .before .before .before .loop .inv .few, p .0 .inside, p .0 .room, p .0 .small), t .onward .held)
+    let t = passes (c .before .before .before .advance .ensures) (c .before .s .given .1) in
+    (t .whole, omega (arith, c .before .before .before .before .loop .inv .few, p .0 .inside, p .0 .room, p .0 .small), t .onward .pending)
 
 loop-less : tie.Need-loop-less Inv-loop μ-loop
-loop-less c = turned (c .before .before .before .before .advance .ensures) (c .before .before .s .given .1) .onward .less
+loop-less c = passes (c .before .before .before .before .advance .ensures) (c .before .before .s .given .1) .onward .less
 
 loop-again : tie.Need-loop-again Inv-loop μ-loop
 loop-again c =
     let c2 = c .before .before in let c4 = c2 .before .before in
-    passing-step (c4 .before .loop .inv) (turned (c4 .advance .ensures) (c2 .s .given .1)) (c .noted .ensures)
+    passing-step (c4 .before .loop .inv) (passes (c4 .advance .ensures) (c2 .s .given .1)) (c .noted .ensures)
 
 pub pass-spec : {M : Type 1} → statement M
 pass-spec =

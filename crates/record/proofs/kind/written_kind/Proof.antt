@@ -1,7 +1,7 @@
 -- written_kind: byte against byte; the callees tell the status.
 use borrow.Author.Tests.{eq-eqb, ne-eqb}
 use Rattle.spec.specs.Bytes.{is-wrap, is-high}
-use Rattle.record.specs.Suffix.{flag}
+use Rattle.laws.specs.Flag.{flag}
 use borrow.Author.Needs.{needs}
 use Rattle.record.proofs.kind.written_kind.Statement.{statement}
 use Rattle.record.proofs.kind.written_kind.Tie as tie

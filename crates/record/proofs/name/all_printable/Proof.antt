@@ -4,7 +4,7 @@ use mathlib.Core.Path.{_≡_, refl, sym, _∙_}
 use lib.ListN.{length, drop}
 use Rattle.spec.specs.Basics.{all}
 use Rattle.spec.specs.Bytes.{is-printable}
-use Rattle.record.specs.Suffix.{flag}
+use Rattle.laws.specs.Flag.{flag}
 use Rattle.record.specs.NameLaws.{all-next, all-stop, all-over}
 use borrow.Author.Needs.{needs}
 use native.Mathlib.Omega.{arith}
@@ -47,7 +47,8 @@ returns c =
     (flag (c .before .is-printable .ensures) (c .if1 .left)))
 
 returns-2 : tie.Need-returns-2 Inv-loop μ-loop
-returns-2 c = sym (c .before .loop .inv .1 ∙ all-over is-printable (c .before .before .before .args .name .now) (c .before .loop .i) (omega arith))
+returns-2 c =
+    let l = c .before .loop in sym (l .inv .1 ∙ all-over is-printable (c .before .before .before .args .name .now) (l .i) (omega arith))
 
 pub all-printable-spec : {M : Type 1} → statement M
 all-printable-spec =

@@ -3,7 +3,7 @@ use Prim.Native.Nat.{_+_, _-_, _≤_}
 use mathlib.Core.Path.{_≡_}
 use lib.ListN.{drop}
 use Rattle.spec.specs.Record.{name-length}
-use Rattle.record.specs.Suffix.{flag}
+use Rattle.laws.specs.Flag.{flag}
 use Rattle.record.specs.NameLaws.{name-end, name-hit, name-miss, name-out}
 use borrow.Author.Needs.{needs}
 use native.Mathlib.Omega.{arith}
@@ -11,10 +11,10 @@ use Rattle.record.proofs.name.name_len.Statement.{statement}
 use Rattle.record.proofs.name.name_len.Tie as tie
 
 abbrev Inv-loop : tie.InvT-loop
-Inv-loop part held i₀ i = (i ≤ 64) × (name-length 64 held part ≡ i + name-length (64 - i) held (drop i part))
+Inv-loop part reserved i₀ i = (i ≤ 64) × (name-length 64 reserved part ≡ i + name-length (64 - i) reserved (drop i part))
 
 abbrev μ-loop : tie.MeasureT-loop
-μ-loop part held i₀ i = 64 - i
+μ-loop part reserved i₀ i = 64 - i
 
 loop-holds : tie.Need-loop-holds Inv-loop μ-loop
 loop-holds c = search needs
@@ -22,7 +22,7 @@ loop-holds c = search needs
 returns : tie.Need-returns Inv-loop μ-loop
 returns c =
     let a = c .before .before .before .before .args in
-    omega (arith, name-end (64 - c .before .before .loop .i) (a .held) (a .part .now) (c .before .before .loop .i) (c .if1 .taken))
+    omega (arith, name-end (64 - c .before .before .loop .i) (a .reserved) (a .part .now) (c .before .before .loop .i) (c .if1 .taken))
 
 shared-slice-read-ends : tie.Need-shared-slice-read-ends Inv-loop μ-loop
 shared-slice-read-ends c = search needs
@@ -36,7 +36,7 @@ returns-2 c =
     let a = c .before .before .before .before .before .before .before .args in
     omega (
       arith,
-      name-hit (64 - i) (64 - (i + 1)) (a .held) (a .part .now) i (omega arith) (omega arith)
+      name-hit (64 - i) (64 - (i + 1)) (a .reserved) (a .part .now) i (omega arith) (omega arith)
           (flag (c .before .ends .ensures) (c .if2 .taken)),
     )
 
@@ -52,14 +52,14 @@ loop-again c =
     let a = c .before .before .before .before .before .before .before .args in
     omega (
       arith,
-      name-miss (64 - i) (64 - (i + 1)) (a .held) (a .part .now) i (omega arith) (omega arith)
+      name-miss (64 - i) (64 - (i + 1)) (a .reserved) (a .part .now) i (omega arith) (omega arith)
           (flag (c .before .ends .ensures) (c .if2 .left)),
     )
 
 returns-3 : tie.Need-returns-3 Inv-loop μ-loop
 returns-3 c =
     let a = c .before .before .before .args in
-    omega (arith, name-out (64 - c .before .loop .i) (a .held) (drop (c .before .loop .i) (a .part .now)) (omega arith))
+    omega (arith, name-out (64 - c .before .loop .i) (a .reserved) (drop (c .before .loop .i) (a .part .now)) (omega arith))
 
 pub name-len-spec : {M : Type 1} → statement M
 name-len-spec =

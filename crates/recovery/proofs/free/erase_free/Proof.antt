@@ -27,7 +27,7 @@ is-clean-requires c κs = search needs
 erase-run-requires : tie.Need-erase-run-requires
 erase-run-requires c κs =
     let c9 = c .before .before .before .before .before .before .before .before .before in let c10 = c9 .before in
-    (c10 .survey .ensures .surveyed .place, (λ z. rw (c10 .survey .ensures .head) (c10 .survey .ensures .up z)), omega arith)
+    (c10 .survey .ensures .surveyed .place, ((λ z. rw (c10 .survey .ensures .head) (c10 .survey .ensures .up z)), omega arith))
 
 to-start-requires : tie.Need-to-start-requires
 to-start-requires c κs = search needs

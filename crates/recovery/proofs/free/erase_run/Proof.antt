@@ -41,11 +41,16 @@ returns-2 c =
     let c6 = c .before .before .before .before .before .before in let c8 = c6 .before .before in let c9 = c8 .before in let c10 = c9 .before in
     let c12 = c10 .before .before in
     let a = c12 .args in (
-      run-unturned (a .image .now) (a .p) (c8 .if1 .left) (c12 .pre .1 (c8 .if1 .left)) (rw (c10 .floor .ensures .0) at (c6 .erase-dirty2 .ensures .2))
-          (rw (c10 .floor .ensures .0) at (c6 .erase-dirty2 .ensures .0))
-          (rw (c9 .ceiling .ensures .0) at (c .before .before .erase-dirty3 .ensures .0)),
-      omega
-          (arith, c12 .pre .0 .head, c12 .pre .0 .whole, c10 .floor .ensures .1),
+      run-unturned (a .image .now) (a .p) (c10 .floor .ensures .0) (c9 .ceiling .ensures .0) (c8 .if1 .left) (c12 .pre .1 .0 (c8 .if1 .left))
+          (c6 .erase-dirty2 .ensures .1 .1) (c6 .erase-dirty2 .ensures .0) (c .before .before .erase-dirty3 .ensures .0),
+      omega (
+        arith,
+        c12 .pre .0 .head,
+        c12 .pre .0 .whole,
+        c10 .floor .ensures .1,
+        c6 .erase-dirty2 .ensures .1 .0,
+        c .before .before .erase-dirty3 .ensures .1 .0,
+      ),
     )
 
 pub erase-run-spec : {M : Type 1} → statement M

@@ -15,20 +15,18 @@ add-end-name-2 c = search needs
 end-name-requires : tie.Need-end-name-requires
 end-name-requires c κs = search needs
 
-add-clear-by : tie.Need-add-clear-by
-add-clear-by c = search needs
-
-clear-by-requires : tie.Need-clear-by-requires
-clear-by-requires c κs = search needs
+void-status-requires : tie.Need-void-status-requires
+void-status-requires c κs = search needs
 
 same-length : tie.Need-same-length
 same-length c = search needs
 
 returns : tie.Need-returns
 returns c =
-    let c7 = c .before .before .before .before .before .before .before in let c12 = c7 .before .before .before .before .before in
-    let a = c12 .args in
-    (rw (reserved-is (a .image .now) (a .e) (c12 .pre .0)) (did-both (c7 .end-name .ensures .0) (c .before .before .clear-by .ensures)), omega arith)
+    let c6 = c .before .before .before .before .before .before in let c11 = c6 .before .before .before .before .before in
+    let a = c11 .args in
+    let both = did-both (c6 .end-name .ensures .0) (c .before .before .void-status .ensures) in
+    (rw (reserved-is (a .image .now) (a .e) (c11 .pre .0)) both, omega arith)
 
 pub void-reserved-spec : {M : Type 1} → statement M
 void-reserved-spec =
@@ -37,7 +35,6 @@ void-reserved-spec =
     add-end-name
     add-end-name-2
     end-name-requires
-    add-clear-by
-    clear-by-requires
+    void-status-requires
     same-length
     returns)

@@ -30,8 +30,7 @@ returns c =
     let a = c .before .before .before .before .before .args in (
       rw (erase-kept (a .image .now) (a .at) (dirty-is (a .image .now) (a .at) (c .before .is-blank .ensures) (c .if1 .taken)))
           (did-none (a .image .now) (a .m)),
-      omega arith,
-      λ k h. refl,
+      (omega arith, λ k h. refl),
     )
 
 erase-requires : tie.Need-erase-requires
@@ -44,10 +43,9 @@ returns-2 : tie.Need-returns-2
 returns-2 c =
     let c2 = c .before .before in let c4 = c2 .before .before in let c5 = c4 .before in
     let a = c5 .before .before .before .before .args in (
-      rw (erase-kept (a .image .now) (a .at) (dirty-is (a .image .now) (a .at) (c5 .is-blank .ensures) (c4 .if1 .left))) (c2 .erase .ensures),
-      omega
-          arith,
-      λ k h. erased-behind (a .at) k h (omega arith) (c2 .erase .ensures),
+      rw (erase-kept (a .image .now) (a .at) (dirty-is (a .image .now) (a .at) (c5 .is-blank .ensures) (c4 .if1 .left)))
+          (c2 .erase .ensures),
+      (omega arith, λ k h. erased-behind (a .at) k h (omega arith) (c2 .erase .ensures)),
     )
 
 pub erase-if-dirty-spec : {M : Type 1} → statement M

@@ -1,6 +1,6 @@
 -- The record has its step if it is superseded.
 use native.Mathlib.Omega.{arith}
-use Rattle.record.specs.Suffix.{flag}
+use Rattle.laws.specs.Flag.{flag}
 use Rattle.flash.specs.Did.{did-none}
 use Rattle.reading.specs.Rest.{rest, entry-of}
 use Rattle.recovery.specs.Drop.{drop-this, drop-none}
@@ -11,21 +11,18 @@ use Rattle.recovery.proofs.superseded.drop_one.Tie as tie
 is-superseded-requires : tie.Need-is-superseded-requires
 is-superseded-requires c κs = search needs
 
-add-program : tie.Need-add-program
-add-program c = search needs
-
-program-requires : tie.Need-program-requires
-program-requires c κs = search needs
+set-status-requires : tie.Need-set-status-requires
+set-status-requires c κs = search needs
 
 same-length : tie.Need-same-length
 same-length c = search needs
 
 returns : tie.Need-returns
 returns c =
-    let c5 = c .before .before .before .before .before in let c6 = c5 .before in
-    let a = c6 .before .before .before .args in (
+    let c4 = c .before .before .before .before in let c5 = c4 .before in
+    let a = c5 .before .before .before .args in (
       rw (drop-this (a .image .now) (rest (a .image .now) (a .start) .entries) (entry-of (a .image .now) (a .e))
-          (flag (c6 .is-superseded .ensures) (c5 .if1 .taken))) (c .before .before .program .ensures),
+          (flag (c5 .is-superseded .ensures) (c4 .if1 .taken))) (c .before .before .set-status .ensures),
       omega arith,
     )
 
@@ -45,8 +42,7 @@ drop-one-spec =
     tie.close
     (tie.spec
     is-superseded-requires
-    add-program
-    program-requires
+    set-status-requires
     same-length
     returns
     same-length-2

@@ -10,8 +10,8 @@ use Rattle.spec.proofs.Place.after.Tie as tie
 fits-at-tail-requires : tie.Need-fits-at-tail-requires
 fits-at-tail-requires c κs = search needs
 
-add-moved : tie.Need-add-moved
-add-moved c =
+add-with-tail : tie.Need-add-with-tail
+add-with-tail c =
     let a = c .before .before .before .args in
     omega (
       arith,
@@ -20,13 +20,13 @@ add-moved c =
           (2 ^ 64) (omega arith) (omega arith),
     )
 
-moved-requires : tie.Need-moved-requires
-moved-requires c κs = search needs
+with-tail-requires : tie.Need-with-tail-requires
+with-tail-requires c κs = search needs
 
 returns : tie.Need-returns
 returns c =
     let a = c .before .before .before .before .args in
-    rw (c .moved .ensures) (sym
+    rw (c .with-tail .ensures) (sym
     (placed-at-tail (a .self) (a .size) (sym (c .before .before .before .fits-at-tail .ensures) ∙ c .before .before .if1 .taken)))
 
 returns-2 : tie.Need-returns-2
@@ -37,33 +37,33 @@ returns-2 c =
 floor-requires : tie.Need-floor-requires
 floor-requires c κs = search needs
 
-moved-requires-2 : tie.Need-moved-requires-2
-moved-requires-2 c κs = search needs
+with-tail-requires-2 : tie.Need-with-tail-requires-2
+with-tail-requires-2 c κs = search needs
 
 returns-3 : tie.Need-returns-3
 returns-3 c =
     let c4 = c .before .before .before .before in let c5 = c4 .before in let c6 = c5 .before in
     let a = c6 .before .args in
-    rw (c .moved2 .ensures) (sym
+    rw (c .with-tail2 .ensures) (sym
     (placed-at-start (a .self) (a .size) (c4 .if2 .left) (sym (c6 .fits-at-tail .ensures) ∙ c5 .if1 .left) (omega arith)))
 
 returns-4 : tie.Need-returns-4
 returns-4 c =
     let c4 = c .before .before .before .before in
     let a = c4 .before .args in
-    sym (placed-nowhere (a .self) (a .size) (c .before .before .if2 .left) (sym (c4 .fits-at-tail .ensures) ∙ c .before .before .before .if1 .left)
-    (omega arith))
+    sym (placed-nowhere (a .self) (a .size) (c .before .before .if2 .left)
+    (sym (c4 .fits-at-tail .ensures) ∙ c .before .before .before .if1 .left) (omega arith))
 
 pub after-spec : {M : Type 1} → statement M
 after-spec =
     tie.close
     (tie.spec
     fits-at-tail-requires
-    add-moved
-    moved-requires
+    add-with-tail
+    with-tail-requires
     returns
     returns-2
     floor-requires
-    moved-requires-2
+    with-tail-requires-2
     returns-3
     returns-4)

@@ -14,7 +14,8 @@ returns c = let a = c .before .before .before .args in sym (tail-past (a .self) 
 
 returns-2 : tie.Need-returns-2
 returns-2 c =
-    let a = c .before .before .before .before .args in rw (c .before .before .before .limit .ensures) (tail-test (a .self) (a .size) (omega arith))
+    let a = c .before .before .before .before .args in
+    rw (c .before .before .before .limit .ensures) (tail-test (a .self) (a .size) (omega arith))
 
 pub fits-at-tail-spec : {M : Type 1} → statement M
 fits-at-tail-spec = tie.close (tie.spec limit-requires returns returns-2)

@@ -2,7 +2,7 @@
 use native.Mathlib.Omega.{arith}
 use mathlib.Core.Path.{refl, subst}
 use Rattle.sweeping.specs.Planned.{Planned, going-on}
-use Rattle.sweeping.specs.Sweeping.{on-seen}
+use Rattle.sweeping.specs.Sweeping.{done-seen}
 use Rattle.sweeping.proofs.Others.{not-stopped}
 use borrow.Author.Needs.{needs}
 use Rattle.sweeping.proofs.sweep.next_move.Statement.{statement}
@@ -25,7 +25,8 @@ returns c =
 move-head-requires : tie.Need-move-head-requires
 move-head-requires c κs =
     let c2 = c .before .before in let c5 = c2 .before .before .before in
-    (c5 .pre .0, not-stopped (c5 .args .image .now) (c5 .args .place) (c2 .plan .result) (c .before .match .keys2) (c2 .plan .ensures), c5 .pre .1)
+    let going = not-stopped (c5 .args .image .now) (c5 .args .place) (c2 .plan .result) (c .before .match .keys2) (c2 .plan .ensures) in
+    (c5 .pre .0, (going, c5 .pre .1))
 
 same-length-2 : tie.Need-same-length-2
 same-length-2 c = search needs
@@ -54,7 +55,7 @@ returns-3 : tie.Need-returns-3
 returns-3 c =
     let c8 = c .before .before .before .before .before .before .before .before in let c10 = c8 .before .before in let c11 = c10 .before in
     let c14 = c11 .before .before .before in
-    on-seen (going-on (c14 .args .image .now) (c14 .args .place) (c11 .plan .result)
+    done-seen (going-on (c14 .args .image .now) (c14 .args .place) (c11 .plan .result)
     (not-stopped (c14 .args .image .now) (c14 .args .place) (c11 .plan .result) (c10 .match .keys2) (c11 .plan .ensures)))
     (c8 .move-head .ensures) (c .before .before .before .if1 .left) (c .before .survey .ensures)
 

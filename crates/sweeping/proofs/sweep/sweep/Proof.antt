@@ -4,7 +4,7 @@ use Prim.Native.Nat.{_+_, _-_, _≤_, min}
 use native.Mathlib.Omega.{arith}
 use mathlib.Core.Path.{_≡_, refl, subst}
 use lib.ListN.{length}
-use Rattle.sweeping.specs.Sweeping.{Turned-as, Sweeping, sweeping-start, sweeping-end, sweeping-stuck, sweeping-cut, sweeping-more}
+use Rattle.sweeping.specs.Sweeping.{Move-ended, Sweeping, sweeping-start, sweeping-end, sweeping-stuck, sweeping-cut, sweeping-more}
 use Rattle.sweeping.proofs.sweep.sweep.Statement.{statement}
 use Rattle.sweeping.proofs.sweep.sweep.Tie as tie
 
@@ -39,7 +39,7 @@ returns : tie.Need-returns Inv-loop μ-loop
 returns c =
     let c4 = c .before .before .before .before in let c7 = c4 .before .before .before in
     sweeping-stuck (c7 .loop .inv .2)
-    (subst (Turned-as (c7 .loop .image) (c7 .loop .p .head) (c7 .loop .q) (c4 .next-move .last .0)) (c .enum-told .given .1)
+    (subst (Move-ended (c7 .loop .image) (c7 .loop .p .head) (c7 .loop .q) (c4 .next-move .last .0)) (c .enum-told .given .1)
     (c4 .next-move .ensures))
 
 enum-known-t : tie.Need-enum-known-t Inv-loop μ-loop
@@ -52,7 +52,7 @@ returns-2 : tie.Need-returns-2 Inv-loop μ-loop
 returns-2 c =
     let c5 = c .before .before .before .before .before in let c8 = c5 .before .before .before in
     sweeping-cut (c8 .loop .inv .2) (c8 .loop .left - 1) (omega arith)
-    (subst (Turned-as (c8 .loop .image) (c8 .loop .p .head) (c8 .loop .q) (c5 .next-move .last .0)) (c .before .t .given .1)
+    (subst (Move-ended (c8 .loop .image) (c8 .loop .p .head) (c8 .loop .q) (c5 .next-move .last .0)) (c .before .t .given .1)
     (c5 .next-move .ensures))
 
 enum-known-t-2 : tie.Need-enum-known-t-2 Inv-loop μ-loop
@@ -73,7 +73,7 @@ loop-again c =
       omega arith,
       omega arith,
       sweeping-more (c8 .loop .inv .2) (c8 .loop .left - 1) (omega arith)
-          (subst (Turned-as (c8 .loop .image) (c8 .loop .p .head) (c8 .loop .q) (c5 .next-move .last .0)) (c .before .t2 .given .1)
+          (subst (Move-ended (c8 .loop .image) (c8 .loop .p .head) (c8 .loop .q) (c5 .next-move .last .0)) (c .before .t2 .given .1)
           (c5 .next-move .ensures)),
     )
 

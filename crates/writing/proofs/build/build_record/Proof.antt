@@ -2,7 +2,7 @@
 use lib.ListN.{length}
 use Prim.Native.Nat.{_+_}
 use Rattle.spec.specs.Geometry.{up8}
-use Rattle.flash.specs.Bytes.{length-bytes}
+use Rattle.laws.specs.Steps.{length-bytes}
 use Rattle.writing.specs.Steps.{length-name}
 use Rattle.flash.specs.Did.{did-both}
 use native.Mathlib.Omega.{arith}

@@ -1,0 +1,23 @@
+-- What a good length gives.
+use Prim.Native.Nat.{ℕ, _%_, _≤_, _^_}
+use mathlib.Core.Path.{_≡_}
+use mathlib.Core.Bool.{true, _&&_}
+use lib.Dec.{leb, eqb}
+use borrow.Author.Tests.{eqb-true, leb-true}
+use Rattle.spec.specs.Geometry.{good-length}
+use Rattle.laws.specs.Tests.{and-left, and-right}
+
+pub record Good (n : ℕ) : Type 0 where
+  pub sectors : n % 4096 ≡ 0
+  pub two : 8192 ≤ n
+  pub most : n ≤ 2 ^ 24
+
+pub good : (n : ℕ) → good-length n ≡ true → Good n
+unfolding good-length
+good n h =
+    let a : (eqb (n % 4096) 0 && leb 8192 n) ≡ true = and-left (eqb (n % 4096) 0 && leb 8192 n) (leb n 16777216) h in
+    record {
+      sectors = eqb-true (n % 4096) 0 (and-left (eqb (n % 4096) 0) (leb 8192 n) a);
+      two = leb-true 8192 n (and-right (eqb (n % 4096) 0) (leb 8192 n) a);
+      most = leb-true n 16777216 (and-right (eqb (n % 4096) 0 && leb 8192 n) (leb n 16777216) h);
+    }

@@ -1,0 +1,32 @@
+-- Tests: two of them together, and one that comes out both ways.
+use mathlib.Core.Path.{_≡_, refl, sym, _∙_}
+use mathlib.Core.Bool.{Bool, true, false, _&&_, _||_, false≢true}
+
+-- a test does not come out both ways
+pub not-both : (b : Bool) → b ≡ false → b ≡ true → ⊥
+not-both b p q = false≢true (sym p ∙ q)
+
+-- both, so the first
+pub and-left : (a b : Bool) → (a && b) ≡ true → a ≡ true
+and-left true b h = refl
+and-left false b h = h
+
+-- both, so the second
+pub and-right : (a b : Bool) → (a && b) ≡ true → b ≡ true
+and-right true b h = h
+and-right false b h = cc
+
+-- neither, so not the first
+pub or-left : (a b : Bool) → (a || b) ≡ false → a ≡ false
+or-left true b h = h
+or-left false b h = refl
+
+-- nor the second
+pub or-right : (a b : Bool) → (a || b) ≡ false → b ≡ false
+or-right true b h = cc
+or-right false b h = h
+
+-- not both
+pub and-no : (a b : Bool) → (a ≡ true → b ≡ false) → (a && b) ≡ false
+and-no true b h = h refl
+and-no false b h = refl

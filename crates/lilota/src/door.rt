@@ -1,0 +1,58 @@
+// The door of every call: 22, 5, 6 and 16 in the table's order, or what was read.
+use reading::Read;
+use reading::image::read;
+use reading::image::read_settled;
+use record::name::name_ok;
+use spec::Refusal;
+use spec::SECTOR;
+ghost use mathlib.Core.Path.{_≡_};
+ghost use Rattle.spec.specs.Geometry.{good-length};
+ghost use Rattle.spec.specs.Door.{accepted, admitted, admitted-named};
+ghost use Rattle.reading.specs.Read.{answered};
+ghost use Rattle.lilota.specs.Door.{Accepts, Admits, Admits-named};
+
+// An image's length: whole sectors, two at least, 16 MiB at most.
+pub fn good_length(n: usize) -> bool
+    ensures { λ r. ⌜ r ≡ good-length n ⌝ }
+{
+    if n % SECTOR == 0 {
+        if n < 8192 {
+            return false;
+        }
+        return n <= 16777216;
+    }
+    false
+}
+
+// Mount's door: any image that can be read.
+pub fn accepted(image: &[u8]) -> Read
+    ensures { λ r. ⌜ (answered (now (image .entry)) r ≡ accepted (now (image .entry))) × Accepts (now (image .entry)) r ⌝ }
+{
+    if good_length(image.len()) {
+        return read(image);
+    }
+    Read::Refused(Refusal { number: 22 })
+}
+
+// The door of list and sweep: a settled image.
+pub fn admitted(image: &[u8]) -> Read
+    ensures { λ r. ⌜ (answered (now (image .entry)) r ≡ admitted (now (image .entry))) × Admits (now (image .entry)) r ⌝ }
+{
+    if good_length(image.len()) {
+        return read_settled(image);
+    }
+    Read::Refused(Refusal { number: 22 })
+}
+
+// The door of put, get and remove: a settled image and a good name.
+pub fn admitted_named(image: &[u8], name: &[u8]) -> Read
+    ensures { λ r. ⌜ (answered (now (image .entry)) r ≡ admitted-named (now (name .entry)) (now (image .entry)))
+        × Admits-named (now (image .entry)) (now (name .entry)) r ⌝ }
+{
+    if good_length(image.len()) {
+        if name_ok(name) {
+            return read_settled(image);
+        }
+    }
+    Read::Refused(Refusal { number: 22 })
+}

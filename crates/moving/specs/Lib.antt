@@ -1,0 +1,5 @@
+pub mod Kept
+pub mod Copied
+pub mod Copy
+pub mod Clean
+pub mod Close
