@@ -2,8 +2,10 @@
 use std::path::Path;
 use std::process::Command;
 
-const FILES: [&str; 8] = ["record", "head", "chain", "flash", "write", "mount", "sweep", "scan"];
-const FLAGS: [&str; 7] = ["-O2", "-std=c99", "-Wall", "-Wextra", "-Werror", "-pedantic", "-fPIC"];
+const FILES: [&str; 9] = ["place", "head", "chain", "reading", "read", "write", "move", "mount", "scan"];
+/// Functions begin at a cache line, so that times don't depend on where the linker puts them.
+const FLAGS: [&str; 8] =
+    ["-O2", "-falign-functions=64", "-std=c99", "-Wall", "-Wextra", "-Werror", "-pedantic", "-fPIE"];
 
 fn run(command: &mut Command) {
     let status = command.status().unwrap_or_else(|e| panic!("{command:?}: {e}"));

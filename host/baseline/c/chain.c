@@ -1,5 +1,6 @@
-/* "Chain and tail T", the free run and refusal 5. */
-#include "baseline.h"
+/* "Chain and tail T": what stands at a place of the chain. */
+#include "names.h"
+#include "store.h"
 
 Cursor bl_cursor(size_t n, size_t head)
 {
@@ -7,174 +8,74 @@ Cursor bl_cursor(size_t n, size_t head)
     return c;
 }
 
+/* The chain goes on at 0. It turns once. */
 static void turn(Cursor *c)
 {
     c->at = 0;
     c->end = c->room;
+    c->room = 0;
     c->turned = true;
 }
 
-/* What stands at the cursor, which then goes on behind it. */
-Step bl_next(const uint8_t *m, size_t n, Cursor *c, Record *r)
+/* The size of a record with this header, or 0 if there is none that ends in time. */
+static size_t size_at(const uint8_t *m, size_t n, const Cursor *c, Header h, size_t *name_length)
 {
-    for (;;) {
-        bool may_turn;
-        if (c->at == n && !c->turned && c->room > 0)
-            turn(c);
-        may_turn = !c->turned && c->room > 0;
-        if (c->at == c->end || bl_blank(m, c->at, c->at + 8))
-            return THE_TAIL;
-        if (c->held)
-            return A_BREACH;
-        if (torn_wrap(m, c->at))
-            return may_turn && bl_blank(m, c->at + 3, n) ? A_TORN_WRAP : A_BREACH;
-        if (m[c->at + 3] != 0xFF)
-            return A_BREACH;
-        if (magic_at(m, c->at) != WRAP)
-            break;
-        if (m[c->at + 2] != WRAP_STATUS || !may_turn)
-            return A_BREACH;
-        turn(c);
+    unsigned magic = magic_of(h);
+    size_t before;
+    if (torn(h)) {
+        *name_length = 0;
+        return c->end - c->at >= 16 ? 16 : 0;
     }
-    if (!bl_record(m, n, c->at, c->end, r))
+    if (status_of(h) == ERASED || !(magic == RECORD || magic == START || magic == CLEAN))
+        return 0;
+    if (!name_end(m, n, c->at, h, name_length))
+        return 0;
+    before = size_before_data(*name_length);
+    if (before > c->end - c->at || data_length_of(h) > c->end - c->at - before)
+        return 0;
+    return before + up8(data_length_of(h));
+}
+
+static Step record_at(const uint8_t *m, size_t n, Cursor *c, Header h, Record *r)
+{
+    size_t name_length, size = size_at(m, n, c, h, &name_length);
+    if (size == 0)
         return A_BREACH;
+    r->at = c->at;
+    r->size = size;
+    r->name_length = name_length;
+    r->header = h;
     r->turned = c->turned;
-    c->held = bl_unfinished(r);
-    c->at += r->size;
+    c->at += size;
+    c->held = unfinished(r);
     return A_RECORD;
 }
 
-/* Notes a record of the chain; false if it is a mark that stands too far on. */
-static bool noted(Survey *s, const Record *r)
+/* What stands at the cursor, which then goes on behind it; r is changed by a record alone. */
+Step bl_next(const uint8_t *m, size_t n, Cursor *c, Record *r)
 {
-    if (s->records == 0)
-        s->first = *r;
-    else if (s->records == 1)
-        s->second = *r;
-    else if (bl_marked(r))
-        return false;
-    s->last = *r;
-    s->records++;
-    return true;
-}
-
-static bool followed(Survey *s)
-{
-    Cursor c = bl_cursor(s->n, s->head);
-    Record r;
-    Step step;
-    s->records = 0;
-    while ((step = bl_next(s->m, s->n, &c, &r)) == A_RECORD)
-        if (!noted(s, &r))
-            return false;
-    if (step == A_BREACH)
-        return false;
-    s->torn_wrap = step == A_TORN_WRAP ? c.at : NONE;
-    s->tail = step == A_TORN_WRAP ? 0 : c.at;
-    s->turned = c.turned || step == A_TORN_WRAP;
-    return true;
-}
-
-/* A file against those that follow it: no second one of its status and name. */
-static bool told_apart(Survey *s, Cursor after, const Record *r)
-{
-    Record other;
-    while (bl_next(s->m, s->n, &after, &other) == A_RECORD) {
-        if (!bl_is_file(&other) || !bl_same_name(s->m, &other, s->m + r->at + 8, r->name_length))
-            continue;
-        if (other.status == r->status)
-            return false;
-        s->superseded = true;
-        s->files--;
+    for (;;) {
+        Header h;
+        if (c->at == c->end) {
+            if (c->room == 0)
+                return THE_TAIL;
+            turn(c);
+        }
+        h = word_at(m, c->at);
+        if (h == BLANK)
+            return THE_TAIL;
+        if (c->held)
+            return A_BREACH;
+        if (torn_wrap(h)) {
+            bool rest_blank = h >> 24 == BLANK >> 24 && is_blank(m, c->at + 8, n);
+            return c->room > 0 && rest_blank ? A_TORN_WRAP : A_BREACH;
+        }
+        if (reserved_byte_of(h) != 0xFF)
+            return A_BREACH;
+        if (magic_of(h) != WRAP)
+            return record_at(m, n, c, h, r);
+        if (status_of(h) != WRAP_STATUS || c->room == 0)
+            return A_BREACH;
+        turn(c);
     }
-    return true;
-}
-
-/* Live names pass the name check; an FC and an F8 of one name are one file. */
-static bool names_legal(Survey *s)
-{
-    Cursor c = bl_cursor(s->n, s->head);
-    Record r;
-    s->files = 0;
-    s->superseded = false;
-    while (bl_next(s->m, s->n, &c, &r) == A_RECORD) {
-        if (!bl_is_file(&r))
-            continue;
-        s->files++;
-        if (!bl_good_name(s->m + r.at + 8, r.name_length) || !told_apart(s, c, &r))
-            return false;
-    }
-    s->first_live = bl_is_file(&s->first) && !(s->first.status == MIGRATING && bl_has_committed(s, &s->first));
-    return true;
-}
-
-static bool marks_legal(const Survey *s)
-{
-    if (s->records < 2 || !bl_marked(&s->second))
-        return true;
-    if (s->first_live)
-        return false;
-    return s->second.magic == CLEAN || floor_of(s->second.at) == floor_of(s->head);
-}
-
-bool bl_clean_head(const Survey *s)
-{
-    return magic_at(s->m, s->head) == CLEAN;
-}
-
-static bool free_run_legal(const Survey *s)
-{
-    size_t low = floor_of(s->head), end = s->turned ? low : s->n, next = floor_of(s->tail) + SECTOR;
-    if (bl_clean_head(s))
-        return bl_blank(s->m, s->tail, next < end ? next : end);
-    return bl_blank(s->m, s->tail, end) && (s->turned || bl_blank(s->m, 0, low));
-}
-
-uint32_t bl_survey(const uint8_t *m, size_t n, size_t head, Survey *s)
-{
-    s->m = m;
-    s->n = n;
-    s->head = head;
-    return followed(s) && names_legal(s) && marks_legal(s) && free_run_legal(s) ? DONE : BROKEN;
-}
-
-/* The reading, or refusal 22 for a bad length, 5 or 6. */
-uint32_t bl_read(const uint8_t *m, size_t n, Survey *s)
-{
-    size_t head;
-    uint32_t answer = bl_good_length(n) ? bl_head(m, n, &head) : INVALID;
-    return answer == DONE ? bl_survey(m, n, head, s) : answer;
-}
-
-static bool settled(const Survey *s)
-{
-    return !bl_clean_head(s) && !(s->records > 1 && bl_marked(&s->second)) && s->torn_wrap == NONE
-           && !bl_unfinished(&s->last) && !s->superseded;
-}
-
-uint32_t bl_read_settled(const uint8_t *m, size_t n, Survey *s)
-{
-    uint32_t answer = bl_read(m, n, s);
-    return answer == DONE && !settled(s) ? UNSETTLED : answer;
-}
-
-/* Whether an FC record has the name of r. */
-bool bl_has_committed(const Survey *s, const Record *r)
-{
-    Cursor c = bl_cursor(s->n, s->head);
-    Record other;
-    while (bl_next(s->m, s->n, &c, &other) == A_RECORD)
-        if (other.status == COMMITTED && bl_same_name(s->m, &other, s->m + r->at + 8, r->name_length))
-            return true;
-    return false;
-}
-
-/* The file of a name, on a settled image. */
-bool bl_find(const Survey *s, const uint8_t *name, size_t length, Record *r)
-{
-    Cursor c = bl_cursor(s->n, s->head);
-    while (bl_next(s->m, s->n, &c, r) == A_RECORD)
-        if (bl_is_file(r) && bl_same_name(s->m, r, name, length))
-            return true;
-    return false;
 }

@@ -1,17 +1,18 @@
 /* "Reading an image": the head. */
-#include "baseline.h"
+#include "names.h"
+#include "store.h"
 
 /* The end of the record that the walk steps over at p; p itself if there is none. */
-static size_t walk_over(const uint8_t *m, size_t n, size_t p)
+static size_t walk_over(const uint8_t *m, size_t n, size_t p, Header h)
 {
-    unsigned magic = magic_at(m, p);
-    size_t length, missing, end;
-    if (m[p + 2] == ERASED || !(magic == RECORD || (magic == CLEAN && p == 0)))
+    unsigned magic = magic_of(h);
+    size_t length, data;
+    if (status_of(h) == ERASED || !(magic == RECORD || (magic == CLEAN && p == 0)))
         return p;
-    if (!bl_name_end(m, n, p, &length, &missing))
+    if (!name_end(m, n, p, h, &length))
         return p;
-    end = p + size_of(length, data_length_at(m, p));
-    return end <= n ? end : p;
+    data = p + size_before_data(length);
+    return data <= n && data_length_of(h) <= n - data ? data + up8(data_length_of(h)) : p;
 }
 
 /* Where the search begins: at the first place that is no record. */
@@ -19,9 +20,10 @@ static size_t walk(const uint8_t *m, size_t n)
 {
     size_t p = 0, next;
     while (p < n) {
-        if (torn(m, p))
+        Header h = word_at(m, p);
+        if (torn(h))
             return p + 8;
-        next = walk_over(m, n, p);
+        next = walk_over(m, n, p, h);
         if (next == p)
             break;
         p = next;
@@ -29,21 +31,38 @@ static size_t walk(const uint8_t *m, size_t n)
     return p;
 }
 
-uint32_t bl_head(const uint8_t *m, size_t n, size_t *head)
+/* The first START or CLEAN from `from` on, or n. FF is neither; the first stretch of FF is noted. */
+static size_t search(const uint8_t *m, size_t n, size_t from, Stretch *blank)
 {
-    unsigned first = magic_at(m, 0);
+    size_t a = first_written(m, from, n);
+    blank->from = from;
+    blank->to = a;
+    while (a < n) {
+        uint64_t word = word_at(m, a);
+        if (word == BLANK)
+            a = first_written(m, a, n);
+        else if (is_mark(word))
+            break;
+        else
+            a += 8;
+    }
+    return a;
+}
+
+uint32_t bl_head(const uint8_t *m, size_t n, size_t *head, Stretch *blank)
+{
+    unsigned first = magic_of(word_at(m, 0));
     size_t a;
     *head = 0;
+    blank->from = blank->to = 0;
     if (first == START)
         return DONE;
     if (first == WRAP)
         return BROKEN;
-    for (a = walk(m, n); a < n; a += 8)
-        if (m[a + 1] == 0x5A && (m[a] == 0x00 || m[a] == 0xA0 || m[a] == 0x80))
-            break;
+    a = search(m, n, walk(m, n), blank);
     if (a < n) {
         *head = a;
-        return m[a] != 0x00 && first == CLEAN ? BROKEN : DONE;
+        return first == CLEAN && magic_of(word_at(m, a)) == CLEAN ? BROKEN : DONE;
     }
     return first == CLEAN ? DONE : NO_HEAD;
 }

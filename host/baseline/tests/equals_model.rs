@@ -6,6 +6,6 @@ use testing::compare::Comparison;
 fn baseline_equals_the_model() {
     let store = Library::new(baseline::functions());
     let mut comparison = Comparison::new(&store);
-    comparison.run(3, 10_000, false);
+    comparison.run(3, 20_000, false);
     assert_eq!(comparison.tally.differ, 0, "{}", comparison.tally.report());
 }

@@ -1,85 +1,95 @@
-//! The library's times, as ratios to plain C (package baseline) and to a scan of
-//! the image's bytes. Prints a table in Markdown.
+//! The library's times, as ratios to the best plain C (package baseline) and to a scan of the image's bytes; or the
+//! stack that its calls need. Prints tables in Markdown; `--help` says which words it takes.
+mod cases;
+mod images;
+mod options;
+mod stack;
+mod table;
 mod timing;
 
-use testing::aimed::write_record;
+use cases::{case, Case, Kind, Shape};
+use options::{Options, USAGE};
 use testing::c_calls::Library;
-use testing::call::{formatted, Call};
-use testing::ALL;
-use timing::{times, Times, RUNS};
+use timing::{times, Effort, Times};
 
-const KIB: usize = 1024;
-const MIB: usize = 1024 * KIB;
+const WHOLE: Effort = Effort { runs: 11, seconds: 0.002 };
+const QUICK: Effort = Effort { runs: 5, seconds: 0.0005 };
 
-fn name(i: usize) -> Vec<u8> {
-    format!("file{i}").into_bytes()
+/// The library and what it is measured against.
+struct Both {
+    library: Library,
+    baseline: Library,
 }
 
-/// A settled image of so many files, which take up about half of it.
-fn settled(n: usize, files: usize) -> Vec<u8> {
-    let mut img = formatted(n);
-    let mut at = 16;
-    let share = n / 2 / files;
-    let data = vec![0x11; share.saturating_sub(32).max(8)];
-    for i in 0..files {
-        at = write_record(&mut img, at, [0xA5, 0x5A, 0xFC], &name(i), &data);
-    }
-    let reply = model::mount(&mut img, 0);
-    assert_eq!((reply.answer, reply.third), (0, files as u64), "the image is settled");
-    img
-}
-
-fn row(what: &str, t: &Times) {
-    let micros = |seconds: f64| format!("{:.1}", seconds * 1e6);
-    let ratio = |x: f64| format!("{x:.2}");
-    println!(
-        "| {what} | {} | {} | {} | {} | {} |",
-        micros(t.library),
-        micros(t.baseline),
-        micros(t.scan),
-        ratio(t.to_baseline),
-        ratio(t.to_scan),
-    );
-}
-
-/// The last file is asked for; mount has nothing to do.
-fn reading(library: &Library, baseline: &Library) {
-    for (size, n) in [("64 KiB", 64 * KIB), ("1 MiB", MIB), ("16 MiB", 16 * MIB)] {
-        for files in [1, 16, 256, 2048] {
-            let img = settled(n, files);
-            let last = files - 1;
-            for (what, call) in
-                [("get", Call::Get(name(last))), ("list", Call::List(last as u64)), ("mount", Call::Mount(0))]
-            {
-                row(&format!("{what}, {size}, files: {files}"), &times(library, baseline, &img, &call));
+/// The images that are asked for; those whose files don't fit are left out.
+fn shapes(o: &Options) -> Vec<(Shape, Vec<u8>)> {
+    let mut shapes = Vec::new();
+    for &n in &o.sizes {
+        for &files in &o.files {
+            for &fill in &o.fills {
+                let img = images::settled(n, files, fill);
+                shapes.extend(img.map(|img| (Shape { n, files, fill }, img)));
             }
         }
     }
+    shapes
 }
 
-fn writing(library: &Library, baseline: &Library) {
-    let img = settled(16 * MIB, 16);
-    for (size, length) in [("16 bytes", 16), ("4 KiB", 4 * KIB), ("1 MiB", MIB)] {
-        let call = Call::Put(b"new".to_vec(), vec![0x77; length], ALL);
-        row(&format!("put of {size}, 16 MiB, files: 16"), &times(library, baseline, &img, &call));
+fn measure_times(o: &Options, both: &Both) {
+    let effort = if o.quick { QUICK } else { WHOLE };
+    println!("# Rows of the benchmark\n");
+    println!("Medians of {} runs, with the least and the most; library, plain C and scan by turns.", effort.runs);
+    println!("Processor time, buffers warm; {}. docs/BENCHMARKS.md says what is measured.", machine());
+    let shapes = shapes(o);
+    let mut rows: Vec<(Kind, Shape, Times)> = Vec::new();
+    for &kind in &o.calls {
+        table::head(kind);
+        for (shape, img) in &shapes {
+            let Some(case) = case(kind, img, shape.files) else { continue };
+            let times = times(&both.library, &both.baseline, &case, effort);
+            table::row(*shape, &times);
+            rows.push((kind, *shape, times));
+        }
     }
-    row("remove, 16 MiB, files: 16", &times(library, baseline, &img, &Call::Remove(name(3), ALL)));
+    table::summary(&rows);
 }
 
-fn sweeping(library: &Library, baseline: &Library) {
-    for (size, n, files) in [("64 KiB", 64 * KIB, 16), ("1 MiB", MIB, 256), ("16 MiB", 16 * MIB, 256)] {
-        let img = settled(n, files);
-        row(&format!("sweep, {size}, files: {files}"), &times(library, baseline, &img, &Call::Sweep(ALL)));
+/// The most that a call needs on any of the images.
+fn measure_stack(o: &Options, both: &Both) {
+    println!("Bytes of stack, the most on images of up to 1 MiB.\n");
+    println!("| call | library | plain C |");
+    println!("|---|---:|---:|");
+    let mut gauge = stack::Gauge::new();
+    let shapes = shapes(o);
+    for &kind in &o.calls {
+        let small = shapes.iter().filter(|(shape, _)| shape.n <= 1 << 20);
+        let cases: Vec<Case> = small.filter_map(|(shape, img)| case(kind, img, shape.files)).collect();
+        let mut most = |store| cases.iter().map(|case| gauge.bytes(store, case)).max().unwrap_or(0);
+        println!("| {} | {} | {} |", kind.title(), most(&both.library), most(&both.baseline));
     }
+}
+
+/// The processor's name.
+fn machine() -> String {
+    let info = std::fs::read_to_string("/proc/cpuinfo").unwrap_or_default();
+    let line = info.lines().find(|line| line.starts_with("model name"));
+    let name = line.and_then(|line| line.split(':').nth(1)).map_or("an unknown processor", str::trim);
+    name.to_string()
 }
 
 fn main() {
-    let library = Library::new(library::functions());
-    let baseline = Library::new(baseline::functions());
-    println!("Medians of {RUNS} runs on one machine, the three by turns, with warm buffers; processor time, in microseconds.\n");
-    println!("| call | library | plain C | scan | library / plain C | library / scan |");
-    println!("|---|---:|---:|---:|---:|---:|");
-    reading(&library, &baseline);
-    writing(&library, &baseline);
-    sweeping(&library, &baseline);
+    if std::env::args().any(|word| word == "--help") {
+        println!("{USAGE}");
+        return;
+    }
+    let o = Options::parse(std::env::args().skip(1)).unwrap_or_else(|wrong| {
+        eprintln!("{wrong}\n{USAGE}");
+        std::process::exit(2);
+    });
+    let both = Both { library: Library::new(library::functions()), baseline: Library::new(baseline::functions()) };
+    if o.stack {
+        measure_stack(&o, &both);
+    } else {
+        measure_times(&o, &both);
+    }
 }

@@ -1,27 +1,41 @@
 //! Times of one call: the library's, the baseline's, and a scan's.
+use crate::cases::Case;
 use model::Reply;
 use std::hint::black_box;
 use testing::c_calls::Library;
-use testing::call::Call;
 
-/// Each time is the median of so many runs.
-pub const RUNS: usize = 11;
-/// A run repeats a call that only reads, until it took so many seconds.
-const LONG_ENOUGH: f64 = 0.002;
-
-/// Medians: seconds, and ratios of times that were taken next to each other.
-pub struct Times {
-    pub library: f64,
-    pub baseline: f64,
-    pub scan: f64,
-    pub to_baseline: f64,
-    pub to_scan: f64,
+/// How long is measured.
+#[derive(Clone, Copy)]
+pub struct Effort {
+    /// each ratio is the median of so many runs
+    pub runs: usize,
+    /// a run repeats its call until it took so many seconds
+    pub seconds: f64,
 }
 
-fn median(times: impl Iterator<Item = f64>) -> f64 {
-    let mut times: Vec<f64> = times.collect();
-    times.sort_by(f64::total_cmp);
-    times[times.len() / 2]
+/// A median, with the least and the most.
+#[derive(Clone, Copy)]
+pub struct Spread {
+    pub median: f64,
+    pub least: f64,
+    pub most: f64,
+}
+
+impl Spread {
+    fn of(values: impl Iterator<Item = f64>) -> Spread {
+        let mut values: Vec<f64> = values.collect();
+        values.sort_by(f64::total_cmp);
+        Spread { median: values[values.len() / 2], least: values[0], most: values[values.len() - 1] }
+    }
+}
+
+/// Seconds, and ratios of times that were taken next to each other.
+pub struct Times {
+    pub library: Spread,
+    pub baseline: Spread,
+    pub scan: Spread,
+    pub to_baseline: Spread,
+    pub to_scan: Spread,
 }
 
 /// Seconds of this thread on the processor: what other programs take doesn't count.
@@ -42,69 +56,159 @@ fn now() -> f64 {
     t.seconds as f64 + t.nanoseconds as f64 * 1e-9
 }
 
-/// The time of one call that leaves the image as it is: more and more at once, until
-/// they take long enough.
-fn repeated(mut call: impl FnMut()) -> f64 {
-    let mut times = 1u32;
+/// What it takes to ask for the time, which is part of every time that is taken.
+fn clock() -> f64 {
+    Spread::of((0..101).map(|_| {
+        let start = now();
+        now() - start
+    }))
+    .median
+}
+
+/// The bytes that a call writes, as stretches of the image before it.
+struct Undo<'a> {
+    before: &'a [u8],
+    stretches: Vec<(usize, usize)>,
+}
+
+impl Undo<'_> {
+    /// Stretches of whole words, joined where they touch.
+    fn new<'a>(before: &'a [u8], after: &[u8]) -> Undo<'a> {
+        let mut stretches: Vec<(usize, usize)> = Vec::new();
+        for (i, (old, new)) in before.chunks(8).zip(after.chunks(8)).enumerate() {
+            if old != new {
+                let (from, to) = (8 * i, 8 * i + old.len());
+                match stretches.last_mut() {
+                    Some(last) if last.1 == from => last.1 = to,
+                    _ => stretches.push((from, to)),
+                }
+            }
+        }
+        Undo { before, stretches }
+    }
+
+    fn restore(&self, img: &mut [u8]) {
+        for &(from, to) in &self.stretches {
+            img[from..to].copy_from_slice(&self.before[from..to]);
+        }
+    }
+}
+
+/// A case and the copies of its image that it is measured on.
+struct Bench<'a> {
+    case: &'a Case,
+    undo: Undo<'a>,
+    copies: Vec<Vec<u8>>,
+}
+
+/// Short calls are timed several at once, each on a copy of the image, so that they take at least so many seconds.
+const AT_ONCE: f64 = 1e-5;
+const MOST_COPIES: usize = 16;
+/// The copies take so many bytes at most.
+const MOST_BYTES: usize = 64 << 20;
+
+impl Bench<'_> {
+    /// Both are right: they do what the model does. The faster one says how many copies there are.
+    fn new<'a>(library: &Library, baseline: &Library, case: &'a Case) -> Bench<'a> {
+        let mut after = case.img.clone();
+        let reply = case.call.run(&mut after);
+        for store in [library, baseline] {
+            agrees(store, case, &reply, &after);
+        }
+        let mut bench = Bench { case, undo: Undo::new(&case.img, &after), copies: vec![case.img.clone()] };
+        let once = bench.run(baseline, 0.0001);
+        let copies = (AT_ONCE / once) as usize;
+        let most = MOST_COPIES.min(MOST_BYTES / case.img.len());
+        bench.copies.resize(copies.clamp(1, most), case.img.clone());
+        bench
+    }
+
+    fn run(&mut self, store: &Library, seconds: f64) -> f64 {
+        if self.undo.stretches.is_empty() {
+            self.run_reading(store, seconds)
+        } else {
+            self.run_writing(store, seconds)
+        }
+    }
+
+    /// A call that leaves the image as it is can be repeated on it.
+    fn run_reading(&mut self, store: &Library, seconds: f64) -> f64 {
+        let (img, call) = (&mut self.copies[0], &self.case.call);
+        repeated(seconds, || {
+            black_box(store.lend(black_box(img), call));
+        })
+    }
+
+    /// One call on each copy, over and over; a first time that isn't long warms the buffers up and doesn't count.
+    fn run_writing(&mut self, store: &Library, seconds: f64) -> f64 {
+        let clock = clock();
+        let first = self.call_each(store) - clock;
+        let (mut took, mut times) = if first < seconds { (0.0, 0) } else { (first, 1) };
+        while took < seconds {
+            took += (self.call_each(store) - clock).max(0.0);
+            times += 1;
+        }
+        took / (times * self.copies.len()) as f64
+    }
+
+    /// The time of one call on each copy. What they wrote is restored after it, which isn't counted.
+    fn call_each(&mut self, store: &Library) -> f64 {
+        let start = now();
+        for img in &mut self.copies {
+            black_box(store.lend(black_box(img), &self.case.call));
+        }
+        let took = now() - start;
+        self.copies.iter_mut().for_each(|img| self.undo.restore(img));
+        took
+    }
+
+    fn scan(&self, seconds: f64) -> f64 {
+        let img = &self.copies[0];
+        repeated(seconds, || {
+            black_box(baseline::scan(black_box(img)));
+        })
+    }
+}
+
+/// The time of one call: so many of them at once that the clock's own time doesn't tell.
+fn repeated(seconds: f64, mut call: impl FnMut()) -> f64 {
+    let mut times = 1;
     loop {
         let start = now();
         for _ in 0..times {
             call();
         }
         let took = now() - start;
-        if took >= LONG_ENOUGH {
+        if took >= seconds {
             return took / times as f64;
         }
         times *= 2;
     }
 }
 
-/// One run of the call. A call that writes is run once, on an image restored before;
-/// all that counts is the call itself.
-fn run(store: &Library, img: &mut [u8], before: &[u8], call: &Call, steps: u64) -> f64 {
-    if steps == 0 {
-        return repeated(|| {
-            black_box(store.lend(black_box(img), call));
-        });
-    }
-    img.copy_from_slice(before);
-    let start = now();
-    black_box(store.lend(black_box(img), call));
-    now() - start
+fn agrees(store: &Library, case: &Case, reply: &Reply, after: &[u8]) {
+    let mut img = case.img.clone();
+    assert_eq!(store.lend(&mut img, &case.call), *reply, "{}", case.call.kind());
+    assert!(img == after, "{}: another image", case.call.kind());
 }
 
-/// The medians; the three take turns, so that they share what else the machine does.
-pub fn times(library: &Library, baseline: &Library, before: &[u8], call: &Call) -> Times {
-    let steps = agreed(library, baseline, before, call).steps;
-    let mut img = before.to_vec();
+/// The times; the three take turns, so that they share what else the machine does.
+pub fn times(library: &Library, baseline: &Library, case: &Case, effort: Effort) -> Times {
+    let mut bench = Bench::new(library, baseline, case);
     let mut turns: Vec<(f64, f64, f64)> = Vec::new();
-    for _ in 0..=RUNS {
-        let ours = run(library, &mut img, before, call, steps);
-        let plain = run(baseline, &mut img, before, call, steps);
-        let scan = repeated(|| {
-            black_box(baseline::scan(black_box(&img)));
-        });
+    for _ in 0..=effort.runs {
+        let ours = bench.run(library, effort.seconds);
+        let plain = bench.run(baseline, effort.seconds);
+        let scan = bench.scan(effort.seconds);
         turns.push((ours, plain, scan));
     }
     // the first turn warmed the buffers up and doesn't count
     let turns = &turns[1..];
     Times {
-        library: median(turns.iter().map(|t| t.0)),
-        baseline: median(turns.iter().map(|t| t.1)),
-        scan: median(turns.iter().map(|t| t.2)),
-        to_baseline: median(turns.iter().map(|t| t.0 / t.1)),
-        to_scan: median(turns.iter().map(|t| t.0 / t.2)),
+        library: Spread::of(turns.iter().map(|t| t.0)),
+        baseline: Spread::of(turns.iter().map(|t| t.1)),
+        scan: Spread::of(turns.iter().map(|t| t.2)),
+        to_baseline: Spread::of(turns.iter().map(|t| t.0 / t.1)),
+        to_scan: Spread::of(turns.iter().map(|t| t.0 / t.2)),
     }
-}
-
-/// What is measured is also right: both do what the model does.
-fn agreed(library: &Library, baseline: &Library, before: &[u8], call: &Call) -> Reply {
-    let mut expected = before.to_vec();
-    let reply = call.run(&mut expected);
-    for store in [library, baseline] {
-        let mut img = before.to_vec();
-        assert_eq!(store.lend(&mut img, call), reply, "{}", call.kind());
-        assert!(img == expected, "{}: another image", call.kind());
-    }
-    reply
 }

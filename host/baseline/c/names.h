@@ -1,0 +1,89 @@
+/* Names: where one ends, whether it is good, and a number by which it is found again. */
+#ifndef NAMES_H
+#define NAMES_H
+
+#include "bytes.h"
+
+#define EACH_BYTE UINT64_C(0x0101010101010101)
+#define TOP_BITS (EACH_BYTE * 0x80)
+
+/* The most words that a name and its 00 take. */
+#define NAME_WORDS 8
+
+/* The top bits of a word's 00 bytes; behind the first of them it may have others. */
+static inline uint64_t zeros(uint64_t word) { return (word - EACH_BYTE) & ~word & TOP_BITS; }
+
+/* The first 00 in the 64 bytes from byte 8, up to N; in a reserved record a byte of 80 or more counts too. */
+static inline bool name_end(const uint8_t *m, size_t n, size_t at, Header h, size_t *length)
+{
+    size_t from = at + 8, a = from, to = n - from < 8 * NAME_WORDS ? n : from + 8 * NAME_WORDS;
+    uint64_t also = status_of(h) == RESERVED ? TOP_BITS : 0;
+    for (; a < to; a += 8) {
+        uint64_t word = word_at(m, a), ends = zeros(word) | (word & also);
+        if (ends != 0) {
+            *length = a - from + (size_t)__builtin_ctzll(ends) / 8;
+            return true;
+        }
+    }
+    return false;
+}
+
+/* Each byte of the word is 21 to 7E. */
+static inline bool printable(uint64_t word)
+{
+    uint64_t below_21 = ~(word + EACH_BYTE * (0x80 - 0x21)), above_7e = word + EACH_BYTE * (0x7F - 0x7E);
+    return ((word | below_21 | above_7e) & TOP_BITS) == 0;
+}
+
+/* Each bit of the result depends on most of the bits, and the low ones on all. */
+static inline uint64_t mixed(uint64_t bits)
+{
+    bits *= UINT64_C(0x9E3779B97F4A7C15);
+    return bits ^ bits >> 32;
+}
+
+/*
+ * A number of the name at `name`, whose bytes may be read up to the end of the word with its 00. False: the name isn't
+ * good. The bytes from the 00 on count as 00.
+ */
+static inline bool name_key(const uint8_t *name, size_t length, uint64_t *key)
+{
+    size_t i;
+    uint64_t word, kept, sum = 0;
+    if (length < 1 || length > 63 || name[length - 1] == '/')
+        return false;
+    for (i = 0; i + 8 <= length; i += 8) {
+        word = word_at(name, i);
+        if (!printable(word))
+            return false;
+        sum = mixed(sum ^ word);
+    }
+    kept = (UINT64_C(1) << 8 * (length - i)) - 1;
+    word = word_at(name, i) & kept;
+    *key = mixed(mixed(sum ^ word));
+    return printable(word | (EACH_BYTE * 'a' & ~kept));
+}
+
+/*
+ * Which keys were seen: five bits for each. One that wasn't is seldom taken for one that was: among 2,048 of them once
+ * or not at all, among 256 hardly ever.
+ */
+typedef struct {
+    uint64_t bits[512];
+} Seen;
+
+/* Whether the key was perhaps seen before; from now on it was. */
+static inline bool seen(Seen *s, uint64_t key)
+{
+    uint64_t stride = key >> 32 | 1;
+    bool before = true;
+    int i;
+    for (i = 0; i < 5; i++, key += stride) {
+        uint64_t *word = &s->bits[key >> 6 & 511], bit = UINT64_C(1) << (key & 63);
+        before &= (*word & bit) != 0;
+        *word |= bit;
+    }
+    return before;
+}
+
+#endif

@@ -1,0 +1,124 @@
+//! The images that are measured: settled, with files of one size.
+use model::{floor, put_room, read_image, size_of, up8, SECTOR};
+use testing::aimed::write_record;
+use testing::call::formatted;
+
+/// What the measured put writes.
+pub const CONTENT: [u8; 16] = [0x77; 16];
+
+#[derive(Clone, Copy, PartialEq, Eq, Debug)]
+pub enum Fill {
+    /// a store just formatted and filled: small files from 0 on, and then nothing
+    Empty,
+    /// a store long in use: its head in the middle, the chain past N and on from 0, dead records between the files,
+    /// and about as much free as a put asks for
+    Full,
+}
+
+impl Fill {
+    pub fn word(self) -> &'static str {
+        match self {
+            Fill::Empty => "empty",
+            Fill::Full => "full",
+        }
+    }
+}
+
+/// The name of a file.
+pub fn name(i: usize) -> Vec<u8> {
+    format!("/f{i}").into_bytes()
+}
+
+/// A settled image of so many files; none if they and a put don't fit.
+pub fn settled(n: usize, files: usize, fill: Fill) -> Option<Vec<u8>> {
+    let img = match fill {
+        Fill::Empty => empty(n, files),
+        Fill::Full => full(n, files),
+    }?;
+    let mut left = img.clone();
+    let reply = model::mount(&mut left, 0);
+    assert_eq!((reply.answer, reply.third), (0, files as u64), "the image is settled");
+    let chain = read_image(&img).expect("it is settled");
+    put_room(&img, &chain, &name(files - 1), CONTENT.len() as u64).map(|_| img)
+}
+
+/// Files of 8 bytes.
+fn empty(n: usize, files: usize) -> Option<Vec<u8>> {
+    let mut img = formatted(n);
+    let mut at = 16;
+    for i in 0..files {
+        let name = name(i);
+        if at + size_of(name.len() as u64, 8) > n as u64 {
+            return None;
+        }
+        at = write_record(&mut img, at, [0xA5, 0x5A, 0xFC], &name, &[0x11; 8]);
+    }
+    Some(img)
+}
+
+/// Records of one size: about twice as many as files, but not too few, so that the largest leaves room for the rule of
+/// put. The files stand evenly among them.
+fn full(n: usize, files: usize) -> Option<Vec<u8>> {
+    let end = n as u64;
+    let head = end / 2 + 64;
+    let size = ((end - 4 * SECTOR) / (2 * files as u64).max(32) / 8 * 8).max(24);
+    let free = (40 + SECTOR + 3 * size).max(2 * SECTOR);
+    let before = (end - head - 16) / size;
+    let after = floor(head).checked_sub(free)? / size;
+    let records = (before + after) as usize;
+    if records < files {
+        return None;
+    }
+    let mut img = vec![0xFF; n];
+    // the head that was there before
+    img[floor(head) as usize..head as usize].fill(0x00);
+    let mut at = write_record(&mut img, head, [0x00, 0x5A, 0x00], b"", b"");
+    let mut live = 0;
+    for i in 0..records {
+        if i as u64 == before {
+            at = turned(&mut img, at);
+        }
+        let is_live = i * files % records < files;
+        let status = if is_live { 0xFC } else { 0x00 };
+        let name = name(live);
+        let data = vec![0x11; (size - 8 - up8(name.len() as u64 + 1)) as usize];
+        at = write_record(&mut img, at, [0xA5, 0x5A, status], &name, &data);
+        live += is_live as usize;
+    }
+    Some(img)
+}
+
+/// The chain goes on at 0, behind a marker if it isn't at N.
+fn turned(img: &mut [u8], at: u64) -> u64 {
+    if let Some(marker) = img.get_mut(at as usize..at as usize + 3) {
+        marker.copy_from_slice(&[0xFA, 0x5A, 0xF0]);
+    }
+    0
+}
+
+#[cfg(test)]
+mod tests {
+    use super::*;
+
+    #[test]
+    fn all_but_none_fit() {
+        for n in [64, 1024, 16 * 1024].map(|kib| kib * 1024) {
+            for files in [1, 16, 256, 2048] {
+                for fill in [Fill::Empty, Fill::Full] {
+                    let img = settled(n, files, fill).unwrap_or_else(|| panic!("{n}, {files}, {fill:?}"));
+                    let chain = read_image(&img).expect("it is settled");
+                    assert_eq!(chain.turned, fill == Fill::Full);
+                    let free: u64 = chain.free_run(n as u64).iter().map(|(from, to)| to - from).sum();
+                    let most = if fill == Fill::Full { n as u64 / 6 } else { n as u64 };
+                    assert!(free <= most, "{n}, {files}, {fill:?}: {free} free");
+                }
+            }
+        }
+    }
+
+    #[test]
+    fn too_many_files() {
+        assert!(settled(64 * 1024, 3000, Fill::Empty).is_none());
+        assert!(settled(64 * 1024, 3000, Fill::Full).is_none());
+    }
+}

@@ -1,0 +1,85 @@
+//! The words of the command line.
+use crate::cases::Kind;
+use crate::images::Fill;
+
+pub const USAGE: &str = "bench [--quick] [--stack] [--size 64K|1M|16M] [--files N] [--fill empty|full] [--call CALL]
+  --quick   fewer and shorter runs
+  --stack   the stack that each call needs, in place of times
+  the others keep those rows alone; several go with a comma between, as in --size 64K,1M
+  CALL: mount, get, list, put, put-long, remove, sweep, mount-put, mount-move, mount-clean";
+
+pub const SIZES: [(&str, usize); 3] = [("64K", 64 << 10), ("1M", 1 << 20), ("16M", 16 << 20)];
+pub const FILES: [usize; 4] = [1, 16, 256, 2048];
+pub const FILLS: [Fill; 2] = [Fill::Empty, Fill::Full];
+
+/// Which rows are measured, and how.
+#[derive(Debug)]
+pub struct Options {
+    pub quick: bool,
+    pub stack: bool,
+    pub sizes: Vec<usize>,
+    pub files: Vec<usize>,
+    pub fills: Vec<Fill>,
+    pub calls: Vec<Kind>,
+}
+
+impl Options {
+    /// Everything, or what is wrong with the words.
+    pub fn parse(words: impl Iterator<Item = String>) -> Result<Options, String> {
+        let mut o = Options {
+            quick: false,
+            stack: false,
+            sizes: SIZES.map(|(_, n)| n).to_vec(),
+            files: FILES.to_vec(),
+            fills: FILLS.to_vec(),
+            calls: Kind::ALL.to_vec(),
+        };
+        let mut words = words;
+        while let Some(word) = words.next() {
+            let mut list = || words.next().ok_or(format!("{word}: a value is missing"));
+            match &word[..] {
+                "--quick" => o.quick = true,
+                "--stack" => o.stack = true,
+                "--size" => o.sizes = each(&list()?, size)?,
+                "--files" => o.files = each(&list()?, |x| x.parse().ok().filter(|&files| files > 0))?,
+                "--fill" => o.fills = each(&list()?, |x| FILLS.into_iter().find(|f| f.word() == x))?,
+                "--call" => o.calls = each(&list()?, |x| Kind::ALL.into_iter().find(|k| k.word() == x))?,
+                _ => return Err(format!("{word}: not known")),
+            }
+        }
+        Ok(o)
+    }
+}
+
+fn size(word: &str) -> Option<usize> {
+    SIZES.into_iter().find(|(w, _)| *w == word).map(|(_, n)| n)
+}
+
+fn each<T>(list: &str, one: impl Fn(&str) -> Option<T>) -> Result<Vec<T>, String> {
+    list.split(',').map(|word| one(word).ok_or(format!("{word}: not known"))).collect()
+}
+
+#[cfg(test)]
+mod tests {
+    use super::*;
+
+    fn parsed(words: &str) -> Result<Options, String> {
+        Options::parse(words.split_whitespace().map(String::from))
+    }
+
+    #[test]
+    fn words() {
+        let all = parsed("").unwrap();
+        assert_eq!((all.sizes.len(), all.files.len(), all.calls.len(), all.quick), (3, 4, 10, false));
+        let some = parsed("--quick --size 64K,16M --call mount-put,get --fill full --files 3").unwrap();
+        assert_eq!((some.quick, some.sizes, some.files), (true, vec![64 << 10, 16 << 20], vec![3]));
+        assert_eq!((some.calls, some.fills), (vec![Kind::MountPut, Kind::Get], vec![Fill::Full]));
+    }
+
+    #[test]
+    fn wrong_words() {
+        for words in ["--size", "--size 2M", "--call fly", "--files 0", "quick"] {
+            assert!(parsed(words).is_err(), "{words}");
+        }
+    }
+}
