@@ -1,28 +1,28 @@
+-- A settled image is reported as it was read; else the repairs tell.
+use mathlib.Core.Path.{sym, _∙_}
+use Rattle.lilota.specs.Mount.{mount-settled}
 use borrow.Author.Needs.{needs}
 use Rattle.lilota.proofs.mount.mount_from.Statement.{statement}
 use Rattle.lilota.proofs.mount.mount_from.Tie as tie
-use Rattle.lilota.proofs.mount.mount_from.Reads as reads
-use Rattle.lilota.proofs.mount.mount_from.Lts as lts
-use Rattle.lilota.proofs.mount.mount_repaired.Reads as mount-repaired-reads
-use Rattle.lilota.proofs.mount.unchanged.Reads as unchanged-reads
 
--- src/mount.rt:74:9
 unchanged-requires : tie.Need-unchanged-requires
 unchanged-requires c κs = search needs
 
--- src/mount.rt:74:9
 returns : tie.Need-returns
-returns c = ?
+returns c =
+    let c4 = c .before .before .before .before in
+    let a = c4 .args in
+    rw (c .unchanged .ensures) (
+      mount-settled (a .image .now) (a .allowance) (a .j .survey) (c4 .pre .0) (sym (c4 .pre .1) ∙ c .before .if1 .taken),
+      tt,
+    )
 
--- src/mount.rt:76:5
 mount-repaired-requires : tie.Need-mount-repaired-requires
 mount-repaired-requires c κs = search needs
 
--- src/mount.rt:66:1
 same-length : tie.Need-same-length
 same-length c = search needs
 
--- src/mount.rt:66:1
 returns-2 : tie.Need-returns-2
 returns-2 c = search needs
 
