@@ -1,10 +1,10 @@
 // The whole reading of an image: the survey from a head on, which repairs and moves go by, and the judgement of its rules.
 use crate::Cursor;
 use crate::Headed;
+use crate::Item;
 use crate::Judged;
 use crate::Judgement;
 use crate::Read;
-use crate::Item;
 use crate::Survey;
 use crate::Tally;
 use crate::chain::start_at;

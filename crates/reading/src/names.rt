@@ -2,10 +2,10 @@
 // names need not be compared pair by pair.
 use crate::Cursor;
 use crate::Earlier;
+use crate::Item;
 use crate::Repeats;
 use crate::Signature;
 use crate::Spot;
-use crate::Item;
 use crate::chain::advance;
 use crate::files::is_file;
 use crate::files::named;
