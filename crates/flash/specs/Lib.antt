@@ -1,5 +1,6 @@
 pub mod Did
 pub mod Sector
 pub mod Blank
+pub mod Words
 pub mod Toward
 pub mod Began

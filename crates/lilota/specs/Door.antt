@@ -10,17 +10,19 @@ use Rattle.spec.specs.Step.{Image}
 use Rattle.spec.specs.Basics.{all}
 use Rattle.spec.specs.Bytes.{is-printable}
 use Rattle.spec.specs.Record.{name-ok}
+use Rattle.spec.specs.Mount.{settled}
 use Rattle.spec.specs.Numbers.{is-refusal}
 use Rattle.spec.specs.Door.{accepted, admitted, admitted-named}
 use Rattle.laws.specs.Door.{settled-gives, accepted-gives, admitted-gives, named-gives}
 use Rattle.laws.specs.Refusing.{accepted-refusing, admitted-refusing, named-refusing}
 use Rattle.reading.specs.declared.Read.{Read}
-use Rattle.reading.specs.Read.{answered, reading-of, Told, Quiet}
+use Rattle.reading.specs.declared.Judgement.{Judgement}
+use Rattle.reading.specs.Read.{answered, reading-of, Told, Quiet, judged-as, Judged-well}
 use Rattle.reading.specs.Accepted.{Accepted, Settled, accepted-of}
 
-abbrev pub Accepts : Image → Read → Type 0
-Accepts image (Read.Good s) = Accepted image s
-Accepts image (Read.Refused x) = is-refusal (x .number) ≡ true
+abbrev pub Accepts : Image → Judgement → Type 0
+Accepts image (Judgement.Good j) = Accepted image (j .survey) × (j .settled ≡ settled image (reading-of image (j .survey)))
+Accepts image (Judgement.Refused x) = is-refusal (x .number) ≡ true
 
 abbrev pub Admits : Image → Read → Type 0
 Admits image (Read.Good s) = Settled image s
@@ -42,9 +44,11 @@ name-short n h =
 -- ---- from the equation with the definition, and what the reading told
 
 module _ (image : Image) where
-  pub accepts : (r : Read) → answered image r ≡ accepted image → Told image r → Accepts image r
-  accepts (Read.Good s) e t = let p = accepted-gives image (reading-of image s) (sym e) in accepted-of image s (p .0) t (p .1)
-  accepts (Read.Refused x) e t = rw (← e) at (accepted-refusing image)
+  pub accepts : (r : Judgement) → judged-as image r ≡ accepted image → Judged-well image r → Accepts image r
+  accepts (Judgement.Good j) e w =
+      let p = accepted-gives image (reading-of image (j .survey)) (sym e) in
+      (accepted-of image (j .survey) (p .0) (w .0) (p .1), w .1)
+  accepts (Judgement.Refused x) e w = rw (← e) at (accepted-refusing image)
 
   pub admits : (r : Read) → answered image r ≡ admitted image → Told image r → Quiet image r → Admits image r
   admits (Read.Good s) e t q =

@@ -3,24 +3,28 @@ use Prim.Native.Nat.{ℕ, _-_, _≤_, _<_}
 use native.Mathlib.Omega.{arith}
 use native.Mathlib.Nat.{sub-zero}
 use mathlib.Core.Path.{_≡_, sym, ap, ap₂, _∙_}
+use mathlib.Core.Bool.{true}
 use lib.ListN.{length, take}
+use lib.Seq.{take-nil}
 use borrow.Author.Tests.{le-leb, lt-leb}
 use Rattle.spec.specs.Step.{Image, run}
 use Rattle.spec.specs.Basics.{give}
-use Rattle.spec.specs.Chain.{reading-from}
+use Rattle.spec.specs.Chain.{reading-from, Reading}
 use Rattle.spec.specs.Files.{files}
 use Rattle.spec.specs.Reading.{reading}
-use Rattle.spec.specs.Move.{Work}
-use Rattle.spec.specs.Mount.{mended}
+use Rattle.spec.specs.Move.{Work, begin}
+use Rattle.spec.specs.Mount.{mended, settled}
 use Rattle.spec.specs.Numbers.{Numbers, outcome-of, of-write, of-mount}
-use Rattle.spec.specs.Answers.{Plan, numbers-of, carry-out, mount-work, mount-of}
+use Rattle.spec.specs.Answers.{Plan, numbers-of, carry-out, mount-work, mount-of, report-of}
 use Rattle.reading.specs.declared.Survey.{Survey}
 use Rattle.reading.specs.Read.{reading-of}
 use Rattle.reading.specs.Accepted.{Accepted}
+use Rattle.reading.specs.RuleLaws.{files-counted, settled-quiet}
 use Rattle.recovery.specs.declared.Mended.{Mended}
 use Rattle.recovery.specs.Counted.{Counted, Numbered}
 use Rattle.lilota.specs.declared.Mounted.{Mounted}
 use Rattle.lilota.specs.Numbers.{report, mounted}
+use Rattle.laws.specs.Settled.{mended-none}
 
 -- ---- the plan carried out
 
@@ -67,3 +71,17 @@ module _ (image t : Image) (k : ℕ) (s : Survey) (l : Accepted image s) (r : Me
           ((n .tail ∙ ap (λ (x : Work). x .reading .place .tail) e) i)
           ((n .files ∙ ap (λ (x : Work). length (files (x .reading .entries))) e) i)) ((count ∙ steps) i)))
           bytes-are
+
+-- ---- a settled image: no step to do, so that the survey already tells what mount reports
+
+pub mount-settled : (image : Image) (k : ℕ) (s : Survey) → Accepted image s → settled image (reading-of image s) ≡ true
+    → outcome-of (of-mount 0 (report (s .place .head) (s .place .tail) (s .tally .files)) 0) image
+    ≡ carry-out image k (mount-of image (reading-of image s))
+mount-settled image k s w h =
+    let r : Reading = reading-of image s in
+    let p : Plan = mount-work (begin image r) in
+    let n : numbers-of k p ≡ of-mount 0 (report-of r) 0 = plan-done image k p (omega arith) in
+    ap (λ (f : ℕ). outcome-of (of-mount 0 (report (s .place .head) (s .place .tail) f) 0) image)
+    (files-counted (w .surveyed .tallied) (settled-quiet image r h))
+    ∙ carried image image k p (of-mount 0 (report-of r) 0) n (sym (ap (run image) (take-nil k)))
+    ∙ ap (λ (v : Work). carry-out image k (give (mount-work v))) (sym (mended-none image r h))

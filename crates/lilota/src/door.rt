@@ -1,6 +1,7 @@
 // The door of every call: 22, 5, 6 and 16 in the table's order, or what was read.
+use reading::Judgement;
 use reading::Read;
-use reading::image::read;
+use reading::image::judge;
 use reading::image::read_settled;
 use record::name::name_ok;
 use spec::Refusal;
@@ -8,7 +9,7 @@ use spec::SECTOR;
 ghost use mathlib.Core.Path.{_≡_};
 ghost use Rattle.spec.specs.Geometry.{good-length};
 ghost use Rattle.spec.specs.Door.{accepted, admitted, admitted-named};
-ghost use Rattle.reading.specs.Read.{answered};
+ghost use Rattle.reading.specs.Read.{answered, judged-as};
 ghost use Rattle.lilota.specs.Door.{Accepts, Admits, Admits-named};
 
 // An image's length: whole sectors, two at least, 16 MiB at most.
@@ -24,14 +25,14 @@ pub fn good_length(n: usize) -> bool
     false
 }
 
-// Mount's door: any image that can be read.
-pub fn accepted(image: &[u8]) -> Read
-    ensures { λ r. ⌜ (answered (now (image .entry)) r ≡ accepted (now (image .entry))) × Accepts (now (image .entry)) r ⌝ }
+// Mount's door: any image that can be read, and whether it is settled.
+pub fn accepted(image: &[u8]) -> Judgement
+    ensures { λ r. ⌜ (judged-as (now (image .entry)) r ≡ accepted (now (image .entry))) × Accepts (now (image .entry)) r ⌝ }
 {
     if good_length(image.len()) {
-        return read(image);
+        return judge(image);
     }
-    Read::Refused(Refusal { number: 22 })
+    Judgement::Refused(Refusal { number: 22 })
 }
 
 // The door of list and sweep: a settled image.

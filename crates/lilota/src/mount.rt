@@ -2,19 +2,38 @@
 use crate::Mounted;
 use crate::door::accepted;
 use flash::Meter;
-use reading::Read;
+use reading::Judged;
+use reading::Judgement;
 use reading::Survey;
 use recovery::mend;
 use spec::Report;
 ghost use mathlib.Core.Path.{_≡_};
+ghost use Rattle.spec.specs.Mount.{settled};
 ghost use Rattle.spec.specs.Numbers.{outcome-of, no-report};
 ghost use Rattle.spec.specs.Answers.{carry-out, mount-of, mount};
 ghost use Rattle.reading.specs.Read.{reading-of};
 ghost use Rattle.reading.specs.Accepted.{Accepted};
-ghost use Rattle.lilota.specs.Numbers.{mounted, Mounted-told};
+ghost use Rattle.lilota.specs.declared.Mounted.{Mounted};
+ghost use Rattle.lilota.specs.Numbers.{mounted, report, Mounted-told};
 
-// Mount on an image that was read.
-fn mount_from(image: &mut [u8], s: Survey, allowance: usize) -> Mounted
+// What is reported of an image on which mount has no step to do.
+fn unchanged(s: Survey) -> Mounted
+    ensures { λ r. ⌜ r ≡ Mounted.Done (report (s .place .head) (s .place .tail) (s .tally .files)) 0 ⌝ }
+{
+    let p = s.place;
+    let t = s.tally;
+    Mounted::Done {
+        report: Report {
+            head: p.head,
+            tail: p.tail,
+            files: t.files,
+        },
+        steps: 0,
+    }
+}
+
+// The repairs, on an image that was read.
+fn mount_repaired(image: &mut [u8], s: Survey, allowance: usize) -> Mounted
     requires { ⌜ Accepted (now image) s ⌝ }
     ensures { λ r. ⌜ (outcome-of (mounted r) (now (image .exit))
         ≡ carry-out (now (image .entry)) allowance (mount-of (now (image .entry)) (reading-of (now (image .entry)) s)))
@@ -43,14 +62,28 @@ fn mount_from(image: &mut [u8], s: Survey, allowance: usize) -> Mounted
     }
 }
 
+// Mount on an image that was read: a settled one needs no further look.
+fn mount_from(image: &mut [u8], j: Judged, allowance: usize) -> Mounted
+    requires { ⌜ Accepted (now image) (j .survey) × (j .settled ≡ settled (now image) (reading-of (now image) (j .survey))) ⌝ }
+    ensures { λ r. ⌜ (outcome-of (mounted r) (now (image .exit))
+        ≡ carry-out (now (image .entry)) allowance (mount-of (now (image .entry)) (reading-of (now (image .entry)) (j .survey))))
+        × Mounted-told r ⌝ }
+{
+    let s = j.survey;
+    if j.settled {
+        return unchanged(s);
+    }
+    mount_repaired(image, s, allowance)
+}
+
 // Repairs the image, within this allowance of flash steps.
 pub fn mount(image: &mut [u8], allowance: usize) -> Mounted
     ensures { λ r. ⌜ (outcome-of (mounted r) (now (image .exit)) ≡ mount (now (image .entry)) allowance) × Mounted-told r ⌝ }
 {
     let x = accepted(image);
     match x {
-        Read::Good(s) => mount_from(image, s, allowance),
-        Read::Refused(y) => Mounted::Refused(y),
+        Judgement::Good(j) => mount_from(image, j, allowance),
+        Judgement::Refused(y) => Mounted::Refused(y),
     }
 }
 

@@ -72,10 +72,6 @@ module _ (image : List ℕ) (st : ℕ) (e : Spot) where
 
 -- ---- tests of one record among all
 
--- e counts, and so does a later one of its name
-unfoldable pub twice : ℕ → List Entry → Entry → Bool
-twice st es e = named st e && has-named st es e
-
 -- an FC or F8 record with a name
 unfoldable pub is-file : Entry → Bool
 is-file e = named 0xFC e || named 0xF8 e

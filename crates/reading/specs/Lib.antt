@@ -12,6 +12,10 @@ pub mod Tally
 pub mod Faithful
 pub mod TallyLaws
 pub mod NamesLaw
+pub mod Filter
+pub mod Repeats
+pub mod Prefix
+pub mod Held
 pub mod FreeLaws
 pub mod Read
 pub mod Stows

@@ -12,7 +12,7 @@ use Rattle.reading.specs.Tally.{name-fine}
 use Rattle.laws.specs.Tests.{and-left, and-right}
 use Rattle.laws.specs.Lists.{same-is}
 
-wrong : {A : Type 0} → false ≡ true → A
+pub wrong : {A : Type 0} → false ≡ true → A
 wrong e = absurd (false≢true e)
 
 -- ---- tests that hold together
@@ -28,7 +28,7 @@ all-rest p x xs false e h = wrong (rw (e, all) at h)
 all-both : (p : Entry → Bool) (x : Entry) (xs : List Entry) → p x ≡ true → all p xs ≡ true → all p (x ∷ xs) ≡ true
 all-both p x xs e h = rw (e, all) h
 
-iff : (a b : Bool) → (a ≡ true → b ≡ true) → (b ≡ true → a ≡ true) → a ≡ b
+pub iff : (a b : Bool) → (a ≡ true → b ≡ true) → (b ≡ true → a ≡ true) → a ≡ b
 iff true b f g = sym (f refl)
 iff false true f g = g refl
 iff false false f g = refl

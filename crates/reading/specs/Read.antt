@@ -1,21 +1,26 @@
 -- What the answers of a reading say in document 01's words.
 use Prim.Native.Nat.{ℕ}
 use mathlib.Core.Path.{_≡_}
-use mathlib.Core.Bool.{false}
+use mathlib.Core.Bool.{Bool, true, false}
 use mathlib.Core.List.{List}
 use lib.ListN.{length}
-use Rattle.spec.specs.Basics.{Answer, refuse, give, any}
+use Rattle.spec.specs.Basics.{Answer, refuse, give, any, numbered}
 use Rattle.spec.specs.Geometry.{floor}
 use Rattle.spec.specs.Chain.{Reading}
 use Rattle.spec.specs.Files.{superseded}
+use Rattle.spec.specs.Mount.{settled}
 use Rattle.reading.specs.declared.Cursor.{Cursor}
 use Rattle.reading.specs.declared.Tally.{Tally}
 use Rattle.reading.specs.declared.Survey.{Survey}
+use Rattle.reading.specs.declared.Repeats.{Repeats}
 use Rattle.reading.specs.declared.Read.{Read}
+use Rattle.reading.specs.declared.Judged.{Judged}
+use Rattle.reading.specs.declared.Judgement.{Judgement}
 use Rattle.reading.specs.Cursor.{Cursor-sound, start}
 use Rattle.reading.specs.Rest.{rest}
 use Rattle.reading.specs.Tally.{none-yet, tally, Spots}
 use Rattle.reading.specs.FreeLaws.{In-image}
+use Rattle.reading.specs.Repeats.{repeats-of}
 
 -- the cursor at the head h
 abbrev pub first-cursor : List ℕ → ℕ → Cursor
@@ -49,3 +54,27 @@ Told image (Read.Refused x) = Unit {0}
 abbrev pub Quiet : List ℕ → Read → Type 0
 Quiet image (Read.Good s) = any (superseded (reading-of image s .entries)) (reading-of image s .entries) ≡ false
 Quiet image (Read.Refused x) = Unit {0}
+
+-- ---- the judgement of an image: its reading, and whether that is settled
+
+-- what it goes by: the survey s, the cursor at its head, and n, which tells of the names
+pub record Known (image : List ℕ) (start : Cursor) (s : Survey) (n : Repeats) : Type 0 where
+  pub surveyed : Surveyed image s
+  pub at-head : start ≡ first-cursor image (s .place .head)
+  pub names : n ≡ repeats-of (rest image start .entries)
+
+abbrev pub judged-as : List ℕ → Judgement → Answer Reading
+judged-as image (Judgement.Good j) = give (reading-of image (j .survey))
+judged-as image (Judgement.Refused x) = refuse x
+
+abbrev pub Judged-well : List ℕ → Judgement → Type 0
+Judged-well image (Judgement.Good j) = Surveyed image (j .survey) × (j .settled ≡ settled image (reading-of image (j .survey)))
+Judged-well image (Judgement.Refused x) = Unit {0}
+
+-- 16: "not settled"
+abbrev pub settled-read : Survey → Bool → Read
+settled-read s true = Read.Good s
+settled-read s false = Read.Refused (numbered 16)
+
+abbrev pub read-settled : Judged → Read
+read-settled j = settled-read (j .survey) (j .settled)

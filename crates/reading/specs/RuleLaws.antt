@@ -13,7 +13,7 @@ use Rattle.spec.specs.Bytes.{is-clean}
 use Rattle.spec.specs.Record.{Entry}
 use Rattle.spec.specs.Head.{head}
 use Rattle.spec.specs.Chain.{Reading, reading-from}
-use Rattle.spec.specs.Files.{live, superseded}
+use Rattle.spec.specs.Files.{live, superseded, files}
 use Rattle.spec.specs.Reading.{head-clean, free-ok, whole, marked, second-ok, marks-ok, names-ok, single, legal, judged, reading}
 use Rattle.spec.specs.Mount.{head-low, settled}
 use Rattle.spec.specs.Door.{if-settled, settled-reading}
@@ -21,14 +21,16 @@ use Rattle.spec.specs.declared.Refusal.{Refusal}
 use Rattle.reading.specs.declared.Cursor.{Cursor}
 use Rattle.reading.specs.declared.Spot.{Spot}
 use Rattle.reading.specs.declared.Tally.{Tally}
+use Rattle.reading.specs.declared.Judged.{Judged}
+use Rattle.reading.specs.declared.Judgement.{Judgement}
 use Rattle.reading.specs.Rest.{rest, entry-of}
 use Rattle.reading.specs.Faithful.{Stands, faithful}
 use Rattle.reading.specs.Tally.{none-yet, tally}
-use Rattle.reading.specs.TallyLaws.{tally-records, tally-fine, second-is, clean-few, low-is, clean-is, marks-few, marks-are, pending-is}
-use Rattle.reading.specs.NamesLaw.{names-are}
+use Rattle.reading.specs.TallyLaws.{tally-records, tally-files, tally-fine, second-is, clean-few, low-is, clean-is, marks-few, marks-are, pending-is}
+use Rattle.reading.specs.NamesLaw.{names-are, files-are}
 use Rattle.laws.specs.Settled.{second-marked, last-open, wrap-torn, calm, settled-is}
 use Rattle.reading.specs.FreeLaws.{free-by}
-use Rattle.reading.specs.Read.{Tallied}
+use Rattle.reading.specs.Read.{Tallied, reading-of, answered, Told, Quiet, Judged-well, settled-read}
 
 -- ---- first and second record
 
@@ -58,6 +60,13 @@ module _ {image : List ℕ} {start : Cursor} {t : Tally} (w : Tallied image star
   pub count-is : t .records ≡ length (rest image start .entries)
   count-is =
       ap (λ (u : Tally). u .records) (w .same) ∙ tally-records none-yet (rest image start .entries) ∙ zero-add (length (rest image start .entries))
+
+  -- the FC and F8 records with a name are the live files, where none is superseded
+  pub files-counted : any (superseded (rest image start .entries)) (rest image start .entries) ≡ false
+      → t .files ≡ length (files (rest image start .entries))
+  files-counted h =
+      ap (λ (u : Tally). u .files) (w .same) ∙ tally-files none-yet (rest image start .entries) ∙ zero-add _
+      ∙ ap length (sym (files-are (rest image start .entries) h))
 
   pub fine-is : t .fine ≡ names-ok (rest image start .entries)
   fine-is = ap (λ (u : Tally). u .fine) (w .same) ∙ tally-fine none-yet (rest image start .entries) ∙ names-are (rest image start .entries)
@@ -195,3 +204,15 @@ pub settled-by : (image : List ℕ) (r : Reading) (t : Bool) → give r ≡ read
     → checked t (numbered 16) (give r) ≡ settled-reading image
 unfolding settled-reading if-settled
 settled-by image r t e s = ap (λ (b : Bool). checked b (numbered 16) (give r)) (sym s) ∙ ap (λ (a : Answer Reading). onward a (if-settled image)) e
+
+-- a judgement, as the reading of a settled image or 16
+pub settled-told : (image : List ℕ) (j : Judged) (b : Bool) → j .settled ≡ b → give (reading-of image (j .survey)) ≡ reading image
+    → Judged-well image (Judgement.Good j)
+    → (answered image (settled-read (j .survey) b) ≡ settled-reading image) × Told image (settled-read (j .survey) b)
+    × Quiet image (settled-read (j .survey) b)
+settled-told image j true q e w = (
+  settled-by image (reading-of image (j .survey)) true e (sym (w .1) ∙ q),
+  w .0,
+  settled-quiet image (reading-of image (j .survey)) (sym (w .1) ∙ q),
+)
+settled-told image j false q e w = (settled-by image (reading-of image (j .survey)) false e (sym (w .1) ∙ q), tt, tt)

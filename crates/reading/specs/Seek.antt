@@ -9,7 +9,6 @@ use mathlib.Core.List.{List, _∷_}
 use lib.ListN.{length, getElem?}
 use Rattle.spec.specs.Basics.{any, keep, first-such}
 use Rattle.spec.specs.Record.{Entry}
-use Rattle.spec.specs.Files.{doubled}
 use Rattle.reading.specs.declared.Cursor.{Cursor}
 use Rattle.reading.specs.declared.Spot.{Spot}
 use Rattle.reading.specs.declared.Item.{Item}
@@ -17,7 +16,6 @@ use Rattle.reading.specs.declared.Found.{Found}
 use Rattle.reading.specs.Cursor.{advance, Cursor-sound, left}
 use Rattle.reading.specs.Rest.{Run, entry-of, rest}
 use Rattle.reading.specs.Fold.{Whole, Passes, Not-record, Folded, fold-start, fold-end, fold-stop, fold-step}
-use Rattle.reading.specs.FileLaws.{twice}
 use Rattle.laws.specs.Lists.{any-yes, any-no, keep-yes, keep-no, first-yes, first-no}
 
 -- ---- is there one that passes
@@ -70,25 +68,6 @@ module _ (p : Entry → Bool) {image : List ℕ} {start c : Cursor} {m : ℕ} (w
           fold = fold-step (count-of p) image start 0 c m (w .fold) e next t m (rw (keep-no p (entry-of image e) (rest image next .entries) h));
           few = omega (arith, w .few, t .onward .less);
         }
-
--- ---- two of one name
-
-abbrev pub doubled-of : ℕ → Unit {0} → Run → Bool
-doubled-of st u r = doubled st (r .entries)
-
-module _ (st : ℕ) {image : List ℕ} {start c : Cursor} (w : Folded (doubled-of st) image start tt c tt) where
-  pub doubled-over : (r : Item) → r ≡ advance image c → Not-record r → false ≡ doubled st (rest image start .entries)
-  unfolding doubled
-  doubled-over r e z = fold-end (doubled-of st) image start tt c tt w r e z
-
-  module _ {e : Spot} {next : Cursor} (t : Passes image c e next) where
-    pub doubled-found : twice st (rest image next .entries) (entry-of image e) ≡ true → true ≡ doubled st (rest image start .entries)
-    unfolding doubled twice
-    doubled-found h = fold-stop (doubled-of st) image start tt c tt w e next t true (rw (h, doubled))
-
-    pub doubled-onward : twice st (rest image next .entries) (entry-of image e) ≡ false → Folded (doubled-of st) image start tt next tt
-    unfolding doubled twice
-    doubled-onward h = fold-step (doubled-of st) image start tt c tt w e next t tt (rw (h, doubled))
 
 -- ---- the enum in the definitions' words
 

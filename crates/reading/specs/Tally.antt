@@ -27,13 +27,19 @@ abbrev pub nowhere : Spot
 nowhere = record { at = 0; n = 0; d = 0 }
 
 abbrev pub none-yet : Tally
-none-yet = record { records = 0; first = nowhere; second = nowhere; last = nowhere; fine = true; further = false; pending = false }
+none-yet = record { records = 0; files = 0; first = nowhere; second = nowhere; last = nowhere; fine = true; further = false; pending = false }
+
+-- one more, if it is a file
+abbrev pub count-with : ℕ → Bool → ℕ
+count-with k true = k + 1
+count-with k false = k
 
 -- with one record more
 unfoldable pub noted : Tally → Entry → Tally
 noted t e =
     record {
       records = t .records + 1;
+      files = count-with (t .files) (is-file e);
       first = cond (eqb (t .records) 0) (spot-of e) (t .first);
       second = cond (leb (t .records) 1) (spot-of e) (t .second);
       last = spot-of e;
@@ -74,16 +80,29 @@ pub record Passing (image : List ℕ) (start c : Cursor) (t : Tally) : Type 0 wh
   pub fold : Folded passed image start none-yet c t
   pub spots : Spots image t
   pub few : t .records + left c ≤ left start
+  pub files : t .files ≤ t .records
 
 noted-records : (t : Tally) (e : Entry) → noted t e .records ≡ t .records + 1
 unfolding noted
 noted-records t e = refl
 
+noted-files : (t : Tally) (e : Entry) → noted t e .files ≤ t .files + 1
+unfolding noted
+noted-files t e = go (is-file e) where
+  go : (b : Bool) → count-with (t .files) b ≤ t .files + 1
+  go true = omega arith
+  go false = omega arith
+
 module _ {image : List ℕ} where
   pub passing-start : {start : Cursor} → Cursor-sound image start → 16 ≤ length image → Passing image start start none-yet
   passing-start {start} s l =
       let w : Whole image nowhere = record { fits = omega arith } in
-      record { fold = fold-start passed image start none-yet s; spots = record { first = w; second = w; last = w }; few = omega arith }
+      record {
+        fold = fold-start passed image start none-yet s;
+        spots = record { first = w; second = w; last = w };
+        few = omega arith;
+        files = omega arith;
+      }
 
   either : (b : Bool) (x y : Spot) → Whole image x → Whole image y → Whole image (cond b x y)
   either true x y p q = p
@@ -107,15 +126,19 @@ module _ {image : List ℕ} where
         fold = fold-step passed image start none-yet c t (p .fold) e next w (noted t (entry-of image e)) refl;
         spots = noted-spots t e (w .whole) (p .spots);
         few = omega (arith, p .few, w .onward .less, noted-records t (entry-of image e));
+        files = omega (arith, p .files, noted-records t (entry-of image e), noted-files t (entry-of image e));
       }
 
   -- the tally as the code makes it
-  pub noted-is : (t : Tally) (e : Spot) (one two : Spot) (fine further pending : Bool) → Whole image e → one ≡ cond (eqb (t .records) 0) e (t .first)
+  pub noted-is : (t : Tally) (e : Spot) (files : ℕ) (one two : Spot) (fine further pending : Bool) → Whole image e
+      → files ≡ count-with (t .files) (is-file (entry-of image e))
+      → one ≡ cond (eqb (t .records) 0) e (t .first)
       → two ≡ cond (leb (t .records) 1) e (t .second)
       → fine ≡ (t .fine && name-fine (entry-of image e)) → further ≡ (t .further || (ltb 1 (t .records) && marked (entry-of image e)))
       → pending ≡ unfinished-at image (e .at)
       → record {
         records = t .records + 1;
+        files = files;
         first = one;
         second = two;
         last = e;
@@ -124,4 +147,4 @@ module _ {image : List ℕ} where
         pending = pending;
       } ≡ noted t (entry-of image e)
   unfolding noted
-  noted-is t e one two fine further pending w a b c d h = rw (a, b, c, d, h, spot-is image e w)
+  noted-is t e files one two fine further pending w f a b c d h = rw (f, a, b, c, d, h, spot-is image e w)

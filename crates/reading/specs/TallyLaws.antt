@@ -7,7 +7,7 @@ use mathlib.Core.Bool.{Bool, true, false, _&&_, _||_, not}
 use mathlib.Core.List.{List, [], _∷_}
 use lib.ListN.{length}
 use borrow.Author.Tests.{ne-eqb, lt-leb, lt-ltb}
-use Rattle.spec.specs.Basics.{any, all, Each}
+use Rattle.spec.specs.Basics.{any, all, keep, Each}
 use Rattle.spec.specs.Bytes.{is-clean}
 use Rattle.spec.specs.Record.{Entry}
 use Rattle.spec.specs.Reading.{marked, second-ok, marks-ok, head-clean}
@@ -17,7 +17,8 @@ use Rattle.reading.specs.declared.Tally.{Tally}
 use Rattle.reading.specs.Rest.{entry-of}
 use Rattle.reading.specs.Fold.{spot-of}
 use Rattle.reading.specs.Faithful.{Stands}
-use Rattle.reading.specs.Tally.{name-fine, none-yet, noted, tally}
+use Rattle.reading.specs.FileLaws.{is-file}
+use Rattle.reading.specs.Tally.{name-fine, none-yet, count-with, noted, tally}
 use Rattle.laws.specs.Settled.{last-pending}
 
 -- ---- for any tally so far
@@ -27,11 +28,19 @@ unfolding noted
 tally-records t [] = sym (add-zero (t .records))
 tally-records t (e ∷ es) = let q = tally-records (noted t e) es in omega (arith, q)
 
+pub tally-files : (t : Tally) (es : List Entry) → tally t es .files ≡ t .files + length (keep is-file es)
+unfolding noted
+tally-files t [] = sym (add-zero (t .files))
+tally-files t (e ∷ es) = tally-files (noted t e) es ∙ go (is-file e) refl where
+  go : (b : Bool) → is-file e ≡ b → count-with (t .files) (is-file e) + length (keep is-file es) ≡ t .files + length (keep is-file (e ∷ es))
+  go true q = rw (keep, q) (omega arith)
+  go false q = rw (keep, q)
+
 and-assoc : (a b c : Bool) → ((a && b) && c) ≡ (a && (b && c))
 and-assoc true b c = refl
 and-assoc false b c = refl
 
-or-assoc : (a b c : Bool) → ((a || b) || c) ≡ (a || (b || c))
+pub or-assoc : (a b c : Bool) → ((a || b) || c) ≡ (a || (b || c))
 or-assoc true b c = refl
 or-assoc false b c = refl
 
@@ -39,7 +48,7 @@ all-and : (p : Entry → Bool) (e : Entry) (es : List Entry) (t : Bool) → p e 
 all-and p e es true h = rw (h, all)
 all-and p e es false h = rw (h, all)
 
-any-or : (p : Entry → Bool) (e : Entry) (es : List Entry) (t : Bool) → p e ≡ t → (p e || any p es) ≡ any p (e ∷ es)
+pub any-or : (p : Entry → Bool) (e : Entry) (es : List Entry) (t : Bool) → p e ≡ t → (p e || any p es) ≡ any p (e ∷ es)
 any-or p e es true h = rw (h, any)
 any-or p e es false h = rw (h, any)
 
@@ -47,7 +56,7 @@ and-true : (a : Bool) → (a && true) ≡ a
 and-true true = refl
 and-true false = refl
 
-or-false : (a : Bool) → (a || false) ≡ a
+pub or-false : (a : Bool) → (a || false) ≡ a
 or-false true = refl
 or-false false = refl
 

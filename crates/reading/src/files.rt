@@ -1,4 +1,4 @@
-// Files: which records are live, which names are pending twice, and the file of a name or of an index.
+// Files: which records are live, and the file of a name or of an index.
 use crate::Cursor;
 use crate::Found;
 use crate::Item;
@@ -7,12 +7,12 @@ use crate::chain::advance;
 use spec::Status;
 ghost use mathlib.Core.Path.{_≡_};
 ghost use lib.ListN.{length, getElem?};
-ghost use Rattle.spec.specs.Basics.{same, any, keep, first-such};
-ghost use Rattle.spec.specs.Files.{same-name, named, named-as, has-named, live, superseded, files, has-name, doubled};
+ghost use Rattle.spec.specs.Basics.{same, keep, first-such};
+ghost use Rattle.spec.specs.Files.{same-name, named, named-as, has-named, live, superseded, files, has-name};
 ghost use Rattle.reading.specs.Cursor.{Cursor-sound};
 ghost use Rattle.reading.specs.Rest.{rest, entry-of};
 ghost use Rattle.reading.specs.Fold.{Whole};
-ghost use Rattle.reading.specs.FileLaws.{twice, is-file};
+ghost use Rattle.reading.specs.FileLaws.{is-file};
 ghost use Rattle.reading.specs.Seek.{found-in, Found-whole};
 
 // Two slices hold the same bytes: the lengths tell most apart.
@@ -65,7 +65,7 @@ pub fn named(image: &[u8], status: Status, e: Spot) -> bool
     false
 }
 
-fn named_as(image: &[u8], status: Status, e: Spot, f: Spot) -> bool
+pub fn named_as(image: &[u8], status: Status, e: Spot, f: Spot) -> bool
     requires { ⌜ Whole (now image) e × Whole (now image) f ⌝ }
     ensures { λ r. ⌜ r ≡ named-as (status .byte) (entry-of (now (image .entry)) e) (entry-of (now (image .entry)) f) ⌝ }
 {
@@ -126,35 +126,6 @@ pub fn count_files(image: &[u8], start: Cursor) -> usize
     }
 }
 
-// The record has this status and a name, and so has a later one of the same name.
-fn again(image: &[u8], next: Cursor, status: Status, e: Spot) -> bool
-    requires { ⌜ Cursor-sound (now image) next × Whole (now image) e ⌝ }
-    ensures { λ r. ⌜ r ≡ twice (status .byte) (rest (now (image .entry)) next .entries) (entry-of (now (image .entry)) e) ⌝ }
-{
-    if named(image, status, e) {
-        return has_named(image, next, status, e);
-    }
-    false
-}
-
-// Whether two records of this status have one name.
-pub fn doubled(image: &[u8], start: Cursor, status: Status) -> bool
-    requires { ⌜ Cursor-sound (now image) start ⌝ }
-    ensures { λ r. ⌜ r ≡ doubled (status .byte) (rest (now (image .entry)) start .entries) ⌝ }
-{
-    let mut c = start;
-    loop {
-        let s = advance(image, c);
-        let Item::Record(e, next) = s else {
-            return false;
-        };
-        if again(image, next, status, e) {
-            return true;
-        }
-        c = next;
-    }
-}
-
 // An F8 record that has an FC record of its name.
 pub fn is_superseded(image: &[u8], start: Cursor, e: Spot) -> bool
     requires { ⌜ Cursor-sound (now image) start × Whole (now image) e ⌝ }
@@ -164,24 +135,6 @@ pub fn is_superseded(image: &[u8], start: Cursor, e: Spot) -> bool
         return has_named(image, start, Status::COMMITTED, e);
     }
     false
-}
-
-// Whether the chain has such a record.
-pub fn any_superseded(image: &[u8], start: Cursor) -> bool
-    requires { ⌜ Cursor-sound (now image) start ⌝ }
-    ensures { λ r. ⌜ r ≡ any (superseded (rest (now (image .entry)) start .entries)) (rest (now (image .entry)) start .entries) ⌝ }
-{
-    let mut c = start;
-    loop {
-        let s = advance(image, c);
-        let Item::Record(e, next) = s else {
-            return false;
-        };
-        if is_superseded(image, start, e) {
-            return true;
-        }
-        c = next;
-    }
 }
 
 // An FC or F8 record with a name: where nothing is superseded, these are the live files.

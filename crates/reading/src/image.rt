@@ -2,11 +2,14 @@
 use crate::Cursor;
 use crate::Headed;
 use crate::Item;
+use crate::Judged;
+use crate::Judgement;
 use crate::Read;
 use crate::Survey;
 use crate::Tally;
 use crate::chain::start_at;
 use crate::head::head;
+use crate::names::repeats;
 use crate::rules::legal;
 use crate::rules::settled;
 use crate::scan::pass;
@@ -20,7 +23,8 @@ ghost use lib.ListN.{length};
 ghost use Rattle.spec.specs.Chain.{reading-from};
 ghost use Rattle.spec.specs.Reading.{judged, reading};
 ghost use Rattle.spec.specs.Door.{settled-reading};
-ghost use Rattle.reading.specs.Read.{first-cursor, answered, Told, Quiet};
+ghost use Rattle.reading.specs.declared.Read.{Read};
+ghost use Rattle.reading.specs.Read.{first-cursor, answered, Told, Quiet, judged-as, Judged-well, read-settled};
 ghost use Rattle.reading.specs.Survey.{Seen, told, survey-of};
 
 // The cursor at a head in this image.
@@ -68,17 +72,52 @@ pub fn survey(image: &[u8], h: usize) -> Survey
     survey_of(image.len(), h, end, t)
 }
 
-// What is read from the head h on.
-pub fn read_from(image: &[u8], h: usize) -> Read
-    requires { ⌜ (h ≤ length (now image)) × (16 ≤ length (now image)) × (length (now image) ≤ 2 ^ 24) ⌝ }
-    ensures { λ r. ⌜ (answered (now (image .entry)) r ≡ judged (now (image .entry)) (reading-from (now (image .entry)) h))
-        × Told (now (image .entry)) r ⌝ }
+fn read_of(j: Judged) -> Read
+    ensures { λ r. ⌜ r ≡ Read.Good (j .survey) ⌝ }
 {
-    let s = survey(image, h);
-    if legal(image, first_cursor(image, h), s) {
+    let s = j.survey;
+    Read::Good(s)
+}
+
+// The survey of a settled image, else 16.
+fn if_settled(j: Judged) -> Read
+    ensures { λ r. ⌜ r ≡ read-settled j ⌝ }
+{
+    let s = j.survey;
+    if j.settled {
         return Read::Good(s);
     }
-    Read::Refused(Refusal { number: 5 })
+    Read::Refused(Refusal { number: 16 })
+}
+
+// What is read from the head h on, and whether it is settled.
+pub fn judge_from(image: &[u8], h: usize) -> Judgement
+    requires { ⌜ (h ≤ length (now image)) × (16 ≤ length (now image)) × (length (now image) ≤ 2 ^ 24) ⌝ }
+    ensures { λ r. ⌜ judged-as (now (image .entry)) r ≡ judged (now (image .entry)) (reading-from (now (image .entry)) h) ⌝ }
+    ensures { λ r. ⌜ Judged-well (now (image .entry)) r ⌝ }
+{
+    let s = survey(image, h);
+    let start = first_cursor(image, h);
+    let n = repeats(image, start);
+    if legal(image, start, s, n) {
+        return Judgement::Good(Judged {
+            survey: s,
+            settled: settled(image, start, s, n),
+        });
+    }
+    Judgement::Refused(Refusal { number: 5 })
+}
+
+// What an image reads as, and whether it is settled: all that a call asks of it first.
+pub fn judge(image: &[u8]) -> Judgement
+    requires { ⌜ (16 ≤ length (now image)) × (length (now image) ≤ 2 ^ 24) ⌝ }
+    ensures { λ r. ⌜ (judged-as (now (image .entry)) r ≡ reading (now (image .entry))) × Judged-well (now (image .entry)) r ⌝ }
+{
+    let x = head(image);
+    match x {
+        Headed::At(h) => judge_from(image, h),
+        Headed::Refused(n) => Judgement::Refused(Refusal { number: n }),
+    }
 }
 
 // What an image reads as.
@@ -86,10 +125,10 @@ pub fn read(image: &[u8]) -> Read
     requires { ⌜ (16 ≤ length (now image)) × (length (now image) ≤ 2 ^ 24) ⌝ }
     ensures { λ r. ⌜ (answered (now (image .entry)) r ≡ reading (now (image .entry))) × Told (now (image .entry)) r ⌝ }
 {
-    let x = head(image);
+    let x = judge(image);
     match x {
-        Headed::At(h) => read_from(image, h),
-        Headed::Refused(n) => Read::Refused(Refusal { number: n }),
+        Judgement::Good(j) => read_of(j),
+        Judgement::Refused(x) => Read::Refused(x),
     }
 }
 
@@ -99,13 +138,9 @@ pub fn read_settled(image: &[u8]) -> Read
     ensures { λ r. ⌜ (answered (now (image .entry)) r ≡ settled-reading (now (image .entry))) × Told (now (image .entry)) r
         × Quiet (now (image .entry)) r ⌝ }
 {
-    let x = read(image);
-    let Read::Good(s) = x else {
-        return x;
-    };
-    let place = s.place;
-    if settled(image, first_cursor(image, place.head), s) {
-        return x;
+    let x = judge(image);
+    match x {
+        Judgement::Good(j) => if_settled(j),
+        Judgement::Refused(x) => Read::Refused(x),
     }
-    Read::Refused(Refusal { number: 16 })
 }

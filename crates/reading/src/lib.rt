@@ -2,9 +2,11 @@
 // Everything here only looks. Nothing passes over data bytes but the search for the head and the check of the free run.
 pub mod chain;
 pub mod files;
+mod filter;
 pub mod free;
 mod head;
 pub mod image;
+mod names;
 pub mod room;
 mod rules;
 pub mod scan;
@@ -50,11 +52,30 @@ pub enum Found {
     Nothing,
 }
 
-// What one pass over the chain tells: how many records there are; the first, the second and the last of them;
-// whether every FC or F8 record with a name has a good one; whether a START or CLEAN stands behind the second record;
+// What a name sets in the table of bits: these bits of this word.
+pub struct Signature {
+    pub word: usize,
+    pub bits: u64,
+}
+
+// Whether an FC record and whether an F8 record of some name stand in a part of the chain.
+pub struct Earlier {
+    pub committed: bool,
+    pub migrating: bool,
+}
+
+// Whether two FC or two F8 records have one name, and whether an F8 and an FC have one.
+pub struct Repeats {
+    pub doubled: bool,
+    pub superseded: bool,
+}
+
+// What one pass over the chain tells: how many records there are; how many of them are FC or F8 with a name; the first, the second and the
+// last of them; whether every FC or F8 record with a name has a good one; whether a START or CLEAN stands behind the second record;
 // whether the last record is unfinished.
 pub struct Tally {
     pub records: usize,
+    pub files: usize,
     pub first: Spot,
     pub second: Spot,
     pub last: Spot,
@@ -74,6 +95,18 @@ pub struct Survey {
     pub place: Place,
     pub ending: Ending,
     pub tally: Tally,
+}
+
+// What a legal image reads as, and whether mount has no step to do.
+pub struct Judged {
+    pub survey: Survey,
+    pub settled: bool,
+}
+
+// That, or the refusal.
+pub enum Judgement {
+    Good(Judged),
+    Refused(Refusal),
 }
 
 // What an image reads as, or the refusal.

@@ -11,7 +11,9 @@ first-written-requires : tie.Need-first-written-requires
 first-written-requires c κs = search needs
 
 returns : tie.Need-returns
-returns c = let s = c .before .before .args .part .now in ap (λ n. eqb n (length s)) (c .first-written .ensures .0) ∙ run-blank s
+returns c =
+    let s = c .before .before .before .args .part .now in
+    ap (λ n. eqb n (length s)) (c .before .first-written .ensures .place) ∙ run-blank s
 
 pub is-blank-spec : {M : Type 1} → statement M
 is-blank-spec = tie.close (tie.spec first-written-requires returns)

@@ -6,7 +6,7 @@ use Rattle.laws.specs.Flag.{flag}
 use Rattle.spec.specs.Basics.{numbered}
 use Rattle.laws.specs.Length.{good}
 use Rattle.laws.specs.Door.{accepted-good, accepted-bad}
-use Rattle.reading.specs.declared.Read.{Read}
+use Rattle.reading.specs.declared.Judgement.{Judgement}
 use Rattle.lilota.specs.Door.{accepts}
 use borrow.Author.Needs.{needs}
 use Rattle.lilota.proofs.door.accepted.Statement.{statement}
@@ -15,20 +15,20 @@ use Rattle.lilota.proofs.door.accepted.Tie as tie
 good-length-requires : tie.Need-good-length-requires
 good-length-requires c κs = search needs
 
-read-requires : tie.Need-read-requires
-read-requires c κs = let g = good (length (c .before .before .before .args .image .now)) (flag (c .before .good-length .ensures) (c .if1 .taken)) in omega (arith, g .two, g .most)
+judge-requires : tie.Need-judge-requires
+judge-requires c κs = let g = good (length (c .before .before .before .args .image .now)) (flag (c .before .good-length .ensures) (c .if1 .taken)) in omega (arith, g .two, g .most)
 
 returns : tie.Need-returns
 returns c =
     let s = c .before .before .before .before .args .image .now in
-    let e = c .read .ensures .0 ∙ sym (accepted-good s (flag (c .before .before .good-length .ensures) (c .before .if1 .taken))) in
-    (e, accepts s (c .read .result) e (c .read .ensures .1))
+    let e = c .judge .ensures .0 ∙ sym (accepted-good s (flag (c .before .before .good-length .ensures) (c .before .if1 .taken))) in
+    (e, accepts s (c .judge .result) e (c .judge .ensures .1))
 
 returns-2 : tie.Need-returns-2
 returns-2 c =
     let s = c .before .before .before .args .image .now in
     let e = sym (accepted-bad s (flag (c .before .good-length .ensures) (c .if1 .left))) in
-    (e, accepts s (Read.Refused (numbered 22)) e tt)
+    (e, accepts s (Judgement.Refused (numbered 22)) e tt)
 
 pub accepted-spec : {M : Type 1} → statement M
-accepted-spec = tie.close (tie.spec good-length-requires read-requires returns returns-2)
+accepted-spec = tie.close (tie.spec good-length-requires judge-requires returns returns-2)

@@ -1,7 +1,7 @@
 -- What the door refuses is refused; else the call goes on with what was read.
 use mathlib.Core.Path.{sym, ap, _∙_}
 use Rattle.spec.specs.Answers.{mount-of}
-use Rattle.reading.specs.Read.{answered, reading-of}
+use Rattle.reading.specs.Read.{judged-as, reading-of}
 use Rattle.lilota.specs.Carry.{shut, let-in}
 use Rattle.lilota.specs.Calls.{mount-is}
 use borrow.Author.Needs.{needs}
@@ -28,8 +28,8 @@ returns c =
     let g = c .before .before .before .before .before .before .before .before .before .before .args in
     let s = g .image .now in (
       c .before .before .mount-from .ensures .0
-          ∙ let-in s (g .allowance) (reading-of s (c .before .before .before .before .before .x .given .0 .0)) (mount-of s)
-          (sym (ap (answered s) (c .before .before .before .before .before .x .given .1)) ∙ c .before .before .before .before .before .before .before .accepted .ensures .0)
+          ∙ let-in s (g .allowance) (reading-of s (c .before .before .before .before .before .x .given .0 .0 .survey)) (mount-of s)
+          (sym (ap (judged-as s) (c .before .before .before .before .before .x .given .1)) ∙ c .before .before .before .before .before .before .before .accepted .ensures .0)
           ∙ mount-is s (g .allowance),
       c .before .before .mount-from .ensures .1,
     )
@@ -41,7 +41,7 @@ returns-2 : tie.Need-returns-2
 returns-2 c =
     let g = c .before .before .before .before .before .before .args in
     let s = g .image .now in (
-      shut s (g .allowance) _ (mount-of s) (sym (ap (answered s) (c .before .x2 .given .1)) ∙ c .before .before .before .accepted .ensures .0) ∙ mount-is s (g .allowance),
+      shut s (g .allowance) _ (mount-of s) (sym (ap (judged-as s) (c .before .x2 .given .1)) ∙ c .before .before .before .accepted .ensures .0) ∙ mount-is s (g .allowance),
       rw (c .before .x2 .given .1) at (c .before .before .before .accepted .ensures .1),
     )
 

@@ -1,65 +1,38 @@
 -- read_settled: a refusal stays; what was read is settled or refused, and a settled reading has nothing superseded.
-use mathlib.Core.Path.{sym, ap, _∙_}
-use mathlib.Core.Bool.{true, false}
-use Rattle.laws.specs.Flag.{flag}
-use Rattle.reading.specs.RuleLaws.{settled-quiet, settled-none, settled-by}
-use Rattle.reading.specs.Read.{first-cursor, reading-of, answered}
+use mathlib.Core.Path.{refl, sym, ap, _∙_}
+use Rattle.reading.specs.Read.{judged-as}
+use Rattle.reading.specs.RuleLaws.{settled-none, settled-told}
 use borrow.Author.Needs.{needs}
 use Rattle.reading.proofs.image.read_settled.Statement.{statement}
 use Rattle.reading.proofs.image.read_settled.Tie as tie
 
-read-requires : tie.Need-read-requires
-read-requires c κs = search needs
+judge-requires : tie.Need-judge-requires
+judge-requires c κs = search needs
 
 enum-known-x : tie.Need-enum-known-x
 enum-known-x c = search needs
 
-enum-told : tie.Need-enum-told
-enum-told c = search needs
+if-settled-requires : tie.Need-if-settled-requires
+if-settled-requires c κs = search needs
+
+enum-known-x-2 : tie.Need-enum-known-x-2
+enum-known-x-2 c = search needs
 
 returns : tie.Need-returns
 returns c =
-    let s = c .before .before .before .before .args .image .now in
-    rw (c .enum-told .given .1)
-    (settled-none s (c .enum-told .given .0 .0) (sym (ap (answered s) (c .enum-told .given .1)) ∙ c .before .before .read .ensures .0), tt, tt)
-
-first-cursor-requires : tie.Need-first-cursor-requires
-first-cursor-requires c κs = search needs
-
-settled-requires : tie.Need-settled-requires
-settled-requires c κs =
-    let c5 = c .before .before .before .before .before in
-    (rw (c .before .before .before .x .given .1) at (c5 .read .ensures .1), c .first-cursor .ensures)
+    let c2 = c .before .before in let c4 = c2 .before .before in
+    let s = c4 .before .before .args .image .now in
+    let well = rw (c2 .x .given .1) at (c4 .judge .ensures .1) in
+    rw (c .if-settled .ensures)
+    (settled-told s (c2 .x .given .0 .0) _ refl (sym (ap (judged-as s) (c2 .x .given .1)) ∙ c4 .judge .ensures .0) well)
 
 returns-2 : tie.Need-returns-2
 returns-2 c =
-    let c5 = c .before .before .before .before .before in let c7 = c5 .before .before in
-    let s = c7 .before .before .args .image .now in (
-      settled-by s (reading-of s (c5 .x .given .0 .0)) true (sym (ap (answered s) (c5 .x .given .1)) ∙ c7 .read .ensures .0)
-          (flag (c .before .settled .ensures) (c .if1 .taken)),
-      rw (c5 .x .given .1) at (c7 .read .ensures .1),
-      settled-quiet s (reading-of s (c5 .x .given .0 .0)) (flag (c .before .settled .ensures) (c .if1 .taken)),
-    )
-
-returns-3 : tie.Need-returns-3
-returns-3 c =
-    let c5 = c .before .before .before .before .before in let c7 = c5 .before .before in
-    let s = c7 .before .before .args .image .now in (
-      settled-by s (reading-of s (c5 .x .given .0 .0)) false (sym (ap (answered s) (c5 .x .given .1)) ∙ c7 .read .ensures .0)
-          (flag (c .before .settled .ensures) (c .if1 .left)),
-      tt,
-      tt,
-    )
+    let c3 = c .before .before .before in
+    let s = c3 .before .before .args .image .now in
+    (settled-none s (c .before .x2 .given .0 .0) (sym (ap (judged-as s) (c .before .x2 .given .1)) ∙ c3 .judge .ensures .0), tt, tt)
 
 pub read-settled-spec : {M : Type 1} → statement M
 read-settled-spec =
     tie.close
-    (tie.spec
-    read-requires
-    enum-known-x
-    enum-told
-    returns
-    first-cursor-requires
-    settled-requires
-    returns-2
-    returns-3)
+    (tie.spec judge-requires enum-known-x if-settled-requires enum-known-x-2 returns returns-2)

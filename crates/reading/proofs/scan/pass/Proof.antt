@@ -40,7 +40,8 @@ noted-requires : tie.Need-noted-requires Inv-loop μ-loop
 noted-requires c κs =
     let p = c .before .before .before .before .before .before .before .pre in
     let t = passes (c .before .before .before .advance .ensures) (c .before .s .given .1) in
-    (t .whole, omega (arith, c .before .before .before .before .loop .inv .few, p .0 .inside, p .0 .room, p .0 .small), t .onward .pending)
+    let inv = c .before .before .before .before .loop .inv in
+    (t .whole, omega (arith, inv .few, p .0 .inside, p .0 .room, p .0 .small), t .onward .pending, inv .files)
 
 loop-less : tie.Need-loop-less Inv-loop μ-loop
 loop-less c = passes (c .before .before .before .before .advance .ensures) (c .before .before .s .given .1) .onward .less

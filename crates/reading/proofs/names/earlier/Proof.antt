@@ -1,0 +1,77 @@
+-- earlier: what was found among the records passed and what is to be found among those left is the answer of all.
+use Prim.Native.Nat.{_-_}
+use native.Mathlib.Omega.{arith}
+use mathlib.Core.Path.{refl}
+use Rattle.reading.specs.Cursor.{left as left-of}
+use Rattle.reading.specs.Rest.{entry-of}
+use Rattle.reading.specs.Fold.{passes, Folded, fold-start}
+use Rattle.reading.specs.Prefix.{earlier-in, earlier-over, earlier-out, earlier-next}
+use Rattle.reading.proofs.Others.{other-step}
+use borrow.Author.Needs.{needs}
+use Rattle.reading.proofs.names.earlier.Statement.{statement}
+use Rattle.reading.proofs.names.earlier.Tie as tie
+
+abbrev Inv-loop : tie.InvT-loop
+Inv-loop image count e c₀ left₀ f₀ c left f =
+    Folded (earlier-in (entry-of image e)) image c₀ (record { found = f₀; left = left₀ }) c (record { found = f; left = left })
+
+abbrev μ-loop : tie.MeasureT-loop
+μ-loop image count e c₀ left₀ f₀ c left f = left-of c
+
+loop-holds : tie.Need-loop-holds Inv-loop μ-loop
+loop-holds c = fold-start _ _ _ _ (c .before .pre .0)
+
+returns : tie.Need-returns Inv-loop μ-loop
+returns c =
+    let a = c .before .before .before .args in
+    earlier-out (entry-of (a .image .now) (a .e)) (c .before .loop .inv) (c .if1 .taken)
+
+advance-requires : tie.Need-advance-requires Inv-loop μ-loop
+advance-requires c κs = c .before .loop .inv .sound
+
+enum-known-s : tie.Need-enum-known-s Inv-loop μ-loop
+enum-known-s c = c .match .keys1
+
+returns-2 : tie.Need-returns-2 Inv-loop μ-loop
+returns-2 c =
+    let a = c .before .before .before .before .before .args in
+    let adv = c .before .advance in
+    earlier-over (entry-of (a .image .now) (a .e)) (c .before .before .before .loop .inv) (adv .result) (adv .ensures .0)
+    (other-step (adv .result) (c .match .keys2))
+
+earlier-with-requires : tie.Need-earlier-with-requires Inv-loop μ-loop
+earlier-with-requires c κs =
+    let c3 = c .before .before .before in
+    (c3 .before .before .before .before .pre .1, passes (c3 .advance .ensures) (c .before .s .given .1) .whole)
+
+sub-left : tie.Need-sub-left Inv-loop μ-loop
+sub-left c = search needs
+
+loop-less : tie.Need-loop-less Inv-loop μ-loop
+loop-less c =
+    passes (c .before .before .before .before .advance .ensures) (c .before .before .s .given .1) .onward .less
+
+loop-again : tie.Need-loop-again Inv-loop μ-loop
+loop-again c =
+    let c2 = c .before .before in let c4 = c2 .before .before in let c6 = c4 .before .before in
+    let a = c6 .before .before .args in
+    let t = passes (c4 .advance .ensures) (c2 .s .given .1) in
+    let l = c6 .loop in
+    rw (c .earlier-with .ensures)
+    (earlier-next (entry-of (a .image .now) (a .e)) (l .inv) t (l .left - 1) (omega (arith, c4 .before .if1 .left)))
+
+pub earlier-spec : {M : Type 1} → statement M
+earlier-spec =
+    tie.close
+    (tie.spec
+    Inv-loop
+    μ-loop
+    loop-holds
+    returns
+    advance-requires
+    enum-known-s
+    returns-2
+    earlier-with-requires
+    sub-left
+    loop-less
+    loop-again)

@@ -1,0 +1,156 @@
+// Names that stand twice among the FC and F8 records: one pass over the chain, with a table of bits that tells most names apart, so that
+// names need not be compared pair by pair.
+use crate::Cursor;
+use crate::Earlier;
+use crate::Item;
+use crate::Repeats;
+use crate::Signature;
+use crate::Spot;
+use crate::chain::advance;
+use crate::files::is_file;
+use crate::files::named;
+use crate::files::named_as;
+use crate::filter::WORDS;
+use crate::filter::add;
+use crate::filter::signature;
+use spec::Status;
+ghost use mathlib.Core.Path.{_≡_};
+ghost use mathlib.Core.Bool.{_||_};
+ghost use Prim.Native.Nat.{_<_};
+ghost use lib.ListN.{length};
+ghost use Rattle.spec.specs.Files.{named-as};
+ghost use Rattle.reading.specs.Cursor.{Cursor-sound};
+ghost use Rattle.reading.specs.Rest.{rest, entry-of};
+ghost use Rattle.reading.specs.Fold.{Whole};
+ghost use Rattle.reading.specs.Repeats.{repeats-of, earlier-of, repeats-with};
+ghost use Rattle.reading.specs.Prefix.{front, front-and, earlier-with};
+ghost use Rattle.reading.specs.Held.{signed, Carried};
+
+fn either(a: bool, b: bool) -> bool
+    ensures { λ r. ⌜ r ≡ (a || b) ⌝ }
+{
+    if a {
+        return true;
+    }
+    b
+}
+
+// What was found, or x is a record of this status and of e's name.
+fn earlier_or(image: &[u8], found: bool, status: Status, e: Spot, x: Spot) -> bool
+    requires { ⌜ Whole (now image) e × Whole (now image) x ⌝ }
+    ensures { λ r. ⌜ r ≡ (found || named-as (status .byte) (entry-of (now (image .entry)) e) (entry-of (now (image .entry)) x)) ⌝ }
+{
+    if found {
+        return true;
+    }
+    named_as(image, status, e, x)
+}
+
+fn earlier_with(image: &[u8], f: Earlier, e: Spot, x: Spot) -> Earlier
+    requires { ⌜ Whole (now image) e × Whole (now image) x ⌝ }
+    ensures { λ r. ⌜ r ≡ earlier-with f (entry-of (now (image .entry)) e) (entry-of (now (image .entry)) x) ⌝ }
+{
+    let committed = earlier_or(image, f.committed, Status::COMMITTED, e, x);
+    let migrating = earlier_or(image, f.migrating, Status::MIGRATING, e, x);
+    Earlier {
+        committed: committed,
+        migrating: migrating,
+    }
+}
+
+// Which records of e's name stand among the first records of the chain, as many as count says.
+fn earlier(image: &[u8], start: Cursor, count: usize, e: Spot) -> Earlier
+    requires { ⌜ Cursor-sound (now image) start × Whole (now image) e ⌝ }
+    ensures { λ r. ⌜ r ≡ earlier-of (front (now (image .entry)) start count) (entry-of (now (image .entry)) e) ⌝ }
+{
+    let mut c = start;
+    let mut left = count;
+    let mut f = Earlier {
+        committed: false,
+        migrating: false,
+    };
+    loop {
+        if left == 0 {
+            return f;
+        }
+        let s = advance(image, c);
+        let Item::Record(x, next) = s else {
+            return f;
+        };
+        f = earlier_with(image, f, e, x);
+        left -= 1;
+        c = next;
+    }
+}
+
+// With one record more, an FC or an F8, of whose name f stands before it.
+fn repeats_with(n: Repeats, committed: bool, f: Earlier) -> Repeats
+    ensures { λ r. ⌜ r ≡ repeats-with n committed f ⌝ }
+{
+    if committed {
+        return Repeats {
+            doubled: either(n.doubled, f.committed),
+            superseded: either(n.superseded, f.migrating),
+        };
+    }
+    Repeats {
+        doubled: either(n.doubled, f.migrating),
+        superseded: either(n.superseded, f.committed),
+    }
+}
+
+// The bits of the record's name.
+fn signed(image: &[u8], e: Spot) -> Signature
+    requires { ⌜ Whole (now image) e ⌝ }
+    ensures { λ r. ⌜ (r ≡ signed (entry-of (now (image .entry)) e)) × (r .word < 512) ⌝ }
+{
+    let at = e.at + 8;
+    let end = at + e.n;
+    signature(&image[at..end])
+}
+
+// What is carried along, n and the table, with the record e behind those that were passed, as many as count says. Where not all bits of its
+// name are set, no record of its name was passed; else these records tell.
+fn repeats_and(
+    image: &[u8],
+    start: Cursor,
+    count: usize,
+    table: &mut [u64; WORDS],
+    n: Repeats,
+    e: Spot,
+) -> Repeats
+    requires { ⌜ Cursor-sound (now image) start × Whole (now image) e × Carried (front (now image) start count) n (now table) ⌝ }
+    ensures { λ r. ⌜ Carried (front-and (now (image .entry)) start count e) r (now (table .exit)) ⌝ }
+{
+    if !is_file(image, e) {
+        return n;
+    }
+    if add(table, signed(image, e)) {
+        let f = earlier(image, start, count, e);
+        return repeats_with(n, named(image, Status::COMMITTED, e), f);
+    }
+    n
+}
+
+// The names of all records from the cursor on.
+pub fn repeats(image: &[u8], start: Cursor) -> Repeats
+    requires { ⌜ Cursor-sound (now image) start ⌝ }
+    ensures { λ r. ⌜ r ≡ repeats-of (rest (now (image .entry)) start .entries) ⌝ }
+{
+    let mut table = [0u64; WORDS];
+    let mut c = start;
+    let mut count = 0;
+    let mut n = Repeats {
+        doubled: false,
+        superseded: false,
+    };
+    loop {
+        let s = advance(image, c);
+        let Item::Record(e, next) = s else {
+            return n;
+        };
+        n = repeats_and(image, start, count, &mut table, n, e);
+        count += 1;
+        c = next;
+    }
+}
