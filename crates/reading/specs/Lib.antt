@@ -17,6 +17,7 @@ pub mod Repeats
 pub mod Prefix
 pub mod Held
 pub mod FreeLaws
+pub mod HeadSkip
 pub mod Read
 pub mod Stows
 pub mod Room

@@ -21,6 +21,18 @@ pub enum Headed {
     Refused(u32),
 }
 
+// A part of the image, from one address up to another.
+pub struct Stretch {
+    pub from: usize,
+    pub to: usize,
+}
+
+// What the search for the head finds: the head, and a run of FF that it passed over.
+pub struct Sighting {
+    pub head: Headed,
+    pub blank: Stretch,
+}
+
 // A place in the chain: the stretch [at, end) that is left, how many bytes from 0 on the chain may still go on to,
 // whether it has turned, and whether an unfinished record stands before.
 pub struct Cursor {

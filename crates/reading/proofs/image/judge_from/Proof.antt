@@ -19,8 +19,10 @@ repeats-requires c κs =
 
 legal-requires : tie.Need-legal-requires
 legal-requires c κs =
-    let e = c .before .before .survey .ensures in
-    record { surveyed = e .surveyed; at-head = rw (e .head) (c .before .first-cursor .ensures); names = c .repeats .ensures }
+    let e = c .before .before .survey .ensures in (
+      record { surveyed = e .surveyed; at-head = rw (e .head) (c .before .first-cursor .ensures); names = c .repeats .ensures },
+      c .before .before .before .before .pre .3,
+    )
 
 settled-requires : tie.Need-settled-requires
 settled-requires c κs =
