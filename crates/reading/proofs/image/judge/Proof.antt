@@ -15,7 +15,7 @@ enum-known-x c = search needs
 judge-from-requires : tie.Need-judge-from-requires
 judge-from-requires c κs =
     let p = c .before .before .before .before .before .pre in
-    (rw (c .before .x .given .1) at (c .before .before .before .head .ensures .1), p .0, p .1)
+    (rw (c .before .x .given .1) at (c .before .before .before .head .ensures .1), p)
 
 enum-known-x-2 : tie.Need-enum-known-x-2
 enum-known-x-2 c = search needs

@@ -15,7 +15,7 @@ first-cursor-requires c κs = search needs
 repeats-requires : tie.Need-repeats-requires
 repeats-requires c κs =
     let start = c .before .before .before in
-    rw (c .first-cursor .ensures) (first-sound (start .args .image .now) (start .args .h) (start .pre .0) (start .pre .2))
+    rw (c .first-cursor .ensures) (first-sound (start .args .image .now) (start .args .h) (start .pre .0) (start .pre .1 .1))
 
 legal-requires : tie.Need-legal-requires
 legal-requires c κs =
