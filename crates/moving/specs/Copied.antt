@@ -12,6 +12,7 @@ use Rattle.spec.specs.Write.{name-end-steps, header-steps, name-steps, data-ste
 use Rattle.flash.specs.Did.{Did, did-both}
 use Rattle.laws.specs.Steps.{length-shifted, length-bytes, bytes-more, shifted-append, shifted-bytes}
 use Rattle.flash.specs.declared.Meter.{Meter}
+use Rattle.record.specs.Within.{Name-length}
 use Rattle.reading.specs.Rest.{entry-of}
 use Rattle.reading.specs.Fold.{name-length-is, content-length-is}
 use Rattle.writing.specs.Steps.{length-name}
@@ -31,7 +32,7 @@ module _ (s : Image) (a n d : ℕ) (h : a + size-of n d ≤ length s) where
 
 -- in an image of length N such a record at `from`, and as many bytes at `to` that have none in common with it
 abbrev pub Copyable : ℕ → ℕ → ℕ → ℕ → ℕ → Type 0
-Copyable N from to n d = (n ≤ 63) × (from + size-of n d ≤ N) × (to + size-of n d ≤ N) × Apart from to (size-of n d)
+Copyable N from to n d = Name-length n × (from + size-of n d ≤ N) × (to + size-of n d ≤ N) × Apart from to (size-of n d)
 
 -- ---- byte by byte
 

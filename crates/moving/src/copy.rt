@@ -18,7 +18,7 @@ ghost use Rattle.spec.specs.Step.{bytes-at, shifted};
 ghost use Rattle.spec.specs.Record.{size-of, name-of, content-of};
 ghost use Rattle.spec.specs.Write.{name-steps, data-steps, record-steps};
 ghost use Rattle.flash.specs.Did.{Did};
-ghost use Rattle.writing.specs.Counts.{Counts};
+ghost use Rattle.flash.specs.Counts.{Counts};
 ghost use Rattle.writing.specs.Put.{Ready};
 ghost use Rattle.moving.specs.Kept.{Apart};
 ghost use Rattle.moving.specs.Copied.{entry-at, Copyable};

@@ -1,5 +1,5 @@
 -- A head in an image, and what the reading from it on says of its place.
-use Prim.Native.Nat.{ℕ, _+_, _%_, _≤_, _<_, _^_}
+use Prim.Native.Nat.{ℕ, _+_, _%_, _≤_, _<_}
 use native.Mathlib.Omega.{arith}
 use mathlib.Core.Path.{_≡_, refl, sym, ap, subst, _∙_}
 use mathlib.Core.Bool.{Bool, true, false}
@@ -11,6 +11,7 @@ use Rattle.spec.specs.Record.{size-of, Entry}
 use Rattle.spec.specs.Chain.{Reading, reading-from}
 use Rattle.spec.specs.Reading.{limit}
 use Rattle.laws.specs.Head.{Low}
+use Rattle.laws.specs.Length.{In-range}
 use Rattle.reading.specs.declared.Cursor.{Cursor}
 use Rattle.reading.specs.declared.Spot.{Spot}
 use Rattle.reading.specs.declared.Item.{Item}
@@ -30,7 +31,7 @@ pub record Led (s : Image) (h : ℕ) : Type 0 where
   pub low : Low (getD s h 0)
   pub eights : length s % 8 ≡ 0
   pub long : 16 ≤ length s
-  pub small : length s ≤ 2 ^ 24
+  pub small : In-range (length s)
 
 -- what the code finds at a cursor: a record, and the cursor past it
 pub record Taken (s : Image) (c : Cursor) (x : Spot) (next : Cursor) : Type 0 where

@@ -19,11 +19,12 @@ use spec::Place;
 use spec::Refusal;
 use spec::floor;
 ghost use mathlib.Core.Path.{_≡_};
-ghost use Prim.Native.Nat.{_≤_, _^_};
+ghost use Prim.Native.Nat.{_≤_};
 ghost use lib.ListN.{length};
 ghost use Rattle.spec.specs.Chain.{reading-from};
 ghost use Rattle.spec.specs.Reading.{judged, reading};
 ghost use Rattle.spec.specs.Door.{settled-reading};
+ghost use Rattle.laws.specs.Length.{Workable};
 ghost use Rattle.reading.specs.declared.Read.{Read};
 ghost use Rattle.reading.specs.Read.{first-cursor, answered, Told, Quiet, judged-as, Judged-well, read-settled};
 ghost use Rattle.reading.specs.HeadSkip.{Blank-there};
@@ -65,7 +66,7 @@ fn survey_of(n: usize, h: usize, end: Item, t: Tally) -> Survey
 
 // What stands from the head h on, broken or not.
 pub fn survey(image: &[u8], h: usize) -> Survey
-    requires { ⌜ (h ≤ length (now image)) × (16 ≤ length (now image)) × (length (now image) ≤ 2 ^ 24) ⌝ }
+    requires { ⌜ (h ≤ length (now image)) × Workable (now image) ⌝ }
     ensures { λ r. ⌜ Seen (now (image .entry)) h r ⌝ }
 {
     let p = pass(image, first_cursor(image, h));
@@ -94,7 +95,7 @@ fn if_settled(j: Judged) -> Read
 
 // What is read from the head h on, and whether it is settled; blank is a run of FF.
 pub fn judge_from(image: &[u8], h: usize, blank: Stretch) -> Judgement
-    requires { ⌜ (h ≤ length (now image)) × (16 ≤ length (now image)) × (length (now image) ≤ 2 ^ 24) × Blank-there (now image) blank ⌝ }
+    requires { ⌜ (h ≤ length (now image)) × Workable (now image) × Blank-there (now image) blank ⌝ }
     ensures { λ r. ⌜ judged-as (now (image .entry)) r ≡ judged (now (image .entry)) (reading-from (now (image .entry)) h) ⌝ }
     ensures { λ r. ⌜ Judged-well (now (image .entry)) r ⌝ }
 {
@@ -112,7 +113,7 @@ pub fn judge_from(image: &[u8], h: usize, blank: Stretch) -> Judgement
 
 // What an image reads as, and whether it is settled: all that a call asks of it first.
 pub fn judge(image: &[u8]) -> Judgement
-    requires { ⌜ (16 ≤ length (now image)) × (length (now image) ≤ 2 ^ 24) ⌝ }
+    requires { ⌜ Workable (now image) ⌝ }
     ensures { λ r. ⌜ (judged-as (now (image .entry)) r ≡ reading (now (image .entry))) × Judged-well (now (image .entry)) r ⌝ }
 {
     let found = head(image);
@@ -126,7 +127,7 @@ pub fn judge(image: &[u8]) -> Judgement
 
 // What an image reads as.
 pub fn read(image: &[u8]) -> Read
-    requires { ⌜ (16 ≤ length (now image)) × (length (now image) ≤ 2 ^ 24) ⌝ }
+    requires { ⌜ Workable (now image) ⌝ }
     ensures { λ r. ⌜ (answered (now (image .entry)) r ≡ reading (now (image .entry))) × Told (now (image .entry)) r ⌝ }
 {
     let x = judge(image);
@@ -138,7 +139,7 @@ pub fn read(image: &[u8]) -> Read
 
 // What a settled image reads as, with nothing superseded; 16 for one that is not settled.
 pub fn read_settled(image: &[u8]) -> Read
-    requires { ⌜ (16 ≤ length (now image)) × (length (now image) ≤ 2 ^ 24) ⌝ }
+    requires { ⌜ Workable (now image) ⌝ }
     ensures { λ r. ⌜ (answered (now (image .entry)) r ≡ settled-reading (now (image .entry))) × Told (now (image .entry)) r
         × Quiet (now (image .entry)) r ⌝ }
 {

@@ -14,10 +14,11 @@ use spec::Placed;
 use spec::floor;
 ghost use mathlib.Core.Path.{_≡_};
 ghost use mathlib.Core.List.{[], _∷_};
-ghost use Prim.Native.Nat.{_<_, _≤_, _^_, max};
+ghost use Prim.Native.Nat.{_<_, _^_, max};
 ghost use lib.ListN.{length};
 ghost use Rattle.spec.specs.Place.{address, in-head-sector, joining};
 ghost use Rattle.spec.specs.Placed.{placed};
+ghost use Rattle.record.specs.Within.{Name-length};
 ghost use Rattle.reading.specs.Cursor.{Cursor-sound};
 ghost use Rattle.reading.specs.Rest.{rest, entry-of};
 ghost use Rattle.reading.specs.Fold.{Whole};
@@ -136,7 +137,7 @@ fn has_last(place: Place, at: usize, size: usize, stowed: Stowed) -> bool
 // Whether there is room for a file of this name with d data bytes, where nothing is superseded.
 // Content that is longer than the image is refused before its size is computed.
 pub fn has_room(image: &[u8], s: Survey, name: &[u8], d: usize) -> bool
-    requires { ⌜ Unsuperseded (now image) s × (length (now name) ≤ 63) ⌝ }
+    requires { ⌜ Unsuperseded (now image) s × Name-length (length (now name)) ⌝ }
     ensures { λ r. ⌜ r ≡ room-in (reading-of (now (image .entry)) s) (now (name .entry)) d ⌝ }
 {
     let place = s.place;

@@ -12,17 +12,17 @@ use spec::Status;
 use writing::build::void_status;
 use writing::build::write_end;
 use writing::build::write_marker;
-ghost use Prim.Native.Nat.{_+_, _≤_, _<_};
+ghost use Prim.Native.Nat.{_+_, _<_};
 ghost use lib.ListN.{length};
 ghost use Rattle.spec.specs.Step.{shifted};
 ghost use Rattle.spec.specs.Chain.{reading-from};
 ghost use Rattle.spec.specs.Mount.{torn-steps, missing-steps, reserved-steps, void-steps, last-steps, torn-wrap-steps};
 ghost use Rattle.flash.specs.Did.{Did};
+ghost use Rattle.flash.specs.Counts.{Counts, Asked-most};
 ghost use Rattle.reading.specs.Rest.{entry-of, rest};
 ghost use Rattle.reading.specs.Fold.{Whole};
 ghost use Rattle.reading.specs.Read.{Tallied, first-cursor};
 ghost use Rattle.reading.specs.Survey.{Torn-inside};
-ghost use Rattle.writing.specs.Counts.{Counts};
 ghost use Rattle.recovery.specs.Readable.{Readable};
 ghost use Rattle.recovery.specs.Repairs.{steps-3};
 
@@ -53,7 +53,7 @@ fn end_name(image: &mut [u8], at: usize, m: Meter) -> Meter
     requires { ⌜ at < length (now image) ⌝ }
     requires { ⌜ Counts m 2 ⌝ }
     ensures { λ r. ⌜ (let s = now (image .entry) in Did s m (missing-steps s at) (now (image .exit)) r) ⌝ }
-    ensures { λ r. ⌜ r .asked ≤ m .asked + 2 ⌝ }
+    ensures { λ r. ⌜ Asked-most m r 2 ⌝ }
 {
     if image[at] == 0x00 {
         return m;
@@ -66,7 +66,7 @@ fn void_reserved(image: &mut [u8], e: Spot, m: Meter) -> Meter
     requires { ⌜ Whole (now image) e ⌝ }
     requires { ⌜ Counts m 4 ⌝ }
     ensures { λ r. ⌜ (let s = now (image .entry) in Did s m (reserved-steps s (entry-of s e)) (now (image .exit)) r) ⌝ }
-    ensures { λ r. ⌜ r .asked ≤ m .asked + 4 ⌝ }
+    ensures { λ r. ⌜ Asked-most m r 4 ⌝ }
 {
     let a = end_name(image, e.at + (8 + e.n), m);
     void_status(image, e.at, Status::RESERVED, a)
@@ -77,7 +77,7 @@ fn void_record(image: &mut [u8], e: Spot, m: Meter) -> Meter
     requires { ⌜ Whole (now image) e ⌝ }
     requires { ⌜ Counts m 9 ⌝ }
     ensures { λ r. ⌜ (let s = now (image .entry) in Did s m (void-steps s (entry-of s e)) (now (image .exit)) r) ⌝ }
-    ensures { λ r. ⌜ r .asked ≤ m .asked + 9 ⌝ }
+    ensures { λ r. ⌜ Asked-most m r 9 ⌝ }
 {
     let status = image[e.at + 2];
     if status == Status::ERASED.byte {
@@ -95,7 +95,7 @@ fn void_counted(image: &mut [u8], t: Tally, h: usize, m: Meter) -> Meter
     requires { ⌜ Counts m 9 ⌝ }
     ensures { λ r. ⌜ (let s = now (image .entry) in
         Did s m (last-steps s (rest s (first-cursor s h) .entries)) (now (image .exit)) r) ⌝ }
-    ensures { λ r. ⌜ r .asked ≤ m .asked + 9 ⌝ }
+    ensures { λ r. ⌜ Asked-most m r 9 ⌝ }
 {
     if t.records == 0 {
         return m;
@@ -109,7 +109,7 @@ fn finish_wrap(image: &mut [u8], ending: Ending, m: Meter) -> Meter
     requires { ⌜ Torn-inside (length (now image)) ending ⌝ }
     requires { ⌜ Counts m 3 ⌝ }
     ensures { λ r. ⌜ Did (now (image .entry)) m (torn-wrap-steps ending) (now (image .exit)) r ⌝ }
-    ensures { λ r. ⌜ r .asked ≤ m .asked + 3 ⌝ }
+    ensures { λ r. ⌜ Asked-most m r 3 ⌝ }
 {
     match ending {
         Ending::TornWrap(at) => write_marker(image, at, m),
@@ -122,7 +122,7 @@ pub fn void_last(image: &mut [u8], h: usize, m: Meter) -> Meter
     requires { ⌜ Readable (now image) h ⌝ }
     requires { ⌜ Counts m 12 ⌝ }
     ensures { λ r. ⌜ (let s = now (image .entry) in Did s m (steps-3 s (reading-from s h)) (now (image .exit)) r) ⌝ }
-    ensures { λ r. ⌜ r .asked ≤ m .asked + 12 ⌝ }
+    ensures { λ r. ⌜ Asked-most m r 12 ⌝ }
 {
     let s = survey(image, h);
     let t = s.tally;

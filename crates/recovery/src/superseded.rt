@@ -9,15 +9,15 @@ use reading::image::first_cursor;
 use spec::Status;
 use writing::build::set_status;
 ghost use mathlib.Core.List.{[], _∷_};
-ghost use Prim.Native.Nat.{_+_, _*_, _≤_};
+ghost use Prim.Native.Nat.{_*_};
 ghost use lib.ListN.{length};
 ghost use Rattle.spec.specs.Chain.{reading-from};
 ghost use Rattle.spec.specs.Mount.{drop-steps};
 ghost use Rattle.flash.specs.Did.{Did};
+ghost use Rattle.flash.specs.Counts.{Counts, Asked-most};
 ghost use Rattle.reading.specs.Cursor.{Cursor-sound};
 ghost use Rattle.reading.specs.Rest.{entry-of, rest};
 ghost use Rattle.reading.specs.Fold.{Whole};
-ghost use Rattle.writing.specs.Counts.{Counts};
 ghost use Rattle.recovery.specs.Readable.{Readable};
 ghost use Rattle.recovery.specs.Drop.{dropped};
 
@@ -28,7 +28,7 @@ fn drop_one(image: &mut [u8], start: Cursor, e: Spot, m: Meter) -> Meter
     requires { ⌜ Counts m 1 ⌝ }
     ensures { λ r. ⌜ (let s = now (image .entry) in
         Did s m (dropped (rest s start .entries) (entry-of s e ∷ [])) (now (image .exit)) r) ⌝ }
-    ensures { λ r. ⌜ r .asked ≤ m .asked + 1 ⌝ }
+    ensures { λ r. ⌜ Asked-most m r 1 ⌝ }
 {
     if is_superseded(image, start, e) {
         return set_status(image, e.at, Status::DELETED, m);

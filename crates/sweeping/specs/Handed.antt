@@ -12,6 +12,7 @@ use Rattle.spec.specs.Chain.{reading-from}
 use Rattle.spec.specs.Move.{clean-steps, close-steps}
 use Rattle.flash.specs.declared.Meter.{Meter}
 use Rattle.flash.specs.Did.{Did, did-none, did-both, did-all}
+use Rattle.flash.specs.Counts.{Asked-most, Enough}
 use Rattle.reading.specs.declared.Cursor.{Cursor}
 use Rattle.reading.specs.declared.Spot.{Spot}
 use Rattle.reading.specs.declared.Item.{Item}
@@ -32,8 +33,8 @@ use Rattle.laws.specs.Steps.{run-append}
 pub record Handed (s : Image) (h : ℕ) (m : Meter) (t : Image) (r : NewHead) : Type 0 where
   pub did : Did s m (handing s h) t (r .meter)
   pub head : r .head ≡ heading s h
-  pub led : r .meter .asked ≤ r .meter .allowance → Led t (r .head)
-  pub few : r .meter .asked ≤ m .asked + 2 * length s + 4
+  pub led : Enough (r .meter) → Led t (r .head)
+  pub few : Asked-most m (r .meter) (2 * length s + 4)
 
 -- ---- how the code comes to it
 
@@ -90,11 +91,11 @@ module _ {s : Image} {h : ℕ} (w : Led s h) (m : Meter) where
       heading-is = ap (hand-head h) two
 
       pub hand-two : {v z : Image} {a q : Meter} → length v ≡ length s → length z ≡ length s → Did s m (program (y .at) 0xA0 ∷ []) v a
-          → Did v a (close-steps (length v) (entry-of v x) (entry-of v y) 0xA0) z q → q .asked ≤ a .asked + (2 * length v + 3)
+          → Did v a (close-steps (length v) (entry-of v x) (entry-of v y) 0xA0) z q → Asked-most a q (2 * length v + 3)
           → Handed s h m z (record { head = y .at; meter = q })
       hand-two {v} {z} {a} {q} l k g i b =
           let did : Did s m (handing s h) z q = rw handing-is (did-both g (rw (same-close l g) at i)) in
-          let low : q .asked ≤ q .allowance → getD z (y .at) 0 ≡ 0 = λ n.
+          let low : Enough q → getD z (y .at) 0 ≡ 0 = λ n.
           let j : z ≡ run (run s (program (y .at) 0xA0 ∷ [])) (close-steps (length s) (entry-of s x) (entry-of s y) 0xA0) = did-all did n
           ∙ ap (run s) handing-is in
           ap (λ (i : Image). getD i (y .at) 0) j

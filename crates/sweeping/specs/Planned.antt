@@ -17,6 +17,8 @@ use Rattle.spec.specs.Placed.{placed, Place-sound}
 use Rattle.spec.specs.Sweep.{no-room, stuck}
 use Rattle.flash.specs.declared.Meter.{Meter}
 use Rattle.flash.specs.Did.{Did, did-none}
+use Rattle.flash.specs.Counts.{Counts, Asked-most}
+use Rattle.record.specs.Within.{Name-length}
 use Rattle.reading.specs.declared.Cursor.{Cursor}
 use Rattle.reading.specs.declared.Spot.{Spot}
 use Rattle.reading.specs.declared.Item.{Item}
@@ -45,7 +47,7 @@ pub record Copies (s : Image) (p : Place) (n d : ℕ) : Type 0 where
   pub steps : copying s (p .head) ≡ copy-of p (entry-at s (p .head) n d)
   pub ends : HeadEnds p (size-of n d)
   pub taken : fits p (size-of n d) ≡ true
-  pub named : n ≤ 63
+  pub named : Name-length n
 
 -- there is no further move
 pub record No-move (s : Image) (h : ℕ) (full : Bool) : Type 0 where
@@ -163,7 +165,7 @@ module _ {s : Image} {p : Place} (w : Headed s p) where
 -- its steps, how many they are at most, and the byte at the head, which stays
 abbrev Copied : Image → Place → Meter → Image → Meter → Type 0
 Copied s p m t r =
-    Did s m (copying s (p .head)) t r × ((r .asked ≤ m .asked + (length s + 15)) × (getD t (p .head) 0 ≡ getD s (p .head) 0))
+    Did s m (copying s (p .head)) t r × (Asked-most m r (length s + 15) × (getD t (p .head) 0 ≡ getD s (p .head) 0))
 
 module _ {s : Image} {p : Place} (w : Headed s p) where
   pub sound : Place-sound p
@@ -172,8 +174,8 @@ module _ {s : Image} {p : Place} (w : Headed s p) where
       (stands s (p .head) (w .led)) in
       record { inside = omega (arith, w .led .inside, o .whole); short = omega (arith, w .led .small, o .whole) }
 
-  pub ready : {n d : ℕ} (k : ℕ) → Copies s p n d → k ≤ 2 ^ 31 → Ready p (length s) n d k
-  ready k c l =
+  pub ready : {n d : ℕ} (m : Meter) → Copies s p n d → Counts m (2 ^ 31) → Ready p (length s) n d (m .asked)
+  ready m c l =
       let o : Standing (length s) (p .head) (p .head) p = subst (Standing (length s) (p .head) (p .head)) (sym (w .same))
       (stands s (p .head) (w .led)) in
       record {

@@ -1,5 +1,5 @@
 -- Moves one after another, as the sweep makes them.
-use Prim.Native.Nat.{ℕ, suc, _+_, _*_, _≤_, _<_, _^_}
+use Prim.Native.Nat.{ℕ, suc, _+_, _*_, _≤_, _^_}
 use native.Mathlib.Omega.{arith}
 use native.Mathlib.Nat.{add-zero, zero-add}
 use mathlib.Core.Path.{_≡_, sym, ap, ap₂, subst, _∙_}
@@ -10,6 +10,7 @@ use Rattle.spec.specs.Step.{Image}
 use Rattle.spec.specs.Chain.{Reading, reading-from}
 use Rattle.spec.specs.Sweep.{stuck, moves}
 use Rattle.flash.specs.declared.Meter.{Meter}
+use Rattle.flash.specs.Counts.{Asked-most, Enough, Used-up}
 use Rattle.reading.specs.declared.Survey.{Survey}
 use Rattle.reading.specs.Survey.{Seen}
 use Rattle.moving.specs.declared.NewHead.{NewHead}
@@ -24,16 +25,16 @@ use Rattle.sweeping.specs.WholeMove.{whole-move, Left, Move-made}
 pub record Move-cut (s : Image) (h : ℕ) (m : Meter) (t : Image) (q : Meter) : Type 0 where
   pub on : stuck (reading-from s h) ≡ false
   pub begun : Began s m (whole-move s h .steps) t q
-  pub over : q .allowance < q .asked
+  pub over : Used-up q
 
 -- a move that was finished, and the place that it leaves
 pub record Move-done (s : Image) (h : ℕ) (m : Meter) (t : Image) (p : Place) (q : Meter) : Type 0 where
   pub on : stuck (reading-from s h) ≡ false
   pub begun : Began s m (whole-move s h .steps) t q
-  pub within : q .asked ≤ q .allowance
+  pub within : Enough q
   pub left : Left s h t (p .head)
   pub headed : Headed t p
-  pub few : q .asked ≤ m .asked + 2 ^ 26
+  pub few : Asked-most m q (2 ^ 26)
 
 abbrev pub Move-ended : Image → ℕ → Meter → Image → MoveEnd → Type 0
 Move-ended s h m t MoveEnd.Stuck = (stuck (reading-from s h) ≡ true) × (t ≡ s)
@@ -42,7 +43,7 @@ Move-ended s h m t (MoveEnd.Done p q) = Move-done s h m t p q
 
 -- the place that a survey saw of what a finished move left
 pub done-seen : {s t : Image} {h : ℕ} {m : Meter} {r : NewHead} {v : Survey} → stuck (reading-from s h) ≡ false → Move-made s h m t r
-    → r .meter .asked ≤ r .meter .allowance → Seen t (r .head) v
+    → Enough (r .meter) → Seen t (r .head) v
     → Move-done s h m t (v .place) (r .meter)
 done-seen {s} {t} {h} {m} {r} {v} on w l seen =
     let left : Left s h t (v .place .head) = subst (Left s h t) (sym (seen .head)) (w .left l) in

@@ -14,12 +14,12 @@ use spec::CLEAN;
 use spec::Place;
 use spec::Placed;
 ghost use mathlib.Core.Path.{_≡_};
-ghost use Prim.Native.Nat.{_+_, _*_, _≤_, _<_, _^_};
+ghost use Prim.Native.Nat.{_+_, _*_, _^_};
 ghost use lib.ListN.{length, getD};
 ghost use Rattle.spec.specs.Chain.{reading-from};
 ghost use Rattle.spec.specs.Sweep.{no-room};
 ghost use Rattle.flash.specs.Did.{Did};
-ghost use Rattle.writing.specs.Counts.{Counts};
+ghost use Rattle.flash.specs.Counts.{Counts, Asked-most};
 ghost use Rattle.sweeping.specs.Steps.{copying};
 ghost use Rattle.reading.specs.Standing.{Led};
 ghost use Rattle.sweeping.specs.Planned.{Headed, Planned, Going};
@@ -63,9 +63,9 @@ pub fn no_room(image: &[u8], place: Place) -> bool
 fn copy(image: &mut [u8], place: Place, plan: Plan, m: Meter) -> Meter
     requires { ⌜ Headed (now image) place ⌝ }
     requires { ⌜ Going (now image) place plan ⌝ }
-    requires { ⌜ m .asked ≤ 2 ^ 31 ⌝ }
+    requires { ⌜ Counts m (2 ^ 31) ⌝ }
     ensures { λ r. ⌜ (let s = now (image .entry) in Did s m (copying s (place .head)) (now (image .exit)) r) ⌝ }
-    ensures { λ r. ⌜ r .asked ≤ m .asked + (length (now (image .entry)) + 15) ⌝ }
+    ensures { λ r. ⌜ Asked-most m r (length (now (image .entry)) + 15) ⌝ }
     ensures { λ r. ⌜ getD (now (image .exit)) (place .head) 0 ≡ getD (now (image .entry)) (place .head) 0 ⌝ }
 {
     match plan {
@@ -104,7 +104,7 @@ fn hand_over(image: &mut [u8], head: usize, m: Meter) -> NewHead
 pub fn move_head(image: &mut [u8], place: Place, plan: Plan, m: Meter) -> NewHead
     requires { ⌜ Headed (now image) place ⌝ }
     requires { ⌜ Going (now image) place plan ⌝ }
-    requires { ⌜ m .asked ≤ 2 ^ 31 ⌝ }
+    requires { ⌜ Counts m (2 ^ 31) ⌝ }
     ensures { λ r. ⌜ Move-made (now (image .entry)) (place .head) m (now (image .exit)) r ⌝ }
 {
     let a = copy(image, place, plan, m);

@@ -11,6 +11,7 @@ ghost use mathlib.Core.Path.{_≡_};
 ghost use Prim.Native.Nat.{_≤_, _^_, min};
 ghost use Rattle.spec.specs.Chain.{reading-from};
 ghost use Rattle.spec.specs.Sweep.{moves};
+ghost use Rattle.flash.specs.Counts.{Counts};
 ghost use Rattle.sweeping.specs.Moves.{Moves};
 ghost use Rattle.sweeping.specs.Planned.{Headed};
 ghost use Rattle.sweeping.specs.Sweeping.{Move-ended};
@@ -18,7 +19,7 @@ ghost use Rattle.sweeping.specs.Sweeping.{Move-ended};
 // One move, if there is one, and the place that it leaves; a move that was cut leaves none to go on from.
 fn next_move(image: &mut [u8], place: Place, m: Meter) -> MoveEnd
     requires { ⌜ Headed (now image) place ⌝ }
-    requires { ⌜ m .asked ≤ 2 ^ 31 ⌝ }
+    requires { ⌜ Counts m (2 ^ 31) ⌝ }
     ensures { λ r. ⌜ Move-ended (now (image .entry)) (place .head) m (now (image .exit)) r ⌝ }
 {
     let p = plan(image, place);

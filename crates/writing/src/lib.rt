@@ -18,7 +18,7 @@ ghost use Prim.Native.Nat.{_+_, _<_};
 ghost use lib.ListN.{length};
 ghost use Rattle.spec.specs.Write.{migrate-steps, delete-steps, put-steps};
 ghost use Rattle.flash.specs.Did.{Did};
-ghost use Rattle.writing.specs.Counts.{Counts};
+ghost use Rattle.flash.specs.Counts.{Counts};
 ghost use Rattle.writing.specs.Old.{old-entry, Lies};
 ghost use Rattle.writing.specs.Put.{marks, Ready};
 

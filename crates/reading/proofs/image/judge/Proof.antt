@@ -16,7 +16,7 @@ judge-from-requires : tie.Need-judge-from-requires
 judge-from-requires c κs =
     let p = c .before .before .before .before .before .before .pre in
     let e = c .before .before .before .before .head .ensures in
-    (rw (c .before .x .given .1) at (e .1), p .0, p .1, e .2)
+    (rw (c .before .x .given .1) at (e .1), p, e .2)
 
 enum-known-x-2 : tie.Need-enum-known-x-2
 enum-known-x-2 c = search needs

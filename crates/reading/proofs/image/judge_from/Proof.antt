@@ -15,13 +15,13 @@ first-cursor-requires c κs = search needs
 repeats-requires : tie.Need-repeats-requires
 repeats-requires c κs =
     let start = c .before .before .before in
-    rw (c .first-cursor .ensures) (first-sound (start .args .image .now) (start .args .h) (start .pre .0) (start .pre .2))
+    rw (c .first-cursor .ensures) (first-sound (start .args .image .now) (start .args .h) (start .pre .0) (start .pre .1 .1))
 
 legal-requires : tie.Need-legal-requires
 legal-requires c κs =
     let e = c .before .before .survey .ensures in (
       record { surveyed = e .surveyed; at-head = rw (e .head) (c .before .first-cursor .ensures); names = c .repeats .ensures },
-      c .before .before .before .before .pre .3,
+      c .before .before .before .before .pre .2,
     )
 
 settled-requires : tie.Need-settled-requires

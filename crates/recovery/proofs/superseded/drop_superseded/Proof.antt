@@ -28,7 +28,7 @@ loop-holds : tie.Need-loop-holds Inv-loop μ-loop
 loop-holds c =
     let a = c .before .before .before .args in (
       refl,
-      rw (c .first-cursor .ensures) (first-sound (a .image .now) (a .h) (omega arith) (c .before .before .before .pre .0 .2)),
+      rw (c .first-cursor .ensures) (first-sound (a .image .now) (a .h) (omega arith) (c .before .before .before .pre .0 .1 .1)),
       omega arith,
       dropping-start (a .image .now) (c .first-cursor .result) (a .m),
     )
@@ -57,7 +57,7 @@ drop-one-requires c κs =
     let t = passes (c4 .advance .ensures) (c2 .s .given .1) in
     let a = c10 .args in (
       sound-same (a .image .now) (c6 .loop .image) (c7 .first-cursor .result)
-          (rw (c7 .first-cursor .ensures) (first-sound (a .image .now) (a .h) (omega (arith, c10 .pre .0 .0)) (c10 .pre .0 .2))) (c6 .loop .inv .0),
+          (rw (c7 .first-cursor .ensures) (first-sound (a .image .now) (a .h) (omega (arith, c10 .pre .0 .0)) (c10 .pre .0 .1 .1))) (c6 .loop .inv .0),
       (t .whole, omega (arith, c6 .loop .inv .2, ap left (c7 .first-cursor .ensures), t .onward .less, c10 .pre .1)),
     )
 
