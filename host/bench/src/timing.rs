@@ -219,15 +219,15 @@ fn agrees(store: &Library, case: &Case, reply: &Reply, after: &[u8]) {
     assert!(img == after, "{}: another image", case.call.kind());
 }
 
-/// The times; the three take turns, so that they share what else the machine does.
+/// The times; the three take turns, so that they share what else the machine does. Library and C go first by turns.
 pub fn times(library: &Library, baseline: &Library, case: &Case, effort: Effort) -> Times {
     let mut bench = Bench::new(library, baseline, case, effort.cold);
     let mut turns: Vec<(f64, f64, f64)> = Vec::new();
-    for _ in 0..=effort.runs {
-        let ours = bench.run(library, effort.seconds);
-        let plain = bench.run(baseline, effort.seconds);
-        let scan = bench.scan(effort.seconds);
-        turns.push((ours, plain, scan));
+    for turn in 0..=effort.runs {
+        let stores = if turn % 2 == 0 { [library, baseline] } else { [baseline, library] };
+        let mut both = stores.map(|store| bench.run(store, effort.seconds));
+        both.rotate_left(turn % 2);
+        turns.push((both[0], both[1], bench.scan(effort.seconds)));
     }
     // the first turn warmed the buffers up and doesn't count
     let turns = &turns[1..];
