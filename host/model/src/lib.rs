@@ -10,6 +10,7 @@
 //! speed: a call works its step list out on a copy of the image, and the list
 //! is then carried out as far as the allowance goes.
 
+pub mod bits;
 pub mod calls;
 pub mod chain;
 pub mod faults;

@@ -57,6 +57,7 @@ fn of_image(img: &[u8], t: &mut Vec<&'static str>) {
         ("live head", first.live),
         ("wear record", c.records.iter().any(|r| r.status == WEAR)),
         ("reserved after the turn", last.status == RESERVED && last.turned),
+        ("colliding names", bits::colliding(c.live().map(|x| x.name(img))) > 0),
     ];
     add(t, &found);
     t.extend(of_bytes(img, &c));

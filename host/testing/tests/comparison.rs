@@ -13,7 +13,7 @@ fn compared(store: &impl Store, images: u64) -> Tally {
 }
 
 /// Places that random images come to seldom (testing::tags).
-const PLACES: [&str; 21] = [
+const PLACES: [&str; 22] = [
     "T = N",
     "T = 0 after the turn",
     "T = floor(h)",
@@ -35,6 +35,7 @@ const PLACES: [&str; 21] = [
     "put replaces F8",
     "sweep erases several",
     "sweep erases to N",
+    "colliding names",
 ];
 
 #[test]
