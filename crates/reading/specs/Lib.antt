@@ -17,6 +17,7 @@ pub mod Filter
 pub mod Repeats
 pub mod Prefix
 pub mod Held
+pub mod Skip
 pub mod Gather
 pub mod FreeLaws
 pub mod HeadSkip

@@ -12,6 +12,7 @@ mod plain;
 pub mod room;
 mod rules;
 pub mod scan;
+mod skip;
 
 use spec::Ending;
 use spec::Place;
@@ -70,6 +71,12 @@ pub enum Nearby {
 pub enum Found {
     At(Spot),
     Nothing,
+}
+
+// Where a search goes on behind records that were passed over, and how many more it may pass.
+pub struct Skipped {
+    pub cursor: Cursor,
+    pub left: usize,
 }
 
 // What a name sets in the table of bits: these bits of this word.

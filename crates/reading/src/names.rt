@@ -13,6 +13,7 @@ use crate::files::named_as;
 use crate::filter::WORDS;
 use crate::filter::add;
 use crate::filter::signature;
+use crate::skip::skip_other_names;
 use spec::Status;
 ghost use mathlib.Core.Path.{_≡_};
 ghost use mathlib.Core.Bool.{_||_};
@@ -70,15 +71,17 @@ fn earlier(image: &[u8], start: Cursor, count: usize, e: Spot) -> Earlier
         migrating: false,
     };
     loop {
-        if left == 0 {
+        let o = skip_other_names(image, c, e, left);
+        if o.left == 0 {
             return f;
         }
-        let s = advance(image, c);
+        let here = o.cursor;
+        let s = advance(image, here);
         let Item::Record(x, next) = s else {
             return f;
         };
         f = earlier_with(image, f, e, x);
-        left -= 1;
+        left = o.left - 1;
         c = next;
     }
 }
