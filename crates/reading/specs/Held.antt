@@ -15,6 +15,7 @@ use Rattle.reading.specs.Filter.{signature-of, has, with, has-set, has-k
 use Rattle.reading.specs.FileLaws.{is-file}
 use Rattle.reading.specs.Repeats.{repeats-of, earlier-of, repeats-with, repeats-none, repeats-same, repeats-more, repeats-first}
 use Rattle.reading.specs.NamesLaw.{wrong}
+use Rattle.reading.specs.Prefix.{each-last}
 use Rattle.laws.specs.Tests.{and-left, and-right}
 use Rattle.laws.specs.Lists.{same-is}
 
@@ -29,10 +30,6 @@ In table e = is-file e ≡ true → has table (signed e) ≡ true
 pub record Held (table : List ℕ) (es : List Entry) : Type 0 where
   pub size : 512 ≤ length table
   pub each : Each (In table) es
-
-each-last : (P : Entry → Type 0) (es : List Entry) (e : Entry) → Each P es → P e → Each P (es ++ e ∷ [])
-each-last P [] e h q = (q, tt)
-each-last P (x ∷ es) e h q = (h .0, each-last P es e (h .1) q)
 
 held-same : (table : List ℕ) (es : List Entry) (e : Entry) → Held table es → is-file e ≡ false → Held table (es ++ e ∷ [])
 held-same table es e h n = record { size = h .size; each = each-last (In table) es e (h .each) (λ q. wrong (sym n ∙ q)) }
@@ -66,11 +63,11 @@ module _ (st : ℕ) (file : (x : Entry) → named st x ≡ true → is-file x �
         wrong (sym n ∙ ap (λ (b : List ℕ). has table (signature-of b)) s ∙ h .0 (file x f))
     go false q ih = rw (q, any) ih
 
-file-fc : (x : Entry) → named 0xFC x ≡ true → is-file x ≡ true
+pub file-fc : (x : Entry) → named 0xFC x ≡ true → is-file x ≡ true
 unfolding is-file
 file-fc x h = rw h
 
-file-f8 : (x : Entry) → named 0xF8 x ≡ true → is-file x ≡ true
+pub file-f8 : (x : Entry) → named 0xF8 x ≡ true → is-file x ≡ true
 unfolding is-file
 file-f8 x h = go (named 0xFC x) where
   go : (t : Bool) → (t || named 0xF8 x) ≡ true

@@ -4,13 +4,14 @@ use crate::Headed;
 use crate::Item;
 use crate::Judged;
 use crate::Judgement;
+use crate::Overview;
 use crate::Read;
 use crate::Stretch;
 use crate::Survey;
 use crate::Tally;
 use crate::chain::start_at;
+use crate::gather::gather;
 use crate::head::head;
-use crate::names::repeats;
 use crate::rules::legal;
 use crate::rules::settled;
 use crate::scan::pass;
@@ -27,6 +28,8 @@ ghost use Rattle.spec.specs.Door.{settled-reading};
 ghost use Rattle.laws.specs.Length.{Workable};
 ghost use Rattle.reading.specs.declared.Read.{Read};
 ghost use Rattle.reading.specs.Read.{first-cursor, answered, Told, Quiet, judged-as, Judged-well, read-settled};
+ghost use Rattle.reading.specs.Rest.{rest};
+ghost use Rattle.reading.specs.Repeats.{repeats-of};
 ghost use Rattle.reading.specs.HeadSkip.{Blank-there};
 ghost use Rattle.reading.specs.Survey.{Seen, told, survey-of};
 
@@ -75,6 +78,24 @@ pub fn survey(image: &[u8], h: usize) -> Survey
     survey_of(image.len(), h, end, t)
 }
 
+// The same, with what the names tell.
+fn overview(image: &[u8], h: usize) -> Overview
+    requires { ⌜ (h ≤ length (now image)) × Workable (now image) ⌝ }
+    ensures { λ r. ⌜ Seen (now (image .entry)) h (r .survey)
+        × (r .repeats ≡ repeats-of (rest (now (image .entry)) (first-cursor (now (image .entry)) h) .entries)) ⌝ }
+{
+    let all = gather(image, first_cursor(image, h));
+    let n = all.repeats;
+    let p = all.pass;
+    let end = p.end;
+    let t = p.tally;
+    let s = survey_of(image.len(), h, end, t);
+    Overview {
+        survey: s,
+        repeats: n,
+    }
+}
+
 fn read_of(j: Judged) -> Read
     ensures { λ r. ⌜ r ≡ Read.Good (j .survey) ⌝ }
 {
@@ -99,9 +120,10 @@ pub fn judge_from(image: &[u8], h: usize, blank: Stretch) -> Judgement
     ensures { λ r. ⌜ judged-as (now (image .entry)) r ≡ judged (now (image .entry)) (reading-from (now (image .entry)) h) ⌝ }
     ensures { λ r. ⌜ Judged-well (now (image .entry)) r ⌝ }
 {
-    let s = survey(image, h);
+    let o = overview(image, h);
+    let s = o.survey;
+    let n = o.repeats;
     let start = first_cursor(image, h);
-    let n = repeats(image, start);
     if legal(image, start, s, n, blank) {
         return Judgement::Good(Judged {
             survey: s,

@@ -4,12 +4,15 @@ pub mod chain;
 pub mod files;
 mod filter;
 pub mod free;
+mod gather;
 mod head;
 pub mod image;
 mod names;
+mod plain;
 pub mod room;
 mod rules;
 pub mod scan;
+mod skip;
 
 use spec::Ending;
 use spec::Place;
@@ -58,10 +61,22 @@ pub enum Item {
     Broken(usize, bool),
 }
 
+// A plain record at a cursor, with the cursor past it; or anything else.
+pub enum Nearby {
+    Record(Spot, Cursor),
+    Other,
+}
+
 // What is looked for among the files.
 pub enum Found {
     At(Spot),
     Nothing,
+}
+
+// Where a search goes on behind records that were passed over, and how many more it may pass.
+pub struct Skipped {
+    pub cursor: Cursor,
+    pub left: usize,
 }
 
 // What a name sets in the table of bits: these bits of this word.
@@ -102,11 +117,30 @@ pub struct Pass {
     pub end: Item,
 }
 
+// What is gathered at a cursor: the tally of the records before it, and what their names tell.
+pub struct Gathered {
+    pub cursor: Cursor,
+    pub tally: Tally,
+    pub repeats: Repeats,
+}
+
+// The same of a whole chain, and how the chain ends.
+pub struct FullPass {
+    pub pass: Pass,
+    pub repeats: Repeats,
+}
+
 // All that the calls go by: head, tail and turn; how the chain ends; the tally.
 pub struct Survey {
     pub place: Place,
     pub ending: Ending,
     pub tally: Tally,
+}
+
+// That, and what the names tell: what a judgement goes by.
+pub struct Overview {
+    pub survey: Survey,
+    pub repeats: Repeats,
 }
 
 // What a legal image reads as, and whether mount has no step to do.
