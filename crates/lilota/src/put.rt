@@ -45,7 +45,10 @@ fn old_file(image: &[u8], start: Cursor, name: &[u8]) -> Old
         return Old::None;
     };
     let a = e.at + 2;
-    Old::At(e.at, Status::from_byte(image[a]))
+    Old::At {
+        at: e.at,
+        status: Status::from_byte(image[a]),
+    }
 }
 
 // Put's steps, where there is room.

@@ -81,11 +81,14 @@ pub fn copy_head(image: &mut [u8], place: Place, n: usize, d: usize, m: Meter) -
     requires { ⌜ HeadEnds place (size-of n d) ⌝ }
     ensures { λ r. ⌜ (let s = now (image .entry) in Did s m (copy-of place (entry-at s (place .head) n d)) (now (image .exit)) r) ⌝ }
 {
-    let Placed::At(at, marker, _) = place.after(size(n, d)) else {
+    let Placed::At { at, marker, .. } = place.after(size(n, d)) else {
         return m;
     };
     let head = place.head;
-    let old = Old::At(head, Status::from_byte(image[head + 2]));
+    let old = Old::At {
+        at: head,
+        status: Status::from_byte(image[head + 2]),
+    };
     let a = prepare(image, old, place.tail, marker, m);
     let b = copy_record(image, head, at, n, d, a);
     delete(image, old, b)

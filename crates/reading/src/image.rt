@@ -62,7 +62,7 @@ fn survey_of(n: usize, h: usize, end: Item, t: Tally) -> Survey
     match end {
         Item::Record(_, _) => told(n, h, 0, false, Ending::Broken, t),
         Item::End(tail, turned) => told(n, h, tail, turned, Ending::Tail, t),
-        Item::TornWrap(at) => told(n, h, 0, true, Ending::TornWrap(at), t),
+        Item::TornWrap(at) => told(n, h, 0, true, Ending::TornWrap { at: at }, t),
         Item::Broken(tail, turned) => told(n, h, tail, turned, Ending::Broken, t),
     }
 }

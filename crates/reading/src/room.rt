@@ -36,7 +36,7 @@ struct Stowed {
 fn stow(placed: Placed, size: usize) -> Placed
     ensures { λ r. ⌜ r ≡ stow placed size ⌝ }
 {
-    let Placed::At(_, _, place) = placed else {
+    let Placed::At { place, .. } = placed else {
         return Placed::Full;
     };
     place.after(size)
@@ -128,7 +128,7 @@ fn has_last(place: Place, at: usize, size: usize, stowed: Stowed) -> bool
     let placed = stowed.placed;
     let largest = stowed.largest;
     let new = stow_new(place, at, size, placed);
-    let Placed::At(_, _, _) = stow(stow(new, largest), largest) else {
+    let Placed::At { .. } = stow(stow(new, largest), largest) else {
         return false;
     };
     true
@@ -146,7 +146,7 @@ pub fn has_room(image: &[u8], s: Survey, name: &[u8], d: usize) -> bool
     }
     let new = size(name.len(), d);
     let first = place.after(new);
-    let Placed::At(at, _, _) = first else {
+    let Placed::At { at, .. } = first else {
         return false;
     };
     let alone = Stowed {

@@ -112,7 +112,7 @@ fn finish_wrap(image: &mut [u8], ending: Ending, m: Meter) -> Meter
     ensures { λ r. ⌜ Asked-most m r 3 ⌝ }
 {
     match ending {
-        Ending::TornWrap(at) => write_marker(image, at, m),
+        Ending::TornWrap { at } => write_marker(image, at, m),
         _ => m,
     }
 }

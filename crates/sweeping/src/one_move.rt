@@ -33,16 +33,16 @@ pub fn plan(image: &[u8], place: Place) -> Plan
 {
     let start = first_cursor(image, place.head);
     let Item::Record(x, past) = advance(image, start) else {
-        return Plan::Stop(false);
+        return Plan::Stop { full: false };
     };
     if is_live(image, start, x) {
-        let Placed::At(_, _, _) = place.after(size(x.n, x.d)) else {
-            return Plan::Stop(true);
+        let Placed::At { .. } = place.after(size(x.n, x.d)) else {
+            return Plan::Stop { full: true };
         };
-        return Plan::Copy(x.n, x.d);
+        return Plan::Copy { n: x.n, d: x.d };
     }
     let Item::Record(_, _) = advance(image, past) else {
-        return Plan::Stop(false);
+        return Plan::Stop { full: false };
     };
     Plan::Leave
 }
@@ -54,7 +54,7 @@ pub fn no_room(image: &[u8], place: Place) -> bool
 {
     let p = plan(image, place);
     match p {
-        Plan::Stop(full) => full,
+        Plan::Stop { full } => full,
         _ => false,
     }
 }
@@ -69,7 +69,7 @@ fn copy(image: &mut [u8], place: Place, plan: Plan, m: Meter) -> Meter
     ensures { λ r. ⌜ getD (now (image .exit)) (place .head) 0 ≡ getD (now (image .entry)) (place .head) 0 ⌝ }
 {
     match plan {
-        Plan::Copy(n, d) => copy_head(image, place, n, d, m),
+        Plan::Copy { n, d } => copy_head(image, place, n, d, m),
         _ => m,
     }
 }

@@ -23,17 +23,20 @@ fn next_move(image: &mut [u8], place: Place, m: Meter) -> MoveEnd
     ensures { λ r. ⌜ Move-ended (now (image .entry)) (place .head) m (now (image .exit)) r ⌝ }
 {
     let p = plan(image, place);
-    if let Plan::Stop(_) = p {
+    if let Plan::Stop { .. } = p {
         return MoveEnd::Stuck;
     }
     let r = move_head(image, place, p, m);
     let q = r.meter;
     if q.allowance < q.asked {
-        return MoveEnd::Cut(q);
+        return MoveEnd::Cut { meter: q };
     }
     let s = survey(image, r.head);
     let next = s.place;
-    MoveEnd::Done(next, q)
+    MoveEnd::Done {
+        place: next,
+        meter: q,
+    }
 }
 
 // The moves of a sweep at most.
@@ -65,10 +68,13 @@ pub fn sweep(image: &mut [u8], place: Place, records: usize, m: Meter) -> Swept
             MoveEnd::Stuck => {
                 return Swept { moves: n, meter: q };
             }
-            MoveEnd::Cut(r) => {
+            MoveEnd::Cut { meter: r } => {
                 return Swept { moves: n, meter: r };
             }
-            MoveEnd::Done(next, r) => {
+            MoveEnd::Done {
+                place: next,
+                meter: r,
+            } => {
                 p = next;
                 q = r;
             }

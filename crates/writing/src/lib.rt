@@ -25,7 +25,7 @@ ghost use Rattle.writing.specs.Put.{marks, Ready};
 // The file that a put replaces: its address and its status, or none.
 pub enum Old {
     None,
-    At(usize, Status),
+    At { at: usize, status: Status },
 }
 
 // What goes before the new record: the old file's status FC to F8, if it is FC; then the marker, if one is needed.
@@ -48,7 +48,7 @@ fn migrate(image: &mut [u8], old: Old, m: Meter) -> Meter
     requires { ⌜ Counts m 1 ⌝ }
     ensures { λ r. ⌜ Did (now (image .entry)) m (migrate-steps (old-entry old)) (now (image .exit)) r ⌝ }
 {
-    let Old::At(at, status) = old else {
+    let Old::At { at, status } = old else {
         return m;
     };
     if status.byte == Status::COMMITTED.byte {
@@ -63,7 +63,7 @@ pub fn delete(image: &mut [u8], old: Old, m: Meter) -> Meter
     requires { ⌜ Counts m 1 ⌝ }
     ensures { λ r. ⌜ Did (now (image .entry)) m (delete-steps (old-entry old)) (now (image .exit)) r ⌝ }
 {
-    let Old::At(at, _) = old else {
+    let Old::At { at, .. } = old else {
         return m;
     };
     set_status(image, at, Status::DELETED, m)
@@ -83,7 +83,7 @@ pub fn write_file(
     ensures { λ r. ⌜ (let steps = put-steps place (old-entry old) (now (name .entry)) (now (content .entry)) in
         Did (now (image .entry)) m steps (now (image .exit)) r) ⌝ }
 {
-    let Placed::At(at, marker, _) = place.after(size(name.len(), content.len())) else {
+    let Placed::At { at, marker, .. } = place.after(size(name.len(), content.len())) else {
         return m;
     };
     let a = prepare(image, old, place.tail, marker, m);

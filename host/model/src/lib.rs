@@ -27,7 +27,7 @@ pub mod sweep;
 pub mod torn;
 pub mod write;
 
-pub use calls::{format, get, list, mount, put, remove, sweep, Reply};
+pub use calls::{format, get, list, mount, put, remove, sweep, Extent, Reply, Report};
 pub use chain::{read_chain, Chain, Record};
 pub use flash::{carry_out, cut_inside, Step};
 pub use geometry::*;

@@ -177,8 +177,8 @@ pub fn of(img: &[u8], call: &Call, reply: &Reply, after: &[u8]) -> Vec<&'static 
             let sectors = img.chunks(SECTOR as usize).zip(after.chunks(SECTOR as usize));
             let erased: Vec<bool> = sectors.map(|(before, after)| !all_ff(before) && all_ff(after)).collect();
             let found = [
-                ("several moves", reply.first >= 2),
-                ("five moves", reply.first == 5),
+                ("several moves", reply.moves >= 2),
+                ("five moves", reply.moves == 5),
                 ("sweep erases", erased.contains(&true)),
                 ("sweep erases several", erased.iter().filter(|&&e| e).count() >= 2),
                 ("sweep erases to N", erased.last() == Some(&true)),

@@ -75,7 +75,7 @@ fn wrong_step_count(_: &Call, reply: &mut Reply, _: &mut [u8]) {
 }
 
 fn number_after_refusal(_: &Call, reply: &mut Reply, _: &mut [u8]) {
-    reply.second = if reply.answer == 6 { 1 } else { reply.second };
+    reply.report.tail += (reply.answer == 6) as u64;
 }
 
 fn byte_after_refusal(_: &Call, reply: &mut Reply, img: &mut [u8]) {
@@ -86,8 +86,8 @@ fn byte_after_refusal(_: &Call, reply: &mut Reply, img: &mut [u8]) {
 
 fn tail_of_the_image_before(call: &Call, reply: &mut Reply, img: &mut [u8]) {
     // N where the chain has turned at N (decision 6)
-    if matches!(call, Call::Mount(_)) && reply.answer == 0 && reply.second == 0 {
-        reply.second = img.len() as u64;
+    if matches!(call, Call::Mount(_)) && reply.answer == 0 && reply.report.tail == 0 {
+        reply.report.tail = img.len() as u64;
     }
 }
 
