@@ -79,10 +79,12 @@ pub struct Skipped {
     pub left: usize,
 }
 
-// What a name sets in the table of bits: these bits of this word.
+// What a name sets in the table of bits: these bits of one word, and more of another.
 pub struct Signature {
     pub word: usize,
     pub bits: u64,
+    pub other: usize,
+    pub more: u64,
 }
 
 // Whether an FC record and whether an F8 record of some name stand in a part of the chain.

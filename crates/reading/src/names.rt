@@ -25,6 +25,7 @@ ghost use Rattle.reading.specs.Rest.{entry-of};
 ghost use Rattle.reading.specs.Fold.{Whole};
 ghost use Rattle.reading.specs.Repeats.{earlier-of, repeats-with};
 ghost use Rattle.reading.specs.Prefix.{front, front-and, earlier-with};
+ghost use Rattle.reading.specs.Filter.{In-table};
 ghost use Rattle.reading.specs.Held.{signed, Carried};
 
 fn either(a: bool, b: bool) -> bool
@@ -105,7 +106,7 @@ fn repeats_with(n: Repeats, committed: bool, f: Earlier) -> Repeats
 // The bits of the record's name.
 fn signed(image: &[u8], e: Spot) -> Signature
     requires { ⌜ Whole (now image) e ⌝ }
-    ensures { λ r. ⌜ (r ≡ signed (entry-of (now (image .entry)) e)) × (r .word < 512) ⌝ }
+    ensures { λ r. ⌜ (r ≡ signed (entry-of (now (image .entry)) e)) × In-table r ⌝ }
 {
     let at = e.at + 8;
     let end = at + e.n;
