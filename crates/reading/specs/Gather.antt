@@ -17,6 +17,7 @@ use Rattle.reading.specs.Fold.{Passes, Not-record}
 use Rattle.reading.specs.Tally.{none-yet, name-fine, count-with, noted, noted-plain, noted-plain-is, noted-records}
 use Rattle.reading.specs.Tally.{Passing, passing-start, passing-step}
 use Rattle.reading.specs.TallyLaws.{and-true}
+use Rattle.spec.specs.Record.{name-of, name-ok}
 use Rattle.spec.specs.Reading.{marked}
 use Rattle.reading.specs.FileLaws.{is-file}
 use Rattle.reading.specs.Repeats.{repeats-of}
@@ -72,13 +73,16 @@ module _ {image : List ℕ} {start : Cursor} where
     more q = rw q (omega arith)
 
     same : {fine : Bool} {files : ℕ} → u ≡ noted-plain t e files fine (c .pending)
-        → files ≡ count-with (t .files) (is-file (entry-of image e)) → fine ≡ (t .fine && name-fine (entry-of image e)) → u ≡ noted t (entry-of image e)
-    same {fine} {files} q f g = q ∙ noted-plain-is t e files fine (c .pending) (w .passes .whole) two plain f g (w .passes .onward .pending)
+        → files ≡ count-with (t .files) (is-file (entry-of image e))
+        → fine ≡ (t .fine && name-fine (entry-of image e)) → u ≡ noted t (entry-of image e)
+    same {fine} {files} q f g =
+        q ∙ noted-plain-is t e files fine (c .pending) (w .passes .whole) two plain f g (w .passes .onward .pending)
 
-    pub gathering-file : {fine : Bool} {m : Repeats} {after : List ℕ} → is-file (entry-of image e) ≡ true
-        → u ≡ noted-plain t e (t .files + 1) fine (c .pending) → fine ≡ (t .fine && name-fine (entry-of image e))
+    pub gathering-file : {ok fine : Bool} {m : Repeats} {after : List ℕ} → is-file (entry-of image e) ≡ true
+        → u ≡ noted-plain t e (t .files + 1) fine (c .pending) → fine ≡ (t .fine && ok) → ok ≡ name-ok (name-of (entry-of image e))
         → Carried (front-and image start (t .records) e) m after → Gathering image start c u m after × (2 ≤ u .records)
-    gathering-file y q g h = (gathering-next w (same q (rw y) g) h, more q)
+    unfolding name-fine
+    gathering-file y q g o h = (gathering-next w (same q (rw y) (rw (name-fine, y, ← o) g)) h, more q)
 
     pub gathering-dead : is-file (entry-of image e) ≡ false → u ≡ noted-plain t e (t .files) (t .fine) (c .pending)
         → Gathering image start c u n table × (2 ≤ u .records)

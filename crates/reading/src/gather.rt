@@ -11,11 +11,11 @@ use crate::Spot;
 use crate::chain::advance;
 use crate::files::is_file;
 use crate::filter::WORDS;
+use crate::marks::both;
+use crate::marks::marks_of;
 use crate::names::repeats_and;
 use crate::names::repeats_signed;
-use crate::names::signed;
 use crate::plain::near;
-use crate::scan::fine_with;
 use crate::scan::none_yet;
 use crate::scan::noted;
 use crate::scan::noted_plain;
@@ -67,9 +67,10 @@ fn gather_file(
 {
     let t = g.tally;
     let n = g.repeats;
-    let m = repeats_signed(image, start, t.records, table, n, e, signed(image, e));
-    let fine = fine_with(image, t.fine, e);
-    let u = noted_plain(t, e, t.files + 1, fine, next.pending);
+    let name = marks_of(image, e);
+    let s = name.signature;
+    let m = repeats_signed(image, start, t.records, table, n, e, s);
+    let u = noted_plain(t, e, t.files + 1, both(t.fine, name.fine), next.pending);
     Gathered {
         cursor: next,
         tally: u,

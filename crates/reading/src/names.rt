@@ -104,7 +104,7 @@ fn repeats_with(n: Repeats, committed: bool, f: Earlier) -> Repeats
 }
 
 // The bits of the record's name.
-pub fn signed(image: &[u8], e: Spot) -> Signature
+fn signed(image: &[u8], e: Spot) -> Signature
     requires { ⌜ Whole (now image) e ⌝ }
     ensures { λ r. ⌜ (r ≡ signed (entry-of (now (image .entry)) e)) × In-table r ⌝ }
 {
