@@ -28,7 +28,7 @@ ghost use Rattle.reading.specs.Tally.{none-yet, passed, Spots, End-insid
 ghost use Rattle.reading.specs.Repeats.{repeats-of};
 ghost use Rattle.reading.specs.Gather.{nothing-yet, Gathering, Noting, Plain-file};
 
-// With one record more, which stands before next.
+// What is gathered, with one record more, which stands before next.
 fn gather_one(
     image: &[u8],
     start: Cursor,
@@ -78,7 +78,7 @@ fn gather_file(
     }
 }
 
-// With all plain records from g's cursor on.
+// With all plain records from the cursor on.
 fn gather_plain(image: &[u8], start: Cursor, table: &mut [u64; WORDS], first: Gathered) -> Gathered
     requires { ⌜ Cursor-sound (now image) start
         × Gathering (now image) start (first .cursor) (first .tally) (first .repeats) (now table) × (2 ≤ first .tally .records) ⌝ }

@@ -113,7 +113,8 @@ fn signed(image: &[u8], e: Spot) -> Signature
     signature(&image[at..end])
 }
 
-// What is carried along, n, with the record e behind those that were passed, as many as count says: these records tell.
+// What is carried along, n, with the record e behind those that were passed, as many as count says: these records tell. It is seldom
+// called, and two functions call it, so that the compiler keeps it out of the loop over plain records.
 fn repeats_by(image: &[u8], start: Cursor, count: usize, n: Repeats, e: Spot) -> Repeats
     requires { ⌜ Cursor-sound (now image) start × Whole (now image) e ⌝ }
     ensures { λ r. ⌜ r ≡ repeats-with n (named 0xFC (entry-of (now (image .entry)) e))
