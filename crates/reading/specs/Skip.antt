@@ -113,5 +113,6 @@ earlier-beyond e {image} {start} {c} {d} {s₀} {f} {most} {m} w s =
       sound = s .gone .sound;
       same =
           w .same
-          ∙ ap₂ (λ (a b : Bool). two (f .committed || a) (f .migrating || b)) (named-beyond 0xFC file-fc e s) (named-beyond 0xF8 file-f8 e s);
+          ∙ ap₂ (λ (a b : Bool). two (f .committed || a) (f .migrating || b)) (named-beyond 0xFC file-fc e s)
+          (named-beyond 0xF8 file-f8 e s);
     }
