@@ -6,6 +6,7 @@ pub mod Rest
 pub mod Bridge
 pub mod Ends
 pub mod Fold
+pub mod Plain
 pub mod FileLaws
 pub mod Seek
 pub mod Tally
@@ -16,7 +17,10 @@ pub mod Filter
 pub mod Repeats
 pub mod Prefix
 pub mod Held
+pub mod Skip
+pub mod Gather
 pub mod FreeLaws
+pub mod HeadSkip
 pub mod Read
 pub mod Stows
 pub mod Room

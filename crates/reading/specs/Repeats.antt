@@ -60,7 +60,7 @@ named-last st es x e = any-last (named-as st x) es e
 same-turn : (a b : List ℕ) → same a b ≡ true → same b a ≡ true
 same-turn a b h = let q : a ≡ b = same-is a b h in rw q (rw q at h)
 
-same-swap : (a b : List ℕ) → same a b ≡ same b a
+pub same-swap : (a b : List ℕ) → same a b ≡ same b a
 same-swap a b = iff (same a b) (same b a) (same-turn a b) (same-turn b a)
 
 doubled-or : (st : ℕ) (x : Entry) (es : List Entry) (t : Bool) → (named st x && has-named st es x) ≡ t

@@ -7,16 +7,19 @@ use lib.ListN.{length}
 use Rattle.spec.specs.declared.Ending.{Ending}
 use Rattle.spec.specs.Step.{Image}
 use Rattle.spec.specs.Chain.{reading-from}
+use Rattle.reading.specs.declared.Cursor.{Cursor}
 use Rattle.reading.specs.declared.Item.{Item}
 use Rattle.reading.specs.declared.Tally.{Tally}
 use Rattle.reading.specs.declared.Pass.{Pass}
 use Rattle.reading.specs.declared.Survey.{Survey}
+use Rattle.reading.specs.declared.Repeats.{Repeats}
 use Rattle.reading.specs.Cursor.{Cursor-sound}
 use Rattle.reading.specs.Rest.{rest}
 use Rattle.reading.specs.Bridge.{shown, reading-is}
 use Rattle.reading.specs.Ends.{Closes, rest-closes}
 use Rattle.reading.specs.Tally.{none-yet, passed, Spots, End-inside}
-use Rattle.reading.specs.Read.{first-cursor, reading-of, Surveyed}
+use Rattle.reading.specs.Repeats.{repeats-of}
+use Rattle.reading.specs.Read.{first-cursor, reading-of, Surveyed, Known}
 
 -- a torn wrap has all its eight bytes
 abbrev pub Torn-inside : ℕ → Ending → Type 0
@@ -79,3 +82,14 @@ module _ (image : Image) (h : ℕ) (l : h ≤ length image) (small : length imag
 
   pub seen : Seen image h (survey-of (length image) h (p .end) (p .tally))
   seen = by-end (p .end) refl inside (rw q (rest-closes image (first-cursor image h)))
+
+-- ---- what a judgement goes by
+
+pub known : (image : Image) (h : ℕ) {s : Survey} {n : Repeats} {start : Cursor}
+    → Seen image h s × (n ≡ repeats-of (rest image (first-cursor image h) .entries)) → start ≡ first-cursor image h → Known image start s n
+known image h {s} {n} {start} e q =
+    record {
+      surveyed = e .0 .surveyed;
+      at-head = q ∙ ap (first-cursor image) (sym (e .0 .head));
+      names = e .1 ∙ ap (λ (c : Cursor). repeats-of (rest image c .entries)) (sym q);
+    }

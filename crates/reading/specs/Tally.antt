@@ -82,7 +82,7 @@ pub record Passing (image : List ℕ) (start c : Cursor) (t : Tally) : Type 0 wh
   pub few : t .records + left c ≤ left start
   pub files : t .files ≤ t .records
 
-noted-records : (t : Tally) (e : Entry) → noted t e .records ≡ t .records + 1
+pub noted-records : (t : Tally) (e : Entry) → noted t e .records ≡ t .records + 1
 unfolding noted
 noted-records t e = refl
 

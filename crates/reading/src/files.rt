@@ -4,6 +4,7 @@ use crate::Found;
 use crate::Item;
 use crate::Spot;
 use crate::chain::advance;
+use crate::skip::skip_others;
 use spec::Status;
 ghost use mathlib.Core.Path.{_≡_};
 ghost use lib.ListN.{length, getElem?};
@@ -157,7 +158,9 @@ pub fn file_named(image: &[u8], start: Cursor, name: &[u8]) -> Found
 {
     let mut c = start;
     loop {
-        let s = advance(image, c);
+        let o = skip_others(image, c, name, image.len());
+        let here = o.cursor;
+        let s = advance(image, here);
         let Item::Record(e, next) = s else {
             return Found::Nothing;
         };

@@ -4,12 +4,14 @@ use crate::Headed;
 use crate::Item;
 use crate::Judged;
 use crate::Judgement;
+use crate::Overview;
 use crate::Read;
+use crate::Stretch;
 use crate::Survey;
 use crate::Tally;
 use crate::chain::start_at;
+use crate::gather::gather;
 use crate::head::head;
-use crate::names::repeats;
 use crate::rules::legal;
 use crate::rules::settled;
 use crate::scan::pass;
@@ -25,6 +27,9 @@ ghost use Rattle.spec.specs.Reading.{judged, reading};
 ghost use Rattle.spec.specs.Door.{settled-reading};
 ghost use Rattle.reading.specs.declared.Read.{Read};
 ghost use Rattle.reading.specs.Read.{first-cursor, answered, Told, Quiet, judged-as, Judged-well, read-settled};
+ghost use Rattle.reading.specs.Rest.{rest};
+ghost use Rattle.reading.specs.Repeats.{repeats-of};
+ghost use Rattle.reading.specs.HeadSkip.{Blank-there};
 ghost use Rattle.reading.specs.Survey.{Seen, told, survey-of};
 
 // The cursor at a head in this image.
@@ -72,6 +77,24 @@ pub fn survey(image: &[u8], h: usize) -> Survey
     survey_of(image.len(), h, end, t)
 }
 
+// The same, with what the names tell.
+fn overview(image: &[u8], h: usize) -> Overview
+    requires { ⌜ (h ≤ length (now image)) × (16 ≤ length (now image)) × (length (now image) ≤ 2 ^ 24) ⌝ }
+    ensures { λ r. ⌜ Seen (now (image .entry)) h (r .survey)
+        × (r .repeats ≡ repeats-of (rest (now (image .entry)) (first-cursor (now (image .entry)) h) .entries)) ⌝ }
+{
+    let all = gather(image, first_cursor(image, h));
+    let n = all.repeats;
+    let p = all.pass;
+    let end = p.end;
+    let t = p.tally;
+    let s = survey_of(image.len(), h, end, t);
+    Overview {
+        survey: s,
+        repeats: n,
+    }
+}
+
 fn read_of(j: Judged) -> Read
     ensures { λ r. ⌜ r ≡ Read.Good (j .survey) ⌝ }
 {
@@ -90,16 +113,17 @@ fn if_settled(j: Judged) -> Read
     Read::Refused(Refusal { number: 16 })
 }
 
-// What is read from the head h on, and whether it is settled.
-pub fn judge_from(image: &[u8], h: usize) -> Judgement
-    requires { ⌜ (h ≤ length (now image)) × (16 ≤ length (now image)) × (length (now image) ≤ 2 ^ 24) ⌝ }
+// What is read from the head h on, and whether it is settled; blank is a run of FF.
+pub fn judge_from(image: &[u8], h: usize, blank: Stretch) -> Judgement
+    requires { ⌜ (h ≤ length (now image)) × (16 ≤ length (now image)) × (length (now image) ≤ 2 ^ 24) × Blank-there (now image) blank ⌝ }
     ensures { λ r. ⌜ judged-as (now (image .entry)) r ≡ judged (now (image .entry)) (reading-from (now (image .entry)) h) ⌝ }
     ensures { λ r. ⌜ Judged-well (now (image .entry)) r ⌝ }
 {
-    let s = survey(image, h);
+    let o = overview(image, h);
+    let s = o.survey;
+    let n = o.repeats;
     let start = first_cursor(image, h);
-    let n = repeats(image, start);
-    if legal(image, start, s, n) {
+    if legal(image, start, s, n, blank) {
         return Judgement::Good(Judged {
             survey: s,
             settled: settled(image, start, s, n),
@@ -113,9 +137,11 @@ pub fn judge(image: &[u8]) -> Judgement
     requires { ⌜ (16 ≤ length (now image)) × (length (now image) ≤ 2 ^ 24) ⌝ }
     ensures { λ r. ⌜ (judged-as (now (image .entry)) r ≡ reading (now (image .entry))) × Judged-well (now (image .entry)) r ⌝ }
 {
-    let x = head(image);
+    let found = head(image);
+    let blank = found.blank;
+    let x = found.head;
     match x {
-        Headed::At(h) => judge_from(image, h),
+        Headed::At(h) => judge_from(image, h, blank),
         Headed::Refused(n) => Judgement::Refused(Refusal { number: n }),
     }
 }

@@ -1,5 +1,5 @@
-// Names that stand twice among the FC and F8 records: one pass over the chain, with a table of bits that tells most names apart, so that
-// names need not be compared pair by pair.
+// Names that stand twice among the FC and F8 records: a table of bits tells most names apart, so that names need not be compared pair by
+// pair.
 use crate::Cursor;
 use crate::Earlier;
 use crate::Item;
@@ -13,6 +13,7 @@ use crate::files::named_as;
 use crate::filter::WORDS;
 use crate::filter::add;
 use crate::filter::signature;
+use crate::skip::skip_other_names;
 use spec::Status;
 ghost use mathlib.Core.Path.{_≡_};
 ghost use mathlib.Core.Bool.{_||_};
@@ -20,10 +21,11 @@ ghost use Prim.Native.Nat.{_<_};
 ghost use lib.ListN.{length};
 ghost use Rattle.spec.specs.Files.{named-as};
 ghost use Rattle.reading.specs.Cursor.{Cursor-sound};
-ghost use Rattle.reading.specs.Rest.{rest, entry-of};
+ghost use Rattle.reading.specs.Rest.{entry-of};
 ghost use Rattle.reading.specs.Fold.{Whole};
-ghost use Rattle.reading.specs.Repeats.{repeats-of, earlier-of, repeats-with};
+ghost use Rattle.reading.specs.Repeats.{earlier-of, repeats-with};
 ghost use Rattle.reading.specs.Prefix.{front, front-and, earlier-with};
+ghost use Rattle.reading.specs.Filter.{In-table};
 ghost use Rattle.reading.specs.Held.{signed, Carried};
 
 fn either(a: bool, b: bool) -> bool
@@ -70,15 +72,17 @@ fn earlier(image: &[u8], start: Cursor, count: usize, e: Spot) -> Earlier
         migrating: false,
     };
     loop {
-        if left == 0 {
+        let o = skip_other_names(image, c, e, left);
+        if o.left == 0 {
             return f;
         }
-        let s = advance(image, c);
+        let here = o.cursor;
+        let s = advance(image, here);
         let Item::Record(x, next) = s else {
             return f;
         };
         f = earlier_with(image, f, e, x);
-        left -= 1;
+        left = o.left - 1;
         c = next;
     }
 }
@@ -102,7 +106,7 @@ fn repeats_with(n: Repeats, committed: bool, f: Earlier) -> Repeats
 // The bits of the record's name.
 fn signed(image: &[u8], e: Spot) -> Signature
     requires { ⌜ Whole (now image) e ⌝ }
-    ensures { λ r. ⌜ (r ≡ signed (entry-of (now (image .entry)) e)) × (r .word < 512) ⌝ }
+    ensures { λ r. ⌜ (r ≡ signed (entry-of (now (image .entry)) e)) × In-table r ⌝ }
 {
     let at = e.at + 8;
     let end = at + e.n;
@@ -111,7 +115,7 @@ fn signed(image: &[u8], e: Spot) -> Signature
 
 // What is carried along, n and the table, with the record e behind those that were passed, as many as count says. Where not all bits of its
 // name are set, no record of its name was passed; else these records tell.
-fn repeats_and(
+pub fn repeats_and(
     image: &[u8],
     start: Cursor,
     count: usize,
@@ -130,27 +134,4 @@ fn repeats_and(
         return repeats_with(n, named(image, Status::COMMITTED, e), f);
     }
     n
-}
-
-// The names of all records from the cursor on.
-pub fn repeats(image: &[u8], start: Cursor) -> Repeats
-    requires { ⌜ Cursor-sound (now image) start ⌝ }
-    ensures { λ r. ⌜ r ≡ repeats-of (rest (now (image .entry)) start .entries) ⌝ }
-{
-    let mut table = [0u64; WORDS];
-    let mut c = start;
-    let mut count = 0;
-    let mut n = Repeats {
-        doubled: false,
-        superseded: false,
-    };
-    loop {
-        let s = advance(image, c);
-        let Item::Record(e, next) = s else {
-            return n;
-        };
-        n = repeats_and(image, start, count, &mut table, n, e);
-        count += 1;
-        c = next;
-    }
 }
