@@ -2,7 +2,7 @@
 //! depend on it.
 use crate::maker::Maker;
 use crate::rng::Rng;
-use model::bits::{hash, Signature, BITS, HASH, WORDS};
+use model::bits::{hash, Signature, BITS, HASH, WORD, WORDS};
 use model::good_name;
 use std::collections::BTreeSet;
 use std::fmt;
@@ -13,97 +13,106 @@ use std::sync::OnceLock;
 pub enum Kind {
     /// one hash
     Hash,
-    /// other hashes than the first's, but its word and all its bits
-    Bits,
-    /// the first's word, and some of its bits
-    Within,
-    /// two names of three bytes, the second's bits among those of the first
+    /// of every second name behind the first, the first sets the bits in one word, and the name before it those in the
+    /// other
+    Covered,
+    /// the same two words, whose bits are soon all set
+    Words,
+    /// three names of three bytes, the bits of the last set by the others
     Short,
-    /// names of three bytes in one word, whose bits are soon all set
-    Word,
 }
 
 impl Kind {
-    pub const ALL: [Kind; 5] = [Kind::Hash, Kind::Bits, Kind::Within, Kind::Short, Kind::Word];
+    pub const ALL: [Kind; 4] = [Kind::Hash, Kind::Covered, Kind::Words, Kind::Short];
 
-    /// So many names, two if they are a short pair; all different, of 3 or of 6 to 60 bytes.
+    /// So many names, three if they are short; all different, of 3 or of 6 to 60 bytes.
     pub fn names(self, r: &mut Rng, count: usize) -> Vec<Vec<u8>> {
-        match self {
-            Kind::Short => r.of(short_pairs()).to_vec(),
-            Kind::Word => {
-                let word = r.below(WORDS as u64) as usize;
-                different(vec![], count, || r.of(&triples().words[word]).to_vec())
-            }
-            _ => {
-                let length = r.of(&[6, 7, 8, 9, 16, 31, 60]);
-                let mixed = r.chance(50);
-                self.of_lengths(r, count, |r| if mixed { 6 + r.below(55) as usize } else { length })
-            }
+        if self == Kind::Short {
+            return r.of(short_names()).to_vec();
         }
+        let length = r.of(&[6, 7, 8, 9, 16, 31, 60]);
+        let mixed = r.chance(50);
+        self.of_lengths(r, count, |r| if mixed { 6 + r.below(55) as usize } else { length })
     }
 
-    /// So many names with such lengths, which are at least 6.
+    /// So many names with such lengths, which are at least 6; of one hash, if they were to be short.
     pub fn of_lengths(self, r: &mut Rng, count: usize, length: impl Fn(&mut Rng) -> usize) -> Vec<Vec<u8>> {
-        let (first, hashes) = loop {
-            let first = r.bits() as u32;
-            let hashes = self.hashes(first);
-            if !hashes.is_empty() {
-                break (first, hashes);
+        let mut names: Vec<Vec<u8>> = Vec::new();
+        let mut known = BTreeSet::new();
+        for hash in self.hashes(r, count) {
+            // of one hash there are many names
+            let mut next = || {
+                let length = length(r);
+                with_hash(r, length, hash)
+            };
+            let mut name = next();
+            while !known.insert(name.clone()) {
+                name = next();
             }
-        };
-        let first_length = length(r);
-        let first = with_hash(r, first_length, first);
-        different(vec![first], count, || {
-            let (length, hash) = (length(r), r.of(&hashes));
-            with_hash(r, length, hash)
-        })
+            names.push(name);
+        }
+        names
     }
 
-    /// The hashes of the names that collide so with a name of this hash.
-    fn hashes(self, first: u32) -> Vec<u32> {
-        let s = Signature::of_hash(first);
+    /// The hashes of so many names.
+    fn hashes(self, r: &mut Rng, count: usize) -> Vec<u32> {
+        let first = r.bits() as u32;
         match self {
-            Kind::Bits => within(s).filter(|&h| h != first && Signature::of_hash(h) == s).collect(),
-            Kind::Within => within(s).filter(|&h| Signature::of_hash(h) != s).collect(),
-            _ => vec![first],
+            Kind::Covered => covered(r, count),
+            Kind::Words => {
+                let same = first.wrapping_mul(WORD) & !0x3FFF;
+                (0..count).map(|_| (same | r.below(0x4000) as u32).wrapping_mul(inverse(WORD))).collect()
+            }
+            _ => vec![first; count],
         }
     }
 }
 
 impl Maker {
-    /// One maker in five gets as many names that collide, two at least.
-    pub fn sometimes_colliding(self, r: &mut Rng) -> Maker {
-        if !r.chance(20) {
+    /// With this chance as many names that collide, three at least.
+    pub fn sometimes_colliding(self, r: &mut Rng, percent: u64) -> Maker {
+        if !r.chance(percent) {
             return self;
         }
-        let (kind, count) = (r.of(&Kind::ALL), self.names.len().max(2));
+        let (kind, count) = (r.of(&Kind::ALL), self.names.len().max(3));
         Maker { names: kind.names(r, count), ..self }
     }
 }
 
-/// These and more, up to so many.
-fn different(first: Vec<Vec<u8>>, count: usize, mut next: impl FnMut() -> Vec<u8>) -> Vec<Vec<u8>> {
-    let mut names = first;
-    let mut known: BTreeSet<Vec<u8>> = names.iter().cloned().collect();
-    while names.len() < count {
-        let name = next();
-        if known.insert(name.clone()) {
-            names.push(name);
-        }
+/// A hash of four bits, and by turns one that sets the other word of the next, and that next one.
+fn covered(r: &mut Rng, count: usize) -> Vec<u32> {
+    let four = |hash: &u32| Signature::of_hash(*hash).bits.count_ones() == 4;
+    let first = std::iter::repeat_with(|| r.bits() as u32).find(four).expect("most hashes are so");
+    let within: Vec<u32> = within(Signature::of_hash(first)).into_iter().filter(|&h| h != first).collect();
+    let mut hashes = vec![first];
+    while hashes.len() < count {
+        let last = r.of(&within);
+        hashes.extend([setting_other(r, Signature::of_hash(last)), last]);
     }
-    names
+    hashes.truncate(count);
+    hashes
 }
 
-/// The hashes whose bits are among these, in the same word. The four numbers of bits are the upper 24 bits of a hash
-/// times BITS.
-fn within(s: Signature) -> impl Iterator<Item = u32> {
+/// The hashes of the same word whose bits there are among these. The four numbers of bits are the upper 24 bits of a
+/// hash times BITS.
+fn within(s: Signature) -> Vec<u32> {
     let numbers: Vec<u32> = (0..64).filter(|k| s.bits >> k & 1 == 1).collect();
     let four = (0..numbers.len().pow(4))
-        .map(move |i| (0..4).fold((0, i), |(x, i), _| (x << 6 | numbers[i % numbers.len()], i / numbers.len())).0 << 8);
-    let undone = inverse(BITS);
-    four.flat_map(|x| x..=x | 255)
-        .map(move |x| x.wrapping_mul(undone))
-        .filter(move |&h| Signature::of_hash(h).word == s.word)
+        .map(|i| (0..4).fold((0, i), |(x, i), _| (x << 6 | numbers[i % numbers.len()], i / numbers.len())).0 << 8);
+    let hashes = four.flat_map(|x| x..=x | 255).map(|x| x.wrapping_mul(inverse(BITS)));
+    hashes.filter(|&h| Signature::of_hash(h).word == s.word).collect()
+}
+
+/// A hash that sets the bits of s in its other word: two of the four numbers are those of s.
+fn setting_other(r: &mut Rng, s: Signature) -> u32 {
+    let (low, high) = (s.more.trailing_zeros(), 63 - s.more.leading_zeros());
+    loop {
+        let x = high << 26 | low << 20 | r.below(1 << 20) as u32;
+        let hash = x.wrapping_mul(inverse(BITS));
+        if Signature::of_hash(hash).word == s.other {
+            return hash;
+        }
+    }
 }
 
 /// What an odd factor is undone by, modulo 2^32: each turn doubles the bits that are right, of which three are at first.
@@ -160,20 +169,24 @@ fn with_hash(r: &mut Rng, length: usize, hash: u32) -> Vec<u8> {
     name
 }
 
-/// Pairs of names of three bytes in some words, the second's bits among those of the first.
-fn short_pairs() -> &'static [[Vec<u8>; 2]] {
-    static PAIRS: OnceLock<Vec<[Vec<u8>; 2]>> = OnceLock::new();
-    PAIRS.get_or_init(|| {
-        let mut pairs = Vec::new();
-        for names in triples().words.iter().step_by(64) {
-            let signed: Vec<(&[u8; 3], Signature)> = names.iter().map(|name| (name, Signature::of(name))).collect();
-            for (first, s) in &signed {
-                let others = signed.iter().filter(|(name, t)| name != first && t.within(*s));
-                pairs.extend(others.map(|(name, _)| [first.to_vec(), name.to_vec()]));
-            }
+/// Three names of three bytes, some times, of which the first two set the bits of the last.
+fn short_names() -> &'static [[Vec<u8>; 3]] {
+    static NAMES: OnceLock<Vec<[Vec<u8>; 3]>> = OnceLock::new();
+    NAMES.get_or_init(|| (0..WORDS).step_by(64).flat_map(short_names_of).collect())
+}
+
+/// Those whose first and last have this word.
+fn short_names_of(word: usize) -> Vec<[Vec<u8>; 3]> {
+    let signed = |word: usize| triples().words[word].iter().map(|name| (name, Signature::of(name)));
+    let here: Vec<(&[u8; 3], Signature)> = signed(word).collect();
+    let mut found = Vec::new();
+    for (first, s) in &here {
+        for (last, t) in here.iter().filter(|(last, t)| last != first && t.bits & !s.bits == 0) {
+            let second = signed(t.other).find(|(name, u)| name != last && t.is_set_by(&[*s, *u]));
+            found.extend(second.map(|(second, _)| [*first, second, *last].map(|name| name.to_vec())));
         }
-        pairs
-    })
+    }
+    found
 }
 
 /// Images by how many of their names collide.

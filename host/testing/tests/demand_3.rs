@@ -56,7 +56,7 @@ fn mixed(r: &mut Rng) -> Maker {
 
 /// Names that collide in the library's table.
 fn colliding_names(r: &mut Rng) -> Maker {
-    Maker { names: Kind::Within.names(r, 4), ..any_maker(r) }
+    Maker { names: Kind::Covered.names(r, 5), ..any_maker(r) }
 }
 
 /// The histories that come soonest to the place where this fault matters. Records in old

@@ -9,7 +9,7 @@
 //! call, by the list of steps.
 //! After every put with answer 0, on a copy, the sweeps that K6 promises to get past all
 //! records of the head's sector; in histories of many tiny files too. In one history of
-//! five the names collide in the library's table (testing::colliding).
+//! five, and in half of those, the names collide in the library's table.
 use testing::argument;
 use testing::c_calls::Library;
 use testing::history::{Seen, Tester, Violation, LONGEST};
@@ -50,7 +50,7 @@ fn maker(r: &mut Rng) -> Maker {
         5 => Maker::with_markers(r),
         _ => Maker::rich(r),
     };
-    maker.sometimes_colliding(r)
+    maker.sometimes_colliding(r, 20)
 }
 
 /// How often each aimed image was seen, and each aimed cut. Gives how many never were.
@@ -78,7 +78,7 @@ fn histories(tester: &mut Tester<Library>, r: &mut Rng, calls: u64) -> Result<u6
     tester.until(r, tester.seen.checked + calls / 8, &SHORT, Maker::cut_sweeps)?;
     let checked = tester.seen.checked;
     (tester.longest, tester.one_of) = (600, 50);
-    tester.until(r, checked + calls / 16, &SHORT, |r| Maker::tiny_files(r).sometimes_colliding(r))?;
+    tester.until(r, checked + calls / 16, &SHORT, |r| Maker::tiny_files(r).sometimes_colliding(r, 50))?;
     Ok(checked)
 }
 

@@ -16,7 +16,7 @@ fn any_maker(r: &mut Rng) -> Maker {
         1 => Maker::full_sectors(r),
         _ => Maker::short(30),
     };
-    maker.sometimes_colliding(r)
+    maker.sometimes_colliding(r, 20)
 }
 
 pub fn any_length(r: &mut Rng) -> usize {
