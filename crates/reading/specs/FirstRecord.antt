@@ -22,7 +22,8 @@ use Rattle.reading.specs.declared.Cursor.{Cursor}
 use Rattle.reading.specs.declared.Spot.{Spot}
 use Rattle.reading.specs.Cursor.{look, goes-on, unfinished-at, past}
 use Rattle.reading.specs.Read.{first-cursor}
-use Rattle.reading.specs.Way.{From, here, turned, Reached, On, never, room-left, from-on}
+use Rattle.reading.specs.Along.{From, here, turned, Reached, room-left}
+use Rattle.reading.specs.Way.{On, never, from-on}
 
 -- ---- what stands there is a record or breaks a rule
 
@@ -92,7 +93,7 @@ module _ (image : Image) (h : ℕ) (l : h < length image) (b : Low (getD image h
       refl
 
   from-here : (d : Cursor) → From image (first-cursor image h) d → d ≡ first-cursor image h
-  from-here d here = refl
+  from-here d (here e) = refl
   from-here d (turned e) = never (sym e ∙ straight)
 
   module _ (x : Spot) (c : Cursor) (r : Reached image (first-cursor image h) x c) where
@@ -120,7 +121,7 @@ module _ (image : Image) (h : ℕ) (l : h < length image) (b : Low (getD image h
     pub apart : (y : Spot) (d : Cursor) → Reached image c y d → (x .at + size-of (x .n) (x .d) ≤ y .at) ⊎ (y .at < x .at)
     apart y d q = go (q .seen) (q .from) (q .at) where
       go : (k : Cursor) → From image c k → y .at ≡ k .at → (x .at + size-of (x .n) (x .d) ≤ y .at) ⊎ (y .at < x .at)
-      go k here e = inl (omega (arith, first-at, ap (λ (v : Cursor). v .at) past-first))
+      go k (here g) e = inl (omega (arith, first-at, ap (λ (v : Cursor). v .at) past-first))
       go k (turned g) e = inr (omega (arith, first-at, room-left (c .room) (look image c) g, ap (λ (v : Cursor). v .room) past-first))
 
     pub second-even : h % 8 ≡ 0 → (y : Spot) (d : Cursor) → Reached image c y d → y .at % 8 ≡ 0

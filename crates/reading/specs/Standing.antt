@@ -3,7 +3,7 @@ use Prim.Native.Nat.{ℕ, _+_, _%_, _≤_, _<_}
 use native.Mathlib.Omega.{arith}
 use mathlib.Core.Path.{_≡_, refl, sym, ap, subst, _∙_}
 use mathlib.Core.Bool.{Bool, true, false}
-use mathlib.Core.List.{List}
+use mathlib.Core.List.{List, _∷_}
 use lib.ListN.{length, getD}
 use Rattle.spec.specs.declared.Place.{Place}
 use Rattle.spec.specs.Step.{Image}
@@ -16,12 +16,13 @@ use Rattle.reading.specs.declared.Cursor.{Cursor}
 use Rattle.reading.specs.declared.Spot.{Spot}
 use Rattle.reading.specs.declared.Item.{Item}
 use Rattle.reading.specs.Cursor.{advance, Inside, Cursor-sound}
-use Rattle.reading.specs.Rest.{Run, rest}
+use Rattle.reading.specs.Rest.{Run, entry-of, rest}
 use Rattle.reading.specs.Bridge.{shown, reading-is}
 use Rattle.reading.specs.Fold.{Passes, passes}
 use Rattle.reading.specs.Read.{first-cursor}
 use Rattle.reading.specs.Survey.{first-sound}
-use Rattle.reading.specs.Way.{On, Lands, Ends-on, never, ends-on, reached}
+use Rattle.reading.specs.Along.{reached}
+use Rattle.reading.specs.Way.{On, Lands, Ends-on, never, ends-on}
 use Rattle.reading.specs.FirstRecord.{first-at, past-on-way}
 
 -- a head stands at h, in an image of whole eights
@@ -74,12 +75,14 @@ shown-entries image N h es (Item.End t w) = refl
 shown-entries image N h es (Item.TornWrap t) = refl
 shown-entries image N h es (Item.Broken t w) = refl
 
+pub entries-from : (image : Image) (h : ℕ) → h ≤ length image → reading-from image h .entries ≡ rest image (first-cursor image h) .entries
+entries-from image h l =
+    let r : Run = rest image (first-cursor image h) in
+    ap (λ (x : Reading). x .entries) (sym (reading-is image h l)) ∙ shown-entries image (length image) h (r .entries) (r .ending)
+
 module _ (image : Image) (h : ℕ) (w : Led image h) where
   pub entries-are : reading-from image h .entries ≡ rest image (first-cursor image h) .entries
-  entries-are =
-      let r : Run = rest image (first-cursor image h) in
-      ap (λ (x : Reading). x .entries) (sym (reading-is image h (omega (arith, w .inside))))
-      ∙ shown-entries image (length image) h (r .entries) (r .ending)
+  entries-are = entries-from image h (omega (arith, w .inside))
 
   stands-by : (lo : ℕ) → Ends-on (length image) h lo (rest image (first-cursor image h) .ending)
       → Standing (length image) h lo (reading-from image h .place)
@@ -95,6 +98,9 @@ module _ (image : Image) (h : ℕ) (w : Led image h) where
 
   -- with the first record known, before the turn the tail is behind it
   module _ {x : Spot} {c : Cursor} (t : Taken image (first-cursor image h) x c) where
+    pub listed : reading-from image h .entries ≡ entry-of image x ∷ rest image c .entries
+    listed = entries-are ∙ ap (λ (r : Run). r .entries) (t .passes .split)
+
     pub head-at : x .at ≡ h
     head-at = first-at image h (w .inside) (w .low) x c (reached image (first-cursor image h) x c (t .step))
 

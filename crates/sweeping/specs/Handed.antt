@@ -24,10 +24,10 @@ use Rattle.moving.specs.Kept.{kept}
 use Rattle.moving.specs.Clean.{cleaned-is}
 use Rattle.moving.specs.Close.{close-same, close-low}
 use Rattle.moving.specs.declared.NewHead.{NewHead}
-use Rattle.reading.specs.Way.{reached}
+use Rattle.reading.specs.Along.{reached}
 use Rattle.reading.specs.FirstRecord.{apart, second-even}
 use Rattle.sweeping.specs.Steps.{hand-steps, hand-head, handing, heading}
-use Rattle.reading.specs.Standing.{Led, Taken, entries-are, stands}
+use Rattle.reading.specs.Standing.{Led, Taken, entries-are, stands, listed}
 use Rattle.laws.specs.Steps.{run-append}
 
 pub record Handed (s : Image) (h : ℕ) (m : Meter) (t : Image) (r : NewHead) : Type 0 where
@@ -56,16 +56,13 @@ module _ {s : Image} {h : ℕ} (w : Led s h) (m : Meter) where
       none-handed [] (entries-are s h w ∙ ap (λ (r : Run). r .entries) (rest-done s (first-cursor s h) q (e ∙ ap (advance s) f) z)) refl (λ N. refl)
 
   module _ {x : Spot} {c : Cursor} (t : Taken s (first-cursor s h) x c) where
-    listed : reading-from s h .entries ≡ entry-of s x ∷ rest s c .entries
-    listed = entries-are s h w ∙ ap (λ (r : Run). r .entries) (t .passes .split)
-
     pub hand-one : (q : Item) → q ≡ advance s c → Not-record q → Handed s h m s (record { head = h; meter = m })
     hand-one q e z =
-        none-handed (entry-of s x ∷ []) (listed ∙ ap (λ (r : Run). entry-of s x ∷ r .entries) (rest-done s c q e z)) refl (λ N. refl)
+        none-handed (entry-of s x ∷ []) (listed s h w t ∙ ap (λ (r : Run). entry-of s x ∷ r .entries) (rest-done s c q e z)) refl (λ N. refl)
 
     module _ {y : Spot} {d : Cursor} (u : Taken s c y d) where
       two : reading-from s h .entries ≡ entry-of s x ∷ (entry-of s y ∷ rest s d .entries)
-      two = listed ∙ ap (λ (r : Run). entry-of s x ∷ r .entries) (u .passes .split)
+      two = listed s h w t ∙ ap (λ (r : Run). entry-of s x ∷ r .entries) (u .passes .split)
 
       -- Y's first byte is none of X's data
       same-data : {v : Image} {a : Meter} → Did s m (program (y .at) 0xA0 ∷ []) v a

@@ -34,7 +34,7 @@ use Rattle.sweeping.specs.declared.Plan.{Plan}
 use Rattle.sweeping.specs.Steps.{copying}
 use Rattle.laws.specs.Sweep.{room-on, room-live, room-dead, copy-live, copy-dead}
 use Rattle.sweeping.specs.Stuck.{stuck-empty, room-empty, stuck-live, stuck-last, stuck-not}
-use Rattle.reading.specs.Standing.{Led, Taken, Standing, entries-are, stands, head-at, stands-past}
+use Rattle.reading.specs.Standing.{Led, Taken, Standing, entries-are, stands, listed, head-at, stands-past}
 
 -- the place of the reading from its head on
 pub record Headed (s : Image) (p : Place) : Type 0 where
@@ -92,8 +92,8 @@ module _ {s : Image} {p : Place} (w : Headed s p) where
       record { stop = stuck-empty r (r .entries) refl none; room = ap (no-room r) none ∙ room-empty r }
 
   module _ {x : Spot} {c : Cursor} (t : Taken s (first-cursor s (p .head)) x c) where
-    listed : reading-from s (p .head) .entries ≡ entry-of s x ∷ rest s c .entries
-    listed = entries-are s (p .head) (w .led) ∙ ap (λ (r : Run). r .entries) (t .passes .split)
+    abbrev first : reading-from s (p .head) .entries ≡ entry-of s x ∷ rest s c .entries
+    first = listed s (p .head) (w .led) t
 
     living : (b : Bool) → b ≡ live (rest s (first-cursor s (p .head)) .entries) (entry-of s x)
         → live (entry-of s x ∷ rest s c .entries) (entry-of s x) ≡ b
@@ -115,8 +115,8 @@ module _ {s : Image} {p : Place} (w : Headed s p) where
           let no : fits (r .place) (size (entry-of s x)) ≡ false = fitting false
           (placed-full p (size-of (x .n) (x .d)) (ap (placed p) (sym g) ∙ sym i ∙ j)) in
           record {
-            stop = stuck-live r (entry-of s x) (rest s c .entries) false listed (living b e ∙ l) no;
-            room = ap (no-room r) listed ∙ room-live r (entry-of s x) (rest s c .entries) false (living b e ∙ l) no;
+            stop = stuck-live r (entry-of s x) (rest s c .entries) false first (living b e ∙ l) no;
+            room = ap (no-room r) first ∙ room-live r (entry-of s x) (rest s c .entries) false (living b e ∙ l) no;
           }
 
       pub plan-copy : {y : ℕ} {v : Placed} {a : ℕ} {i : Bool} {o : Place} → b ≡ true → y ≡ size-of (x .n) (x .d) → v ≡ placed p y
@@ -130,9 +130,9 @@ module _ {s : Image} {p : Place} (w : Headed s p) where
           (stands-past s (p .head) (w .led) t) in
           let taken : fits p z ≡ true = placed-parts p z a i o (ap (placed p) (sym g) ∙ sym j ∙ k) .0 in
           record {
-            on = stuck-live r (entry-of s x) (rest s c .entries) true listed (living b e ∙ l) (fitting true taken);
+            on = stuck-live r (entry-of s x) (rest s c .entries) true first (living b e ∙ l) (fitting true taken);
             steps =
-                copy-live r (entry-of s x) (rest s c .entries) listed (living b e ∙ l)
+                copy-live r (entry-of s x) (rest s c .entries) first (living b e ∙ l)
                 ∙ ap₂ (λ (v : Place) (i : ℕ). copy-of v (entry-at s i (x .n) (x .d))) (sym (w .same)) at;
             ends = record { inside = omega (arith, t .passes .whole .fits, stand .whole); before = stand .up };
             taken = taken;
@@ -143,8 +143,8 @@ module _ {s : Image} {p : Place} (w : Headed s p) where
       plan-last l r g z =
           let v : Reading = reading-from s (p .head) in
           record {
-            stop = stuck-last v (entry-of s x) (rest s c .entries) listed (ap (λ (i : Run). i .entries) (rest-done s c r g z)) (living b e ∙ l);
-            room = ap (no-room v) listed ∙ room-dead v (entry-of s x) (rest s c .entries) (living b e ∙ l);
+            stop = stuck-last v (entry-of s x) (rest s c .entries) first (ap (λ (i : Run). i .entries) (rest-done s c r g z)) (living b e ∙ l);
+            room = ap (no-room v) first ∙ room-dead v (entry-of s x) (rest s c .entries) (living b e ∙ l);
           }
 
       pub plan-leave : {y : Spot} {d : Cursor} → b ≡ false → Taken s c y d → (stuck (reading-from s (p .head)) ≡ false) × (copying s (p .head) ≡ [])
@@ -152,7 +152,7 @@ module _ {s : Image} {p : Place} (w : Headed s p) where
       plan-leave {y} {d} l u =
           let r : Reading = reading-from s (p .head) in
           let behind : rest s c .entries ≡ entry-of s y ∷ rest s d .entries = ap (λ (v : Run). v .entries) (u .passes .split) in
-          let two : r .entries ≡ entry-of s x ∷ (entry-of s y ∷ rest s d .entries) = listed ∙ ap (λ (es : List Entry). entry-of s x ∷ es) behind in
+          let two : r .entries ≡ entry-of s x ∷ (entry-of s y ∷ rest s d .entries) = first ∙ ap (λ (es : List Entry). entry-of s x ∷ es) behind in
           let dead : live (entry-of s x ∷ (entry-of s y ∷ rest s d .entries)) (entry-of s x) ≡ false =
           sym (ap (λ (es : List Entry). live (entry-of s x ∷ es) (entry-of s x)) behind) ∙ living b e ∙ l in (
             stuck-not r (entry-of s x) (entry-of s y) (rest s d .entries) two dead,
