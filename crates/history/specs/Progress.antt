@@ -7,7 +7,7 @@ use mathlib.Core.Option.{Option, none, some}
 use mathlib.Core.List.{List, [], _∷_, _++_}
 use lib.ListN.{length, length-append}
 use lib.Dec.{eqb, leb}
-use borrow.Author.Tests.{eq-eqb, leb-true, leb-false}
+use borrow.Author.Tests.{eq-eqb}
 use Rattle.spec.specs.Step.{Image, Step, run}
 use Rattle.spec.specs.Basics.{Answer, refuse, give, keep, concat, numbered}
 use Rattle.spec.specs.Record.{Entry, size-of, name-ok}
@@ -32,7 +32,8 @@ use Rattle.history.specs.Puts.{Commits, put-commits}
 use Rattle.history.specs.Copying.{head-read}
 use Rattle.history.specs.Landing.{Led, new-led, replaced-led, put-length}
 use Rattle.history.specs.Ahead.{Ahead}
-use Rattle.history.specs.Induction.{carried-done, carried-cut}
+use Rattle.history.specs.Induction.{carried-done}
+use Rattle.history.specs.Formats.{done-image, refused}
 use Rattle.history.specs.Calls.{Puts, put-no, put-yes, puts-of, room-fits, sweep-is, sweep-by}
 use Rattle.history.specs.Theorem.{history-inv}
 use Rattle.history.specs.Passing.{goes-on, Passed, passes}
@@ -82,22 +83,6 @@ sweeps (k ∷ ks) (suc j) q h c u =
     ((o .answer, n .0), omega (arith, n .1, o .made))
 
 -- ---- the theorem
-
--- a put that is not cut has done its steps
-done-image : (im : Image) (m : ℕ) (ss : List Step) → carry-out im m (give (doing ss)) .numbers .answer ≡ 0
-    → carry-out im m (give (doing ss)) .image ≡ run im ss
-done-image im m ss e = go (leb (length ss) m) refl
-  where
-    go : (b : Bool) → leb (length ss) m ≡ b → carry-out im m (give (doing ss)) .image ≡ run im ss
-    go true k = ap (λ (o : Outcome). o .image) (carried-done im m (doing ss) (leb-true (length ss) m k))
-    go false k =
-        let o : carry-out im m (give (doing ss)) .numbers .answer ≡ 4 =
-        ap (λ (o : Outcome). o .numbers .answer) (carried-cut im m (doing ss) (leb-false (length ss) m k)) in
-        absurd (let z : 4 ≡ 0 = sym o ∙ e in omega arith)
-
-refused-answer : (im : Image) (m k : ℕ) → carry-out im m (refuse (numbered k)) .numbers .answer ≡ k
-unfolding carry-out
-refused-answer im m k = refl
 
 new-alive : (n c : List ℕ) (a : ℕ) → name-ok n ≡ true → alive (record { at = a; it = file n c }) ≡ true
 new-alive n c a nice = let e : Entry = record { at = a; it = file n c } in fc-alive e (named-by 0xFC e refl (name-some n nice))
@@ -164,13 +149,13 @@ put-gets-on im l n c m i b e = go (puts-of l im n c i)
     go : Puts l im n c → Passes (put im n c m .image)
     go (put-no r) =
         let z : r .number ≡ 0 =
-        sym (refused-answer im m (r .number)) ∙ sym (ap (λ (p : Answer Plan). carry-out im m p .numbers .answer) (r .is)) ∙ e in
+        sym (refused im m (r .number)) ∙ sym (ap (λ (p : Answer Plan). carry-out im m p .numbers .answer) (r .is)) ∙ e in
         absurd (not-both (eqb (r .number) 0) (r .not-done) (eq-eqb (r .number) 0 z))
     go (put-yes r q nice rule k) =
         let ss : List Step = put-steps (r .place) (file-named n (r .entries)) n c in
         let e₁ : carry-out im m (give (doing ss)) .numbers .answer ≡ 0 =
         sym (ap (λ (p : Answer Plan). carry-out im m p .numbers .answer) k) ∙ e in
-        subst Passes (sym (ap (λ (p : Answer Plan). carry-out im m p .image) k ∙ done-image im m ss e₁))
+        subst Passes (sym (ap (λ (p : Answer Plan). carry-out im m p .image) k ∙ done-image im m (doing ss) e₁))
         (put-passes q n c nice b rule (file-named n (r .entries))
         (subst (λ (x : Reading). Old n (x .entries) (file-named n (x .entries))) (sym (q .is)) (old-file n (q .es) l (q .ok))))
 
