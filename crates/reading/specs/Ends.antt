@@ -6,6 +6,7 @@ use mathlib.Core.Bool.{Bool, false}
 use mathlib.Core.List.{List}
 use lib.ListN.{length, length-drop, length-take}
 use Rattle.spec.specs.declared.Next.{Next}
+use Rattle.laws.specs.Tests.{wrong}
 use Rattle.reading.specs.declared.Cursor.{Cursor}
 use Rattle.reading.specs.declared.Spot.{Spot}
 use Rattle.reading.specs.declared.Item.{Item}
@@ -36,7 +37,7 @@ Closes image c (Item.Broken t w) = Up c w t
 module _ (image : List ℕ) where
   from-up : {c d : Cursor} → From image c d → Up c (d .turned) (d .at)
   from-up (here e) = λ q. (q, omega arith)
-  from-up (turned e) = λ q. absurd (let z : _≡_ {A = ℕ} 0 1 = cc in omega arith)
+  from-up (turned e) = λ q. wrong (sym q)
 
   stop-up : {c : Cursor} {t : ℕ} {w : Bool} → Stops image c t w → Up c w t
   stop-up s = λ q. (from-up (s .from) (sym (s .turned) ∙ q) .0, omega (arith, s .at, from-up (s .from) (sym (s .turned) ∙ q) .1))

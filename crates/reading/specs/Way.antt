@@ -5,6 +5,7 @@ use mathlib.Core.Path.{_≡_, refl, sym, _∙_}
 use mathlib.Core.Bool.{Bool, true, false}
 use Rattle.spec.specs.Step.{Image}
 use Rattle.spec.specs.Geometry.{floor}
+use Rattle.laws.specs.Tests.{wrong}
 use Rattle.reading.specs.declared.Cursor.{Cursor}
 use Rattle.reading.specs.declared.Spot.{Spot}
 use Rattle.reading.specs.declared.Item.{Item}
@@ -31,16 +32,13 @@ Ends-on N h lo (Item.End t w) = Lands N h lo t w
 Ends-on N h lo (Item.TornWrap t) = Unit {0}
 Ends-on N h lo (Item.Broken t w) = Lands N h lo t w
 
-pub never : {A : Type 0} → true ≡ false → A
-never q = absurd (let z : _≡_ {A = ℕ} 0 1 = cc in omega arith)
-
 module _ (image : Image) (N h lo : ℕ) where
   pub from-on : (c d : Cursor) → From image c d → On N h lo c → On N h lo d
   from-on c d (here e) o = o
   from-on c d (turned e) o = go (c .turned) refl where
     go : (t : Bool) → c .turned ≡ t → On N h lo (turn (c .room) (c .pending))
     go true q = absurd (omega (arith, room-left (c .room) (look image c) e, o .round q .2))
-    go false q = record { even = refl; up = λ z. never z; round = λ z. (omega arith, o .up q .3, refl) }
+    go false q = record { even = refl; up = λ z. wrong (sym z); round = λ z. (omega arith, o .up q .3, refl) }
 
   pub past-on : (c : Cursor) (e : Spot) (next : Cursor) → On N h lo c → Reached image c e next → On N h lo next
   past-on c e next o r =

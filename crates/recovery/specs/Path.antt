@@ -9,6 +9,7 @@ use lib.ListN.{set}
 use Rattle.spec.specs.declared.Next.{Next}
 use Rattle.spec.specs.Step.{Image}
 use Rattle.spec.specs.Record.{size-of, Entry}
+use Rattle.laws.specs.Parts.{Outside}
 use Rattle.reading.specs.declared.Cursor.{Cursor}
 use Rattle.reading.specs.declared.Spot.{Spot}
 use Rattle.reading.specs.declared.Item.{Item}
@@ -17,7 +18,7 @@ use Rattle.reading.specs.Fits.{look-inside}
 use Rattle.reading.specs.Along as step
 use Rattle.reading.specs.Along.{From, sought, from-advance, Reached, Way, way, reached, along}
 use Rattle.reading.specs.Rest.{Run, entry-of, ahead, followed, rest, rest-step, rest-record}
-use Rattle.recovery.specs.Trail.{Tidy, Ahead, Off, from-tidy, tidy-seen, tidy-next, off-record, ahead-back, window-kept, entry-kept}
+use Rattle.recovery.specs.Trail.{Tidy, Ahead, from-tidy, tidy-seen, tidy-next, off-record, ahead-back, window-kept, entry-kept}
 use Rattle.recovery.specs.Trail.{unfinished-kept, look-kept, step-again}
 
 -- ---- the records from c up to d
@@ -46,7 +47,7 @@ path-tidy {image} {c} (there e h p) t = path-tidy p (tidy-next t (reached image 
 
 module _ (s : Image) (a b : ℕ) where
   module _ {c : Cursor} {e : Spot} {behind : Cursor} (tidy : Tidy c) (r : Reached s c e behind) (o : Ahead behind a) where
-    off : Off a (r .seen .at) (size-of (e .n) (e .d))
+    off : Outside a (r .seen .at) (size-of (e .n) (e .d))
     off = off-record tidy r a o .0
 
     advance-kept : advance (set s a b) c ≡ Item.Record e behind
@@ -70,11 +71,11 @@ module _ (s : Image) (a b : ℕ) where
 
 -- address a is passed at c
 pub record Passed (c : Cursor) (a : ℕ) : Type 0 where
-  pub before : Off a (c .at) (c .end - c .at)
+  pub before : Outside a (c .at) (c .end - c .at)
   pub low : c .room ≤ a
 
 module _ (s : Image) (a b : ℕ) where
-  settle-same : (v : Cursor) (x : Next) → look s v ≡ x → Off a (v .at) (v .end - v .at) → settle (set s a b) v x ≡ settle s v x
+  settle-same : (v : Cursor) (x : Next) → look s v ≡ x → Outside a (v .at) (v .end - v .at) → settle (set s a b) v x ≡ settle s v x
   settle-same v (Next.Record n d) l o =
       let f : size-of n d ≤ v .end - v .at = look-inside s v n d l in
       ap (λ (h : Bool). Item.Record (record { at = v .at; n = n; d = d }) (past v (size-of n d) h))

@@ -1,7 +1,7 @@
 -- The chain after one byte was written: what is read before that byte stays as it was.
 use Prim.Native.Nat.{ℕ, _+_, _-_, _≤_, _<_}
 use native.Mathlib.Omega.{arith}
-use mathlib.Core.Path.{_≡_, refl, sym, ap, ap₂, _∙_}
+use mathlib.Core.Path.{_≡_, sym, ap, ap₂, _∙_}
 use mathlib.Core.Logic.{_⊎_, inl, inr, ⊎-elim}
 use mathlib.Core.Bool.{Bool, true, false}
 use native.Mathlib.Nat.{not-suc-le-zero}
@@ -18,12 +18,12 @@ use Rattle.reading.specs.declared.Cursor.{Cursor}
 use Rattle.reading.specs.declared.Spot.{Spot}
 use Rattle.reading.specs.declared.Item.{Item}
 use Rattle.reading.specs.Cursor.{window, look, goes-on, turn, past, unfinished-at, settle, advance}
-use Rattle.laws.specs.Parts.{part-window, part-set}
+use Rattle.laws.specs.Parts.{Outside, part-window, part-set}
 use Rattle.reading.specs.Fits.{look-inside}
 use Rattle.reading.specs.Along.{From, here, turned, from-advance, Reached}
 use Rattle.reading.specs.Rest.{entry-of}
 use Rattle.reading.specs.Bridge.{rec-part}
-use Rattle.recovery.specs.Kept.{next-kept, kind-dropped}
+use Rattle.recovery.specs.SameRecord.{next-kept, kind-dropped}
 
 -- ---- cursors
 
@@ -35,10 +35,6 @@ pub record Tidy (c : Cursor) : Type 0 where
 -- address a is still to be read from c on
 abbrev pub Ahead : Cursor → ℕ → Type 0
 Ahead c a = ((c .at ≤ a) × (a < c .end)) ⊎ (a < c .room)
-
--- address a is off the n bytes from i on
-abbrev pub Off : ℕ → ℕ → ℕ → Type 0
-Off a i n = (a < i) ⊎ (i + n ≤ a)
 
 pub from-tidy : {image : Image} {c d : Cursor} → From image c d → Tidy c → Tidy d
 from-tidy (here e) t = t
@@ -62,11 +58,11 @@ module _ {image : Image} {c : Cursor} {e : Spot} {behind : Cursor} (tidy : Tidy 
 
   module _ (a : ℕ) where
     -- what is ahead behind the record is off it, and was ahead before
-    pub off-record : Ahead behind a → Off a (r .seen .at) (size-of (e .n) (e .d)) × Ahead (r .seen) a
+    pub off-record : Ahead behind a → Outside a (r .seen .at) (size-of (e .n) (e .d)) × Ahead (r .seen) a
     off-record o = go (rw (r .next-is) at o)
       where
         go : Ahead (past (r .seen) (size-of (e .n) (e .d)) (unfinished-at image (r .seen .at))) a
-            → Off a (r .seen .at) (size-of (e .n) (e .d)) × Ahead (r .seen) a
+            → Outside a (r .seen .at) (size-of (e .n) (e .d)) × Ahead (r .seen) a
         go (inl p) = (inr (p .0), inl (omega (arith, p .0), p .1))
         go (inr p) = (inl (omega (arith, tidy-seen .apart)), inr p)
 
@@ -76,13 +72,13 @@ module _ {image : Image} {c : Cursor} {e : Spot} {behind : Cursor} (tidy : Tidy 
 -- ---- one byte is written
 
 module _ (s : Image) (a b : ℕ) where
-  pub window-kept : (c : Cursor) → c .at ≤ c .end → Off a (c .at) (c .end - c .at) → look (set s a b) c ≡ look s c
+  pub window-kept : (c : Cursor) → c .at ≤ c .end → Outside a (c .at) (c .end - c .at) → look (set s a b) c ≡ look s c
   unfolding look
   window-kept c l o =
       ap (λ (w : List ℕ). allowed (c .pending) (next w))
       (sym (part-window (c .at) (c .end) (set s a b) l) ∙ part-set s (c .at) (c .end - c .at) a b o ∙ part-window (c .at) (c .end) s l)
 
-  pub entry-kept : (e : Spot) → Off a (e .at) (size-of (e .n) (e .d)) → entry-of (set s a b) e ≡ entry-of s e
+  pub entry-kept : (e : Spot) → Outside a (e .at) (size-of (e .n) (e .d)) → entry-of (set s a b) e ≡ entry-of s e
   entry-kept e o =
       let z : ℕ = size-of (e .n) (e .d) in
       ap (λ (x : Rec). record { at = e .at; it = x })
@@ -117,7 +113,7 @@ module _ (s : Image) (c : Cursor) (n d : ℕ) (h : look s c ≡ Next.Record n d)
   fits = look-inside s c n d h
 
   -- the record is read again, if no byte of it is written
-  pub look-kept : (a b : ℕ) → Off a (c .at) (size-of n d) → look (set s a b) c ≡ Next.Record n d
+  pub look-kept : (a b : ℕ) → Outside a (c .at) (size-of n d) → look (set s a b) c ≡ Next.Record n d
   unfolding look
   look-kept a b o =
       let p = allowed-record (c .pending) (next (window s c)) n d h in
