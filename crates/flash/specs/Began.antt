@@ -9,7 +9,7 @@ use lib.Seq.{take-append-le}
 use Rattle.spec.specs.Step.{Image, Step, run}
 use Rattle.flash.specs.declared.Meter.{Meter}
 use Rattle.flash.specs.Did.{Did, did-both}
-use Rattle.flash.specs.Counts.{Enough, Used-up}
+use Rattle.flash.specs.Meters.{Enough, Used-up}
 
 -- from the image s and the meter m, the steps ss were begun and gave the image t and the meter r
 pub record Began (s : Image) (m : Meter) (ss : List Step) (t : Image) (r : Meter) : Type 0 where

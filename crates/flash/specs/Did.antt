@@ -12,7 +12,7 @@ use borrow.Rule.Slice.PartAt.{part-to-end}
 use Rattle.spec.specs.Step.{Image, Step, apply, run, shifted}
 use Rattle.flash.specs.declared.Meter.{Meter}
 use Rattle.laws.specs.Steps.{run-cut, take-shifted, length-shifted, run-part}
-use Rattle.flash.specs.Counts.{Enough}
+use Rattle.flash.specs.Meters.{Enough}
 
 -- from the image s and the meter m, the steps ss gave the image t and the meter r
 pub record Did (s : Image) (m : Meter) (ss : List Step) (t : Image) (r : Meter) : Type 0 where

@@ -1,4 +1,4 @@
-pub mod Counts
+pub mod Meters
 pub mod Did
 pub mod Sector
 pub mod Blank

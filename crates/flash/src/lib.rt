@@ -12,7 +12,7 @@ ghost use Rattle.spec.specs.Basics.{blank};
 ghost use Rattle.laws.specs.Length.{In-range};
 ghost use Rattle.flash.specs.Did.{Did};
 ghost use Rattle.flash.specs.Words.{word, Tells, By-lines, By-words, Run-of};
-ghost use Rattle.flash.specs.Counts.{Counts, Asked-most};
+ghost use Rattle.flash.specs.Meters.{Can-count, Asked-most};
 
 // The steps that a call may do, and those that it has asked for so far. A step past the allowance is counted and not done.
 pub struct Meter {
@@ -23,7 +23,7 @@ pub struct Meter {
 impl Meter {
     // One more step is asked for.
     fn counted(self) -> Meter
-        requires { ⌜ Counts self 1 ⌝ }
+        requires { ⌜ Can-count self 1 ⌝ }
         ensures { λ r. ⌜ (r .asked ≡ self .asked + 1) × (r .allowance ≡ self .allowance) ⌝ }
     {
         Meter {
@@ -35,7 +35,7 @@ impl Meter {
 
 // Programs one byte.
 pub fn program(image: &mut [u8], at: usize, byte: u8, m: Meter) -> Meter
-    requires { ⌜ (at < length (now image)) × Counts m 1 ⌝ }
+    requires { ⌜ (at < length (now image)) × Can-count m 1 ⌝ }
     ensures { λ r. ⌜ Did (now (image .entry)) m (Step.program at byte ∷ []) (now (image .exit)) r ⌝ }
 {
     if m.asked < m.allowance {
@@ -47,7 +47,7 @@ pub fn program(image: &mut [u8], at: usize, byte: u8, m: Meter) -> Meter
 
 // 00 at this address, by way of another byte: two steps, each of which a cut inside the byte must leave readable.
 pub fn clear_by(image: &mut [u8], at: usize, by: u8, m: Meter) -> Meter
-    requires { ⌜ (at < length (now image)) × Counts m 2 ⌝ }
+    requires { ⌜ (at < length (now image)) × Can-count m 2 ⌝ }
     ensures { λ r. ⌜ Did (now (image .entry)) m (Step.program at by ∷ Step.program at 0 ∷ []) (now (image .exit)) r ⌝ }
 {
     let a = program(image, at, by, m);
@@ -56,7 +56,7 @@ pub fn clear_by(image: &mut [u8], at: usize, by: u8, m: Meter) -> Meter
 
 // Erases the sector at this address.
 pub fn erase(image: &mut [u8], at: usize, m: Meter) -> Meter
-    requires { ⌜ (at + 4096 ≤ length (now image)) × Counts m 1 ⌝ }
+    requires { ⌜ (at + 4096 ≤ length (now image)) × Can-count m 1 ⌝ }
     ensures { λ r. ⌜ Did (now (image .entry)) m (Step.erase at ∷ []) (now (image .exit)) r ⌝ }
 {
     if m.allowance <= m.asked {
@@ -72,7 +72,7 @@ pub fn erase(image: &mut [u8], at: usize, m: Meter) -> Meter
 
 // Programs these bytes one after another, from this address on.
 pub fn program_bytes(image: &mut [u8], at: usize, bytes: &[u8], m: Meter) -> Meter
-    requires { ⌜ (at + length (now bytes) ≤ length (now image)) × Counts m (length (now bytes)) ⌝ }
+    requires { ⌜ (at + length (now bytes) ≤ length (now image)) × Can-count m (length (now bytes)) ⌝ }
     ensures { λ r. ⌜ Did (now (image .entry)) m (bytes-at at (now (bytes .entry))) (now (image .exit)) r ⌝ }
 {
     let mut q = m;
@@ -86,7 +86,7 @@ pub fn program_bytes(image: &mut [u8], at: usize, bytes: &[u8], m: Meter) -> Met
 
 // Erases the sectors from the one at `from` on, ascending, as far as they end at `to` at most.
 pub fn erase_sectors(image: &mut [u8], from: usize, to: usize, m: Meter) -> Meter
-    requires { ⌜ In-range from × (to ≤ length (now image)) × In-range to × Counts m to ⌝ }
+    requires { ⌜ In-range from × (to ≤ length (now image)) × In-range to × Can-count m to ⌝ }
     ensures { λ r. ⌜ Did (now (image .entry)) m (map Step.erase (sectors from to)) (now (image .exit)) r × Asked-most m r to ⌝ }
 {
     let mut q = m;

@@ -15,7 +15,7 @@ use Rattle.spec.specs.Numbers.{outcome-of, of-write, refusal}
 use Rattle.spec.specs.Answers.{Plan, numbers-of, carry-out, doing}
 use Rattle.flash.specs.declared.Meter.{Meter}
 use Rattle.flash.specs.Did.{Did}
-use Rattle.flash.specs.Counts.{Enough, Used-up}
+use Rattle.flash.specs.Meters.{Enough, Used-up}
 use Rattle.lilota.specs.declared.Written.{Written}
 use Rattle.lilota.specs.Numbers.{written, Written-told}
 

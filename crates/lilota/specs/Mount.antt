@@ -16,7 +16,7 @@ use Rattle.spec.specs.Move.{Work, begin}
 use Rattle.spec.specs.Mount.{mended, settled}
 use Rattle.spec.specs.Numbers.{Numbers, outcome-of, of-write, of-mount}
 use Rattle.spec.specs.Answers.{Plan, numbers-of, carry-out, mount-work, mount-of, report-of}
-use Rattle.flash.specs.Counts.{Enough, Used-up}
+use Rattle.flash.specs.Meters.{Enough, Used-up}
 use Rattle.reading.specs.declared.Survey.{Survey}
 use Rattle.reading.specs.Read.{reading-of}
 use Rattle.reading.specs.Accepted.{Accepted}

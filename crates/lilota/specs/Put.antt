@@ -30,7 +30,7 @@ use Rattle.reading.specs.Accepted.{Settled, place-sound, marker-room}
 use Rattle.writing.specs.declared.Old.{Old}
 use Rattle.writing.specs.declared.Old.the-variants as old-as
 use Rattle.writing.specs.Old.{old-of, old-entry as entry-of-old, put-old}
-use Rattle.writing.specs.Room.{placed-inside}
+use Rattle.writing.specs.Placing.{placed-inside}
 use Rattle.writing.specs.Put.{Ready}
 
 -- ---- the room

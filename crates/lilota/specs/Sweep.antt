@@ -13,18 +13,18 @@ use Rattle.spec.specs.Sweep.{no-room, moves}
 use Rattle.spec.specs.Numbers.{outcome-of, of-sweep}
 use Rattle.spec.specs.Answers.{finished, numbers-of, carry-out, sweeping, sweep-of}
 use Rattle.flash.specs.declared.Meter.{Meter}
-use Rattle.flash.specs.Counts.{Enough, Used-up}
+use Rattle.flash.specs.Meters.{Enough, Used-up}
 use Rattle.reading.specs.declared.Survey.{Survey}
 use Rattle.reading.specs.RuleLaws.{count-is}
 use Rattle.reading.specs.Read.{reading-of}
 use Rattle.reading.specs.Accepted.{Accepted}
 use Rattle.sweeping.specs.Moves.{Moves, finished-all}
-use Rattle.sweeping.specs.Planned.{Headed}
+use Rattle.sweeping.specs.Planned.{Place-of}
 use Rattle.lilota.specs.declared.Swept.{Swept}
 use Rattle.lilota.specs.Numbers.{swept}
 
 -- what the moves of an image that was read go by
-pub headed : (image : Image) (s : Survey) → Accepted image s → Headed image (s .place)
+pub headed : (image : Image) (s : Survey) → Accepted image s → Place-of image (s .place)
 headed image s w = record { led = w .led; same = ap (λ (r : Reading). r .place) (w .same) }
 
 -- ---- the moves, carried out

@@ -15,7 +15,7 @@ ghost use Rattle.spec.specs.Bytes.{is-start, is-clean, is-record};
 ghost use Rattle.spec.specs.Move.{mark-steps, clean-steps};
 ghost use Rattle.laws.specs.Length.{In-range};
 ghost use Rattle.flash.specs.Did.{Did};
-ghost use Rattle.flash.specs.Counts.{Counts, Asked-most};
+ghost use Rattle.flash.specs.Meters.{Can-count, Asked-most};
 ghost use Rattle.reading.specs.Rest.{entry-of};
 ghost use Rattle.reading.specs.Fold.{Whole};
 ghost use Rattle.moving.specs.Clean.{is-mark, cleaned-steps};
@@ -40,7 +40,7 @@ fn is_mark(b: u8, c: u8) -> bool
 // The pair at this address, if it is such a one, gets 00 as its second byte.
 fn clean_pair(image: &mut [u8], at: usize, m: Meter) -> Meter
     requires { ⌜ at + 1 < length (now image) ⌝ }
-    requires { ⌜ Counts m 1 ⌝ }
+    requires { ⌜ Can-count m 1 ⌝ }
     ensures { λ r. ⌜ (let s = now (image .entry) in Did s m (mark-steps at (drop at s)) (now (image .exit)) r) ⌝ }
     ensures { λ r. ⌜ Asked-most m r 1 ⌝ }
 {
@@ -54,7 +54,7 @@ fn clean_pair(image: &mut [u8], at: usize, m: Meter) -> Meter
 fn clean_bytes(image: &mut [u8], at: usize, d: usize, m: Meter) -> Meter
     requires { ⌜ at + d ≤ length (now image) ⌝ }
     requires { ⌜ In-range (length (now image)) ⌝ }
-    requires { ⌜ Counts m d ⌝ }
+    requires { ⌜ Can-count m d ⌝ }
     ensures { λ r. ⌜ (let s = now (image .entry) in Did s m (clean-steps d at (take d (drop at s))) (now (image .exit)) r) ⌝ }
     ensures { λ r. ⌜ Asked-most m r d ⌝ }
 {
@@ -71,7 +71,7 @@ fn clean_bytes(image: &mut [u8], at: usize, d: usize, m: Meter) -> Meter
 pub fn clean_data(image: &mut [u8], x: Spot, m: Meter) -> Meter
     requires { ⌜ Whole (now image) x ⌝ }
     requires { ⌜ In-range (length (now image)) ⌝ }
-    requires { ⌜ Counts m (x .d) ⌝ }
+    requires { ⌜ Can-count m (x .d) ⌝ }
     ensures { λ r. ⌜ (let s = now (image .entry) in Did s m (cleaned-steps (entry-of s x)) (now (image .exit)) r) ⌝ }
     ensures { λ r. ⌜ Asked-most m r (x .d) ⌝ }
 {

@@ -2,7 +2,7 @@
 use Prim.Native.Nat.{ℕ, _≤_, _<_}
 use native.Mathlib.Omega.{arith}
 use mathlib.Core.Path.{_≡_, refl, sym, ap, _∙_}
-use mathlib.Core.Bool.{Bool, true, false, _&&_, _||_}
+use mathlib.Core.Bool.{Bool, true, false, _||_}
 use mathlib.Core.List.{List, [], _∷_, _++_}
 use lib.ListN.{length}
 use Rattle.spec.specs.Basics.{any, same, Each}
@@ -14,9 +14,8 @@ use Rattle.reading.specs.declared.Repeats.{Repeats}
 use Rattle.reading.specs.Filter.{signature-of, In-table, has, with, has-set, has-kept, length-with}
 use Rattle.reading.specs.FileLaws.{is-file}
 use Rattle.reading.specs.Repeats.{repeats-of, earlier-of, repeats-with, repeats-none, repeats-same, repeats-more, repeats-first}
-use Rattle.reading.specs.NamesLaw.{wrong}
 use Rattle.reading.specs.Prefix.{each-last}
-use Rattle.laws.specs.Tests.{and-left, and-right}
+use Rattle.laws.specs.Tests.{wrong, and-left, and-right}
 use Rattle.laws.specs.Lists.{same-is}
 
 abbrev pub signed : Entry → Signature

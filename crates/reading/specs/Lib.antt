@@ -2,6 +2,7 @@ pub mod HeadLaws
 pub mod Cursor
 pub mod Fits
 pub mod CursorLaws
+pub mod Along
 pub mod Rest
 pub mod Bridge
 pub mod Ends

@@ -9,7 +9,7 @@ use Rattle.spec.specs.Files.{files}
 use Rattle.spec.specs.Move.{Work}
 use Rattle.spec.specs.Mount.{mended}
 use Rattle.flash.specs.declared.Meter.{Meter}
-use Rattle.flash.specs.Counts.{Enough, Used-up}
+use Rattle.flash.specs.Meters.{Enough, Used-up}
 use Rattle.reading.specs.declared.Survey.{Survey}
 use Rattle.reading.specs.Rest.{rest}
 use Rattle.reading.specs.Read.{first-cursor, reading-of}

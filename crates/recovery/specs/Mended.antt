@@ -14,7 +14,7 @@ use Rattle.spec.specs.Move.{Work, begin, after}
 use Rattle.spec.specs.Mount.{repair-1, repair-2-on, repair-3, drop-steps, repair-4, mended}
 use Rattle.flash.specs.declared.Meter.{Meter}
 use Rattle.flash.specs.Did.{Did}
-use Rattle.flash.specs.Counts.{Enough, Used-up}
+use Rattle.flash.specs.Meters.{Enough, Used-up}
 use Rattle.reading.specs.declared.Item.{Item}
 use Rattle.reading.specs.Rest.{rest}
 use Rattle.reading.specs.Bridge.{shown, reading-is}

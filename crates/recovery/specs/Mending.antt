@@ -13,7 +13,7 @@ use Rattle.spec.specs.Move.{Work, begin, after}
 use Rattle.flash.specs.declared.Meter.{Meter}
 use Rattle.flash.specs.Did.{Did, did-none, did-all}
 use Rattle.flash.specs.Began.{Began, began-did, began-both, began-cut}
-use Rattle.flash.specs.Counts.{Enough, Used-up}
+use Rattle.flash.specs.Meters.{Enough, Used-up}
 
 -- the steps of w were begun; once all are done, w's image is t, which is read from the head h on
 pub record Mending (s : Image) (m : Meter) (w : Work) (t : Image) (h : ℕ) (r : Meter) : Type 0 where

@@ -17,7 +17,7 @@ ghost use Rattle.spec.specs.Chain.{reading-from};
 ghost use Rattle.spec.specs.Mount.{erase-steps};
 ghost use Rattle.laws.specs.Length.{In-range};
 ghost use Rattle.flash.specs.Did.{Did};
-ghost use Rattle.flash.specs.Counts.{Counts, Asked-most};
+ghost use Rattle.flash.specs.Meters.{Can-count, Asked-most};
 ghost use Rattle.reading.specs.FreeLaws.{In-image};
 ghost use Rattle.recovery.specs.Readable.{Readable};
 ghost use Rattle.recovery.specs.Repairs.{steps-1};
@@ -35,7 +35,7 @@ fn ceiling(a: usize) -> usize
 fn erase_run(image: &mut [u8], p: Place, m: Meter) -> Meter
     requires { ⌜ In-image (now image) p ⌝ }
     requires { ⌜ (p .turned ≡ false → p .head ≤ p .tail) ⌝ }
-    requires { ⌜ Counts m (2 * length (now image)) ⌝ }
+    requires { ⌜ Can-count m (2 * length (now image)) ⌝ }
     ensures { λ r. ⌜ (let s = now (image .entry) in Did s m (erase-steps s p) (now (image .exit)) r) ⌝ }
     ensures { λ r. ⌜ Asked-most m r (2 * length (now (image .entry))) ⌝ }
 {
@@ -51,7 +51,7 @@ fn erase_run(image: &mut [u8], p: Place, m: Meter) -> Meter
 // The repair, on what is read from the head h on.
 pub fn erase_free(image: &mut [u8], h: usize, m: Meter) -> Meter
     requires { ⌜ Readable (now image) h ⌝ }
-    requires { ⌜ Counts m (2 * length (now image) + 2) ⌝ }
+    requires { ⌜ Can-count m (2 * length (now image) + 2) ⌝ }
     ensures { λ r. ⌜ (let s = now (image .entry) in Did s m (steps-1 s (reading-from s h)) (now (image .exit)) r) ⌝ }
     ensures { λ r. ⌜ Asked-most m r (2 * length (now (image .entry)) + 2) ⌝ }
 {

@@ -17,7 +17,7 @@ use reading::image::survey;
 use superseded::drop_superseded;
 ghost use Prim.Native.Nat.{_<_, _^_};
 ghost use lib.ListN.{length};
-ghost use Rattle.flash.specs.Counts.{Counts, Enough};
+ghost use Rattle.flash.specs.Meters.{Can-count, Enough};
 ghost use Rattle.recovery.specs.Readable.{Readable};
 ghost use Rattle.recovery.specs.Mended.{Mends};
 ghost use Rattle.recovery.specs.Counted.{Counted};
@@ -25,7 +25,7 @@ ghost use Rattle.recovery.specs.Counted.{Counted};
 // The four repairs. The next one reads what those before it left, so none begins once the allowance is used up.
 fn repair(image: &mut [u8], head: usize, m: Meter) -> NewHead
     requires { ⌜ Readable (now image) head ⌝ }
-    requires { ⌜ Counts m (2 ^ 31) ⌝ }
+    requires { ⌜ Can-count m (2 ^ 31) ⌝ }
     requires { ⌜ Enough m ⌝ }
     ensures { λ r. ⌜ Mends (now (image .entry)) head m (now (image .exit)) (r .head) (r .meter) ⌝ }
     ensures { λ r. ⌜ r .head < length (now (image .entry)) ⌝ }
@@ -67,7 +67,7 @@ pub struct Mended {
 // Mount, on an image that was read from this head.
 pub fn mend(image: &mut [u8], head: usize, m: Meter) -> Mended
     requires { ⌜ Readable (now image) head ⌝ }
-    requires { ⌜ Counts m (2 ^ 31) ⌝ }
+    requires { ⌜ Can-count m (2 ^ 31) ⌝ }
     requires { ⌜ Enough m ⌝ }
     ensures { λ r. ⌜ Counted (now (image .entry)) head m (now (image .exit)) r ⌝ }
 {

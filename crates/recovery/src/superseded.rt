@@ -14,7 +14,7 @@ ghost use lib.ListN.{length};
 ghost use Rattle.spec.specs.Chain.{reading-from};
 ghost use Rattle.spec.specs.Mount.{drop-steps};
 ghost use Rattle.flash.specs.Did.{Did};
-ghost use Rattle.flash.specs.Counts.{Counts, Asked-most};
+ghost use Rattle.flash.specs.Meters.{Can-count, Asked-most};
 ghost use Rattle.reading.specs.Cursor.{Cursor-sound};
 ghost use Rattle.reading.specs.Rest.{entry-of, rest};
 ghost use Rattle.reading.specs.Fold.{Whole};
@@ -25,7 +25,7 @@ ghost use Rattle.recovery.specs.Drop.{dropped};
 fn drop_one(image: &mut [u8], start: Cursor, e: Spot, m: Meter) -> Meter
     requires { ⌜ Cursor-sound (now image) start ⌝ }
     requires { ⌜ Whole (now image) e ⌝ }
-    requires { ⌜ Counts m 1 ⌝ }
+    requires { ⌜ Can-count m 1 ⌝ }
     ensures { λ r. ⌜ (let s = now (image .entry) in
         Did s m (dropped (rest s start .entries) (entry-of s e ∷ [])) (now (image .exit)) r) ⌝ }
     ensures { λ r. ⌜ Asked-most m r 1 ⌝ }
@@ -39,7 +39,7 @@ fn drop_one(image: &mut [u8], start: Cursor, e: Spot, m: Meter) -> Meter
 // Deleting one of them doesn't change which others are superseded, nor where the chain goes on.
 pub fn drop_superseded(image: &mut [u8], h: usize, m: Meter) -> Meter
     requires { ⌜ Readable (now image) h ⌝ }
-    requires { ⌜ Counts m (2 * length (now image)) ⌝ }
+    requires { ⌜ Can-count m (2 * length (now image)) ⌝ }
     ensures { λ r. ⌜ (let s = now (image .entry) in Did s m (drop-steps (reading-from s h .entries)) (now (image .exit)) r) ⌝ }
 {
     let start = first_cursor(image, h);

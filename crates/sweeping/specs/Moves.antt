@@ -11,7 +11,7 @@ use Rattle.spec.specs.Answers.{finished}
 use Rattle.flash.specs.declared.Meter.{Meter}
 use Rattle.flash.specs.Did.{did-none}
 use Rattle.flash.specs.Began.{Began, began-did, began-both, began-cut}
-use Rattle.flash.specs.Counts.{Enough, Used-up}
+use Rattle.flash.specs.Meters.{Enough, Used-up}
 
 pub record Moves (s : Image) (m : Meter) (ms : List (List Step)) (t : Image) (n : ℕ) (r : Meter) : Type 0 where
   pub begun : Began s m (concat ms) t r

@@ -10,7 +10,7 @@ use Rattle.spec.specs.Step.{Image}
 use Rattle.spec.specs.Chain.{Reading, reading-from}
 use Rattle.spec.specs.Sweep.{stuck, moves}
 use Rattle.flash.specs.declared.Meter.{Meter}
-use Rattle.flash.specs.Counts.{Asked-most, Enough, Used-up}
+use Rattle.flash.specs.Meters.{Asked-most, Enough, Used-up}
 use Rattle.reading.specs.declared.Survey.{Survey}
 use Rattle.reading.specs.Survey.{Seen}
 use Rattle.moving.specs.declared.NewHead.{NewHead}
@@ -18,7 +18,7 @@ use Rattle.sweeping.specs.declared.MoveEnd.{MoveEnd}
 use Rattle.flash.specs.Began.{Began}
 use Rattle.sweeping.specs.Moves.{Moves, moves-none, moves-cut, moves-more}
 use Rattle.laws.specs.Sweep.{moves-stuck, moves-next}
-use Rattle.sweeping.specs.Planned.{Headed}
+use Rattle.sweeping.specs.Planned.{Place-of}
 use Rattle.sweeping.specs.WholeMove.{whole-move, Left, Move-made}
 
 -- a move that was cut
@@ -33,7 +33,7 @@ pub record Move-done (s : Image) (h : ℕ) (m : Meter) (t : Image) (p : Place) (
   pub begun : Began s m (whole-move s h .steps) t q
   pub within : Enough q
   pub left : Left s h t (p .head)
-  pub headed : Headed t p
+  pub headed : Place-of t p
   pub few : Asked-most m q (2 ^ 26)
 
 abbrev pub Move-ended : Image → ℕ → Meter → Image → MoveEnd → Type 0
@@ -65,10 +65,10 @@ done-seen {s} {t} {h} {m} {r} {v} on w l seen =
 pub record Sweeping (s : Image) (m : Meter) (k h : ℕ) (t : Image) (q : Meter) (left : ℕ) (p : Place) (n : ℕ) : Type 0 where
   pub onward : (u : Image) (i : ℕ) (r : Meter) → Moves t q (moves left t (reading-from t (p .head))) u i r
       → Moves s m (moves k s (reading-from s h)) u (n + i) r
-  pub headed : Headed t p
+  pub headed : Place-of t p
   pub few : q .asked + left * 2 ^ 26 ≤ 2 ^ 30
 
-pub sweeping-start : {s : Image} {m : Meter} {k : ℕ} (p : Place) → Headed s p → k ≤ 5 → m .asked ≤ 2 ^ 16 → Sweeping s m k (p .head) s m k p 0
+pub sweeping-start : {s : Image} {m : Meter} {k : ℕ} (p : Place) → Place-of s p → k ≤ 5 → m .asked ≤ 2 ^ 16 → Sweeping s m k (p .head) s m k p 0
 sweeping-start p w l f = record { onward = λ u i r v. rw zero-add v; headed = w; few = omega arith }
 
 module _ {s : Image} {m : Meter} {k h : ℕ} {t : Image} {q : Meter} {left : ℕ} {p : Place} {n : ℕ} (w : Sweeping s m k h t q left p n) where

@@ -9,10 +9,10 @@ use Rattle.spec.specs.Chain.{reading-from}
 use Rattle.spec.specs.Move.{Work, begin, move}
 use Rattle.flash.specs.declared.Meter.{Meter}
 use Rattle.flash.specs.Did.{Did, did-all}
-use Rattle.flash.specs.Counts.{Asked-most, Enough, Used-up}
+use Rattle.flash.specs.Meters.{Asked-most, Enough, Used-up}
 use Rattle.moving.specs.declared.NewHead.{NewHead}
 use Rattle.flash.specs.Began.{Began, began-did, began-both, began-cut}
-use Rattle.sweeping.specs.Steps.{copying, handing, heading, move-is}
+use Rattle.sweeping.specs.MoveSteps.{copying, handing, heading, move-is}
 use Rattle.reading.specs.Standing.{Led, stands}
 use Rattle.sweeping.specs.Handed.{Handed}
 

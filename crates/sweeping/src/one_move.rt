@@ -19,16 +19,16 @@ ghost use lib.ListN.{length, getD};
 ghost use Rattle.spec.specs.Chain.{reading-from};
 ghost use Rattle.spec.specs.Sweep.{no-room};
 ghost use Rattle.flash.specs.Did.{Did};
-ghost use Rattle.flash.specs.Counts.{Counts, Asked-most};
-ghost use Rattle.sweeping.specs.Steps.{copying};
+ghost use Rattle.flash.specs.Meters.{Can-count, Asked-most};
+ghost use Rattle.sweeping.specs.MoveSteps.{copying};
 ghost use Rattle.reading.specs.Standing.{Led};
-ghost use Rattle.sweeping.specs.Planned.{Headed, Planned, Going};
+ghost use Rattle.sweeping.specs.Planned.{Place-of, Planned, Going};
 ghost use Rattle.sweeping.specs.Handed.{Handed};
 ghost use Rattle.sweeping.specs.WholeMove.{Move-made};
 
 // A live head moves if its copy fits, a dead one if a record stands behind it.
 pub fn plan(image: &[u8], place: Place) -> Plan
-    requires { ⌜ Headed (now image) place ⌝ }
+    requires { ⌜ Place-of (now image) place ⌝ }
     ensures { λ r. ⌜ Planned (now (image .entry)) place r ⌝ }
 {
     let start = first_cursor(image, place.head);
@@ -49,7 +49,7 @@ pub fn plan(image: &[u8], place: Place) -> Plan
 
 // The head's record is live and does not fit.
 pub fn no_room(image: &[u8], place: Place) -> bool
-    requires { ⌜ Headed (now image) place ⌝ }
+    requires { ⌜ Place-of (now image) place ⌝ }
     ensures { λ r. ⌜ (let v = reading-from (now (image .entry)) (place .head) in r ≡ no-room v (v .entries)) ⌝ }
 {
     let p = plan(image, place);
@@ -61,9 +61,9 @@ pub fn no_room(image: &[u8], place: Place) -> bool
 
 // Step (a).
 fn copy(image: &mut [u8], place: Place, plan: Plan, m: Meter) -> Meter
-    requires { ⌜ Headed (now image) place ⌝ }
+    requires { ⌜ Place-of (now image) place ⌝ }
     requires { ⌜ Going (now image) place plan ⌝ }
-    requires { ⌜ Counts m (2 ^ 31) ⌝ }
+    requires { ⌜ Can-count m (2 ^ 31) ⌝ }
     ensures { λ r. ⌜ (let s = now (image .entry) in Did s m (copying s (place .head)) (now (image .exit)) r) ⌝ }
     ensures { λ r. ⌜ Asked-most m r (length (now (image .entry)) + 15) ⌝ }
     ensures { λ r. ⌜ getD (now (image .exit)) (place .head) 0 ≡ getD (now (image .entry)) (place .head) 0 ⌝ }
@@ -77,7 +77,7 @@ fn copy(image: &mut [u8], place: Place, plan: Plan, m: Meter) -> Meter
 // Steps (b) to (f), of the first two records from the head on; with fewer there is nothing to do.
 fn hand_over(image: &mut [u8], head: usize, m: Meter) -> NewHead
     requires { ⌜ Led (now image) head ⌝ }
-    requires { ⌜ Counts m (2 * length (now image) + 4) ⌝ }
+    requires { ⌜ Can-count m (2 * length (now image) + 4) ⌝ }
     ensures { λ r. ⌜ Handed (now (image .entry)) head m (now (image .exit)) r ⌝ }
 {
     let Item::Record(x, past) = advance(image, first_cursor(image, head)) else {
@@ -102,9 +102,9 @@ fn hand_over(image: &mut [u8], head: usize, m: Meter) -> NewHead
 
 // The whole move. Y may be X's own copy, so that it is looked for only after the copy is done.
 pub fn move_head(image: &mut [u8], place: Place, plan: Plan, m: Meter) -> NewHead
-    requires { ⌜ Headed (now image) place ⌝ }
+    requires { ⌜ Place-of (now image) place ⌝ }
     requires { ⌜ Going (now image) place plan ⌝ }
-    requires { ⌜ Counts m (2 ^ 31) ⌝ }
+    requires { ⌜ Can-count m (2 ^ 31) ⌝ }
     ensures { λ r. ⌜ Move-made (now (image .entry)) (place .head) m (now (image .exit)) r ⌝ }
 {
     let a = copy(image, place, plan, m);

@@ -18,7 +18,7 @@ ghost use Prim.Native.Nat.{_+_, _<_};
 ghost use lib.ListN.{length};
 ghost use Rattle.spec.specs.Write.{migrate-steps, delete-steps, put-steps};
 ghost use Rattle.flash.specs.Did.{Did};
-ghost use Rattle.flash.specs.Counts.{Counts};
+ghost use Rattle.flash.specs.Meters.{Can-count};
 ghost use Rattle.writing.specs.Old.{old-entry, Lies};
 ghost use Rattle.writing.specs.Put.{marks, Ready};
 
@@ -32,7 +32,7 @@ pub enum Old {
 pub fn prepare(image: &mut [u8], old: Old, tail: usize, marker: bool, m: Meter) -> Meter
     requires { ⌜ Lies old (length (now image)) ⌝ }
     requires { ⌜ (marker ≡ true → tail + 2 < length (now image)) ⌝ }
-    requires { ⌜ Counts m 4 ⌝ }
+    requires { ⌜ Can-count m 4 ⌝ }
     ensures { λ r. ⌜ Did (now (image .entry)) m (migrate-steps (old-entry old) ++ marks marker tail) (now (image .exit)) r ⌝ }
 {
     let a = migrate(image, old, m);
@@ -45,7 +45,7 @@ pub fn prepare(image: &mut [u8], old: Old, tail: usize, marker: bool, m: Meter) 
 // FC to F8: the old file stays readable until it is deleted.
 fn migrate(image: &mut [u8], old: Old, m: Meter) -> Meter
     requires { ⌜ Lies old (length (now image)) ⌝ }
-    requires { ⌜ Counts m 1 ⌝ }
+    requires { ⌜ Can-count m 1 ⌝ }
     ensures { λ r. ⌜ Did (now (image .entry)) m (migrate-steps (old-entry old)) (now (image .exit)) r ⌝ }
 {
     let Old::At { at, status } = old else {
@@ -60,7 +60,7 @@ fn migrate(image: &mut [u8], old: Old, m: Meter) -> Meter
 // The old file's status 00.
 pub fn delete(image: &mut [u8], old: Old, m: Meter) -> Meter
     requires { ⌜ Lies old (length (now image)) ⌝ }
-    requires { ⌜ Counts m 1 ⌝ }
+    requires { ⌜ Can-count m 1 ⌝ }
     ensures { λ r. ⌜ Did (now (image .entry)) m (delete-steps (old-entry old)) (now (image .exit)) r ⌝ }
 {
     let Old::At { at, .. } = old else {

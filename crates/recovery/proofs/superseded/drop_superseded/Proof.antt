@@ -10,7 +10,8 @@ use Rattle.reading.specs.Fold.{passes}
 use Rattle.reading.specs.Read.{first-cursor}
 use Rattle.reading.specs.Survey.{first-sound}
 use Rattle.reading.proofs.Others.{other-step}
-use Rattle.recovery.specs.Drop.{Dropping, dropping-start, dropping-more, dropping-end, tidy-first, sound-same, entries-of}
+use Rattle.recovery.specs.Drop.{Dropping, dropping-start, dropping-more, dropping-end, tidy-first, sound-same}
+use Rattle.reading.specs.Standing.{entries-from}
 use Rattle.recovery.proofs.superseded.drop_superseded.Statement.{statement}
 use Rattle.recovery.proofs.superseded.drop_superseded.Tie as tie
 
@@ -46,7 +47,7 @@ returns : tie.Need-returns Inv-loop μ-loop
 returns c =
     let c4 = c .before .before .before .before in
     let a = c4 .before .before .before .args in
-    rw (ap (λ k. rest (a .image .now) k .entries) (c4 .first-cursor .ensures) ∙ entries-of (a .image .now) (a .h) (omega arith)) at
+    rw (ap (λ k. rest (a .image .now) k .entries) (c4 .first-cursor .ensures) ∙ sym (entries-from (a .image .now) (a .h) (omega arith))) at
     (dropping-end (c .before .before .before .loop .inv .3) (c .before .advance .result) (c .before .advance .ensures .0)
     (other-step (c .before .advance .result) (c .match .keys2)))
 

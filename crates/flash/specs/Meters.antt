@@ -3,8 +3,8 @@ use Prim.Native.Nat.{ℕ, _+_, _≤_, _<_, _^_}
 use Rattle.flash.specs.declared.Meter.{Meter}
 
 -- k steps more can be counted
-abbrev pub Counts : Meter → ℕ → Type 0
-Counts m k = m .asked + k ≤ 2 ^ 32
+abbrev pub Can-count : Meter → ℕ → Type 0
+Can-count m k = m .asked + k ≤ 2 ^ 32
 
 -- from m to r at most k steps were asked for
 abbrev pub Asked-most : Meter → Meter → ℕ → Type 0
