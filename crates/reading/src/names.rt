@@ -74,7 +74,7 @@ fn earlier(image: &[u8], start: Cursor, count: usize, e: Spot) -> Earlier
             return f;
         }
         let s = advance(image, c);
-        let Item::Record(x, next) = s else {
+        let Item::Record { spot: x, next } = s else {
             return f;
         };
         f = earlier_with(image, f, e, x);
@@ -146,7 +146,7 @@ pub fn repeats(image: &[u8], start: Cursor) -> Repeats
     };
     loop {
         let s = advance(image, c);
-        let Item::Record(e, next) = s else {
+        let Item::Record { spot: e, next } = s else {
             return n;
         };
         n = repeats_and(image, start, count, &mut table, n, e);
