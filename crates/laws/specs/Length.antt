@@ -1,5 +1,5 @@
 -- The lengths that the code works with, and what a good length gives.
-use Prim.Native.Nat.{ℕ, _%_, _≤_, _^_}
+use Prim.Native.Nat.{ℕ, _%_, _≤_, _<_, _^_}
 use mathlib.Core.Path.{_≡_}
 use mathlib.Core.Bool.{true, _&&_}
 use lib.ListN.{length}
@@ -12,6 +12,10 @@ use Rattle.laws.specs.Tests.{and-left, and-right}
 -- an address or a length of the largest image at most
 abbrev pub In-range : ℕ → Type 0
 In-range n = n ≤ 2 ^ 24
+
+-- a number to which an address or a length can be added
+abbrev pub Addable : ℕ → Type 0
+Addable n = n < 2 ^ 32
 
 -- an image with two boundaries at least, in range: good or not, its chain can be read
 abbrev pub Workable : Image → Type 0

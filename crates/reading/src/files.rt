@@ -84,7 +84,7 @@ pub fn has_named(image: &[u8], start: Cursor, status: Status, e: Spot) -> bool
     let mut c = start;
     loop {
         let s = advance(image, c);
-        let Item::Record(f, next) = s else {
+        let Item::Record { spot: f, next } = s else {
             return false;
         };
         if named_as(image, status, e, f) {
@@ -117,7 +117,7 @@ pub fn count_files(image: &[u8], start: Cursor) -> usize
     let mut count = 0;
     loop {
         let s = advance(image, c);
-        let Item::Record(e, next) = s else {
+        let Item::Record { spot: e, next } = s else {
             return count;
         };
         if is_live(image, start, e) {
@@ -161,7 +161,7 @@ pub fn file_named(image: &[u8], start: Cursor, name: &[u8]) -> Found
         let o = skip_others(image, c, name, image.len());
         let here = o.cursor;
         let s = advance(image, here);
-        let Item::Record(e, next) = s else {
+        let Item::Record { spot: e, next } = s else {
             return Found::Nothing;
         };
         if is_file(image, e) {
@@ -183,7 +183,7 @@ pub fn file_indexed(image: &[u8], start: Cursor, index: usize) -> Found
     let mut left = index;
     loop {
         let s = advance(image, c);
-        let Item::Record(e, next) = s else {
+        let Item::Record { spot: e, next } = s else {
             return Found::Nothing;
         };
         if is_file(image, e) {

@@ -89,7 +89,7 @@ fn gather_plain(image: &[u8], start: Cursor, table: &mut [u64; WORDS], first: Ga
     loop {
         let c = g.cursor;
         let s = near(image, c);
-        let Nearby::Record(e, next) = s else {
+        let Nearby::Record { spot: e, next } = s else {
             return g;
         };
         if is_file(image, e) {
@@ -132,7 +132,7 @@ pub fn gather(image: &[u8], start: Cursor) -> FullPass
     loop {
         let c = g.cursor;
         let s = advance(image, c);
-        let Item::Record(e, next) = s else {
+        let Item::Record { spot: e, next } = s else {
             let t = g.tally;
             let n = g.repeats;
             return FullPass {

@@ -60,10 +60,10 @@ fn survey_of(n: usize, h: usize, end: Item, t: Tally) -> Survey
     ensures { λ r. ⌜ r ≡ survey-of n h end t ⌝ }
 {
     match end {
-        Item::Record(_, _) => told(n, h, 0, false, Ending::Broken, t),
-        Item::End(tail, turned) => told(n, h, tail, turned, Ending::Tail, t),
-        Item::TornWrap(at) => told(n, h, 0, true, Ending::TornWrap { at: at }, t),
-        Item::Broken(tail, turned) => told(n, h, tail, turned, Ending::Broken, t),
+        Item::Record { .. } => told(n, h, 0, false, Ending::Broken, t),
+        Item::End { at, turned } => told(n, h, at, turned, Ending::Tail, t),
+        Item::TornWrap { at } => told(n, h, 0, true, Ending::TornWrap { at: at }, t),
+        Item::Broken { at, turned } => told(n, h, at, turned, Ending::Broken, t),
     }
 }
 

@@ -56,15 +56,15 @@ pub struct Spot {
 
 // What stands at a cursor: a record, with the cursor past it; or how the chain ends, with the address and whether it had turned.
 pub enum Item {
-    Record(Spot, Cursor),
-    End(usize, bool),
-    TornWrap(usize),
-    Broken(usize, bool),
+    Record { spot: Spot, next: Cursor },
+    End { at: usize, turned: bool },
+    TornWrap { at: usize },
+    Broken { at: usize, turned: bool },
 }
 
 // A plain record at a cursor, with the cursor past it; or anything else.
 pub enum Nearby {
-    Record(Spot, Cursor),
+    Record { spot: Spot, next: Cursor },
     Other,
 }
 

@@ -78,7 +78,7 @@ fn earlier(image: &[u8], start: Cursor, count: usize, e: Spot) -> Earlier
         }
         let here = o.cursor;
         let s = advance(image, here);
-        let Item::Record(x, next) = s else {
+        let Item::Record { spot: x, next } = s else {
             return f;
         };
         f = earlier_with(image, f, e, x);

@@ -53,17 +53,17 @@ pub fn near(image: &[u8], c: Cursor) -> Nearby
     let at = c.at;
     let end = c.end;
     let x = plain_of(&image[at..end]);
-    let Next::Record(n, d) = x else {
+    let Next::Record { n, d } = x else {
         return Nearby::Other;
     };
-    Nearby::Record(
-        Spot { at: at, n: n, d: d },
-        Cursor {
+    Nearby::Record {
+        spot: Spot { at: at, n: n, d: d },
+        next: Cursor {
             at: at + size(n, d),
             end: end,
             room: c.room,
             turned: c.turned,
             pending: false,
         },
-    )
+    }
 }

@@ -101,7 +101,7 @@ fn stow_chain(image: &[u8], start: Cursor, place: Place, name: &[u8], first: Sto
     let mut stowed = first;
     loop {
         let s = advance(image, c);
-        let Item::Record(e, next) = s else {
+        let Item::Record { spot: e, next } = s else {
             return stowed;
         };
         stowed = stow_record(image, place, e, name, stowed);

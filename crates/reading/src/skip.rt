@@ -36,7 +36,7 @@ pub fn skip_others(image: &[u8], start: Cursor, name: &[u8], most: usize) -> Ski
     let mut left = most;
     while 0 < left {
         let s = near(image, c);
-        let Nearby::Record(e, next) = s else {
+        let Nearby::Record { spot: e, next } = s else {
             return Skipped {
                 cursor: c,
                 left: left,

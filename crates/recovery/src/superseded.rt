@@ -47,7 +47,7 @@ pub fn drop_superseded(image: &mut [u8], h: usize, m: Meter) -> Meter
     let mut c = start;
     loop {
         let s = advance(image, c);
-        let Item::Record(e, next) = s else {
+        let Item::Record { spot: e, next } = s else {
             return q;
         };
         q = drop_one(image, start, e, q);

@@ -19,10 +19,10 @@ pub enum Kind {
     Bad,
 }
 
-// What stands at the front of a part: a record with the lengths of its name and of its data, a wrap marker,
-// a torn one, eight FF bytes, nothing at all, or what breaks a rule.
+// What stands at the front of a part: a record with n name bytes and d data bytes, a wrap marker, a torn one, eight FF bytes,
+// nothing at all, or what breaks a rule.
 pub enum Next {
-    Record(usize, usize),
+    Record { n: usize, d: usize },
     Wrap,
     TornWrap,
     Clear,

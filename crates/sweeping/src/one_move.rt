@@ -32,7 +32,11 @@ pub fn plan(image: &[u8], place: Place) -> Plan
     ensures { λ r. ⌜ Planned (now (image .entry)) place r ⌝ }
 {
     let start = first_cursor(image, place.head);
-    let Item::Record(x, past) = advance(image, start) else {
+    let Item::Record {
+        spot: x,
+        next: past,
+    } = advance(image, start)
+    else {
         return Plan::Stop { full: false };
     };
     if is_live(image, start, x) {
@@ -41,7 +45,7 @@ pub fn plan(image: &[u8], place: Place) -> Plan
         };
         return Plan::Copy { n: x.n, d: x.d };
     }
-    let Item::Record(_, _) = advance(image, past) else {
+    let Item::Record { .. } = advance(image, past) else {
         return Plan::Stop { full: false };
     };
     Plan::Leave
@@ -80,13 +84,17 @@ fn hand_over(image: &mut [u8], head: usize, m: Meter) -> NewHead
     requires { ⌜ Can-count m (2 * length (now image) + 4) ⌝ }
     ensures { λ r. ⌜ Handed (now (image .entry)) head m (now (image .exit)) r ⌝ }
 {
-    let Item::Record(x, past) = advance(image, first_cursor(image, head)) else {
+    let Item::Record {
+        spot: x,
+        next: past,
+    } = advance(image, first_cursor(image, head))
+    else {
         return NewHead {
             head: head,
             meter: m,
         };
     };
-    let Item::Record(y, _) = advance(image, past) else {
+    let Item::Record { spot: y, .. } = advance(image, past) else {
         return NewHead {
             head: head,
             meter: m,
