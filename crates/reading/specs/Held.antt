@@ -22,6 +22,12 @@ use Rattle.laws.specs.Lists.{same-is}
 abbrev pub signed : Entry → Signature
 signed e = signature-of (name-of e)
 
+-- e is a file, and s are the bits of its name
+pub record File-signed (e : Entry) (s : Signature) : Type 0 where
+  pub file : is-file e ≡ true
+  pub bits : s ≡ signed e
+  pub inside : In-table s
+
 -- e's name is in the table, if e is a file
 abbrev In : List ℕ → Entry → Type 0
 In table e = is-file e ≡ true → has table (signed e) ≡ true

@@ -14,6 +14,7 @@ pub mod Faithful
 pub mod TallyLaws
 pub mod NamesLaw
 pub mod Filter
+pub mod Marks
 pub mod Repeats
 pub mod Prefix
 pub mod Held

@@ -10,14 +10,14 @@ pub const WORDS: usize = 512;
 
 const HASH_LIMIT: u64 = 0x1_0000_0000;
 
-fn wide(x: u8) -> u64
+pub fn wide(x: u8) -> u64
     ensures { λ r. ⌜ (r ≡ x) × (r < 256) ⌝ }
 {
     x as u64
 }
 
 // The hash with one byte more.
-fn mixed(h: u64, byte: u64) -> u64
+pub fn mixed(h: u64, byte: u64) -> u64
     requires { ⌜ (h < 2 ^ 32) × (byte < 256) ⌝ }
     ensures { λ r. ⌜ (r ≡ mixed h byte) × (r < 2 ^ 32) ⌝ }
 {
@@ -60,7 +60,7 @@ fn two_bits(x: u64) -> u64
 }
 
 // The words of a name with this hash, and the bits that it sets there.
-fn signature_by(h: u64) -> Signature
+pub fn signature_by(h: u64) -> Signature
     requires { ⌜ h < 2 ^ 32 ⌝ }
     ensures { λ r. ⌜ (r ≡ signature-by h) × In-table r ⌝ }
 {

@@ -7,6 +7,7 @@ pub mod free;
 mod gather;
 mod head;
 pub mod image;
+mod marks;
 mod names;
 mod plain;
 pub mod room;
@@ -85,6 +86,12 @@ pub struct Signature {
     pub bits: u64,
     pub other: usize,
     pub more: u64,
+}
+
+// Whether a name is a good one, and what it sets in the table.
+pub struct NameMarks {
+    pub fine: bool,
+    pub signature: Signature,
 }
 
 // Whether an FC record and whether an F8 record of some name stand in a part of the chain.

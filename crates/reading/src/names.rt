@@ -19,14 +19,14 @@ ghost use mathlib.Core.Path.{_≡_};
 ghost use mathlib.Core.Bool.{_||_};
 ghost use Prim.Native.Nat.{_<_};
 ghost use lib.ListN.{length};
-ghost use Rattle.spec.specs.Files.{named-as};
+ghost use Rattle.spec.specs.Files.{named, named-as};
 ghost use Rattle.reading.specs.Cursor.{Cursor-sound};
 ghost use Rattle.reading.specs.Rest.{entry-of};
 ghost use Rattle.reading.specs.Fold.{Whole};
 ghost use Rattle.reading.specs.Repeats.{earlier-of, repeats-with};
 ghost use Rattle.reading.specs.Prefix.{front, front-and, earlier-with};
 ghost use Rattle.reading.specs.Filter.{In-table};
-ghost use Rattle.reading.specs.Held.{signed, Carried};
+ghost use Rattle.reading.specs.Held.{signed, Carried, File-signed};
 
 fn either(a: bool, b: bool) -> bool
     ensures { λ r. ⌜ r ≡ (a || b) ⌝ }
@@ -113,8 +113,38 @@ fn signed(image: &[u8], e: Spot) -> Signature
     signature(&image[at..end])
 }
 
-// What is carried along, n and the table, with the record e behind those that were passed, as many as count says. Where not all bits of its
-// name are set, no record of its name was passed; else these records tell.
+// What is carried along, n, with the record e behind those that were passed, as many as count says: these records tell. It is seldom
+// called, and two functions call it, so that the compiler keeps it out of the loop over plain records.
+fn repeats_by(image: &[u8], start: Cursor, count: usize, n: Repeats, e: Spot) -> Repeats
+    requires { ⌜ Cursor-sound (now image) start × Whole (now image) e ⌝ }
+    ensures { λ r. ⌜ r ≡ repeats-with n (named 0xFC (entry-of (now (image .entry)) e))
+        (earlier-of (front (now (image .entry)) start count) (entry-of (now (image .entry)) e)) ⌝ }
+{
+    let f = earlier(image, start, count, e);
+    repeats_with(n, named(image, Status::COMMITTED, e), f)
+}
+
+// The same of n and the table, for a file whose name has the bits s. Where not all of them are set, no record of its name was passed.
+pub fn repeats_signed(
+    image: &[u8],
+    start: Cursor,
+    count: usize,
+    table: &mut [u64; WORDS],
+    n: Repeats,
+    e: Spot,
+    s: Signature,
+) -> Repeats
+    requires { ⌜ Cursor-sound (now image) start × Whole (now image) e × Carried (front (now image) start count) n (now table)
+        × File-signed (entry-of (now image) e) s ⌝ }
+    ensures { λ r. ⌜ Carried (front-and (now (image .entry)) start count e) r (now (table .exit)) ⌝ }
+{
+    if add(table, s) {
+        return repeats_by(image, start, count, n, e);
+    }
+    n
+}
+
+// The same for any record.
 pub fn repeats_and(
     image: &[u8],
     start: Cursor,
@@ -130,8 +160,7 @@ pub fn repeats_and(
         return n;
     }
     if add(table, signed(image, e)) {
-        let f = earlier(image, start, count, e);
-        return repeats_with(n, named(image, Status::COMMITTED, e), f);
+        return repeats_by(image, start, count, n, e);
     }
     n
 }

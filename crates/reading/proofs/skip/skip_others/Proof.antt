@@ -30,7 +30,7 @@ returns : tie.Need-returns Inv-loop μ-loop
 returns c = c .before .before .before .before .loop .inv
 
 is-file-named-requires : tie.Need-is-file-named-requires Inv-loop μ-loop
-is-file-named-requires c κs = (rw (c .before .s .given .1) at (c .before .before .before .near .ensures)) .whole
+is-file-named-requires c κs = (rw (c .before .s .given .1) at (c .before .before .before .near .ensures)) .0 .whole
 
 returns-2 : tie.Need-returns-2 Inv-loop μ-loop
 returns-2 c = c .before .before .before .before .before .before .before .loop .inv
@@ -41,12 +41,12 @@ sub-left c = search needs
 loop-less : tie.Need-loop-less Inv-loop μ-loop
 loop-less c =
     let c3 = c .before .before .before in
-    (rw (c3 .s .given .1) at (c3 .before .before .near .ensures)) .onward .less
+    (rw (c3 .s .given .1) at (c3 .before .before .near .ensures)) .0 .onward .less
 
 loop-again : tie.Need-loop-again Inv-loop μ-loop
 loop-again c =
     let c3 = c .before .before .before in let c5 = c3 .before .before in let loop = c5 .before .before .loop in
-    skips-more (loop .inv) (rw (c3 .s .given .1) at (c5 .near .ensures)) (flag (c .before .is-file-named .ensures) (c .if1 .left))
+    skips-more (loop .inv) ((rw (c3 .s .given .1) at (c5 .near .ensures)) .0) (flag (c .before .is-file-named .ensures) (c .if1 .left))
     (omega arith)
 
 returns-3 : tie.Need-returns-3 Inv-loop μ-loop
