@@ -17,7 +17,7 @@ use table::{CollidingRow, Row, StackRow};
 use testing::c_calls::Library;
 use timing::{now, times, Effort};
 
-const WHOLE: Effort = Effort { runs: 11, seconds: 0.005, cold: false };
+const WHOLE: Effort = Effort { runs: 21, seconds: 0.004, cold: false };
 const QUICK: Effort = Effort { runs: 5, seconds: 0.0005, cold: false };
 /// For calls that may take half a second.
 const FEW: Effort = Effort { runs: 5, seconds: 0.0005, cold: false };
