@@ -9,23 +9,24 @@ use lib.Seq.{take-append-le}
 use Rattle.spec.specs.Step.{Image, Step, run}
 use Rattle.flash.specs.declared.Meter.{Meter}
 use Rattle.flash.specs.Did.{Did, did-both}
+use Rattle.flash.specs.Meters.{Enough, Used-up}
 
 -- from the image s and the meter m, the steps ss were begun and gave the image t and the meter r
 pub record Began (s : Image) (m : Meter) (ss : List Step) (t : Image) (r : Meter) : Type 0 where
   pub bytes : t ≡ run s (take (m .allowance - m .asked) ss)
-  pub whole : r .asked ≤ r .allowance → r .asked ≡ m .asked + length ss
-  pub cut : r .allowance < r .asked → m .allowance < m .asked + length ss
+  pub whole : Enough r → r .asked ≡ m .asked + length ss
+  pub cut : Used-up r → m .allowance < m .asked + length ss
   pub same : r .allowance ≡ m .allowance
 
 pub began-did : {s t : Image} {m r : Meter} {ss : List Step} → Did s m ss t r → Began s m ss t r
 began-did d = record { bytes = d .bytes; whole = λ h. d .count; cut = λ h. omega (arith, d .count, d .same); same = d .same }
 
 module _ {s t : Image} {m r : Meter} {a : List Step} (w : Began s m a t r) where
-  pub began-whole : r .asked ≤ r .allowance → Did s m a t r
+  pub began-whole : Enough r → Did s m a t r
   began-whole h = record { bytes = w .bytes; count = w .whole h; same = w .same }
 
   -- all are done: others may be begun behind them
-  pub began-both : {u : Image} {q : Meter} {b : List Step} → r .asked ≤ r .allowance → Began t r b u q → Began s m (a ++ b) u q
+  pub began-both : {u : Image} {q : Meter} {b : List Step} → Enough r → Began t r b u q → Began s m (a ++ b) u q
   began-both {u} {q} {b} h v =
       let counted : Meter = record { allowance = r .allowance; asked = r .asked + length b } in
       let d : Did t r b u counted = record { bytes = v .bytes; count = refl; same = refl } in
@@ -37,7 +38,7 @@ module _ {s t : Image} {m r : Meter} {a : List Step} (w : Began s m a t r) where
       }
 
   -- the allowance ended among them: whatever were to follow is not begun
-  pub began-cut : (b : List Step) → r .allowance < r .asked → Began s m (a ++ b) t r
+  pub began-cut : (b : List Step) → Used-up r → Began s m (a ++ b) t r
   began-cut b h =
       let k : m .allowance - m .asked ≤ length a = omega (arith, w .cut h) in
       record {

@@ -12,6 +12,7 @@ use borrow.Rule.Slice.PartAt.{part-to-end}
 use Rattle.spec.specs.Step.{Image, Step, apply, run, shifted}
 use Rattle.flash.specs.declared.Meter.{Meter}
 use Rattle.laws.specs.Steps.{run-cut, take-shifted, length-shifted, run-part}
+use Rattle.flash.specs.Meters.{Enough}
 
 -- from the image s and the meter m, the steps ss gave the image t and the meter r
 pub record Did (s : Image) (m : Meter) (ss : List Step) (t : Image) (r : Meter) : Type 0 where
@@ -56,7 +57,7 @@ did-both {s} {t} {u} {m} {r} {q} {a} {b} d e =
     }
 
 -- no more steps asked for than allowed: all are done
-pub did-all : {s t : Image} {m r : Meter} {ss : List Step} → Did s m ss t r → r .asked ≤ r .allowance → t ≡ run s ss
+pub did-all : {s t : Image} {m r : Meter} {ss : List Step} → Did s m ss t r → Enough r → t ≡ run s ss
 did-all {s} {t} {m} {r} {ss} d h =
     d .bytes ∙ ap (run s) (take-all (m .allowance - m .asked) ss (omega (arith, d .count, d .same)))
 

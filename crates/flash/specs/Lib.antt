@@ -1,3 +1,4 @@
+pub mod Meters
 pub mod Did
 pub mod Sector
 pub mod Blank

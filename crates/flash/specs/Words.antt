@@ -11,6 +11,7 @@ use lib.Bits.{bitAnd, and-self, and-le-l, and-le-r}
 use lib.Dec.{eqb, leb, ltb}
 use borrow.Author.Tests.{eq-eqb, ne-eqb, eqb-true, eqb-false}
 use Rattle.spec.specs.Basics.{blank, Each}
+use Rattle.laws.specs.Tests.{iff}
 use Rattle.laws.specs.Parts.{drop-next}
 use Rattle.flash.specs.declared.BlankRun.{BlankRun}
 use Rattle.flash.specs.Blank.{blank-run}
@@ -102,11 +103,6 @@ run-of {s} {r} at turns w h e f =
     record { place = sym e; inside = h; turns = count; few = omega (arith, w .few, w .whole, w .left, one-most (ltb at L), f) }
 
 -- ---- eight bytes
-
-iff : (a b : Bool) → (a ≡ true → b ≡ true) → (b ≡ true → a ≡ true) → a ≡ b
-iff true b f g = sym (f refl)
-iff false true f g = g refl
-iff false false f g = refl
 
 abbrev Is-FF : ℕ → Type 0
 Is-FF x = x ≡ 0xFF

@@ -28,7 +28,7 @@ use Rattle.history.specs.PutOld.{gone, gone-dead}
 use Rattle.history.specs.Places.{all-fit, fits-all-is, Some, lands-fit, fit-first, fit-next}
 use Rattle.history.specs.Put.{file}
 use Rattle.history.specs.Copying.{copy-some, copied}
-use Rattle.history.specs.Landing.{Led, replaced-led, put-length, handed-reads, handed-length}
+use Rattle.history.specs.Landing.{After-put, replaced-after, put-length, handed-reads, handed-length}
 use Rattle.history.specs.Sweeps.{two-on, move-by}
 use Rattle.laws.specs.Sweep.{copy-live, copy-dead}
 use Rattle.laws.specs.Settled.{after-idle}
@@ -109,7 +109,7 @@ unfolding place-after
 after-all p s ss = fits-all-is (place-after p s) ss
 
 -- what fits behind a size that was placed fits where the image is then read to end
-pub led-room : {J : Image} {h s : ℕ} {p : Place} {fs : List Entry} (led : Led J h p s fs) → p .head ≡ h → p .length ≡ length J
+pub led-room : {J : Image} {h s : ℕ} {p : Place} {fs : List Entry} (led : After-put J h p s fs) → p .head ≡ h → p .length ≡ length J
     → (es : List Entry) → fits-all (place-after p s) (live-sizes es) ≡ true
     → all-fit (floor h) (length J) (led .T) (led .u) (live-sizes es) ≡ true
 led-room {J} {h} {s} {p} led hd len es f =
@@ -158,8 +158,8 @@ module _ {l : Ledger} {im : Image} {r : Reading} (q : Rested l im r) (x y : Entr
       let w : Work = reread (begin im r) ss J (r .place .head) in
       let p : Rested l J (reading-from J (r .place .head)) = copied q x es i a room .0 in
       let new : Entry = record { at = address (r .place) (size x); it = file n c } in
-      let led : Led J (q .h) (r .place) (size x) (gone x ∷ (es ++ (new ∷ []))) =
-      replaced-led q n c (ok .well-named .0 a) (ok .bytes .0 a) room [] es x i a refl in
+      let led : After-put J (q .h) (r .place) (size x) (gone x ∷ (es ++ (new ∷ []))) =
+      replaced-after q n c (ok .well-named .0 a) (ok .bytes .0 a) room [] es x i a refl in
       let R : read (length J) (p .h) (p .S) (p .t) (p .es) Ending.Tail
       ≡ read (length J) (q .h) (led .T) (led .u) (gone x ∷ (es ++ (new ∷ []))) Ending.Tail =
       sym (p .is) ∙ ap (reading-from J) head-is ∙ led .reads in

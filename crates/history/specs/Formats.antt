@@ -111,14 +111,14 @@ answer-of : {o u : Outcome} → o ≡ u → o .numbers .answer ≡ 0 → u .numb
 answer-of e a = sym (ap (λ (x : Outcome). x .numbers .answer) e) ∙ a
 
 -- answer 0: all steps are done
-done-image : (raw : Image) (k : ℕ) (p : Plan) → carry-out raw k (give p) .numbers .answer ≡ 0 → carry-out raw k (give p) .image ≡ run raw (p .steps)
+pub done-image : (raw : Image) (k : ℕ) (p : Plan) → carry-out raw k (give p) .numbers .answer ≡ 0 → carry-out raw k (give p) .image ≡ run raw (p .steps)
 done-image raw k p e = go (leb (length (p .steps)) k) refl
   where
     go : (b : Bool) → leb (length (p .steps)) k ≡ b → carry-out raw k (give p) .image ≡ run raw (p .steps)
     go true h = ap (λ (x : Outcome). x .image) (carried-done raw k p (leb-true (length (p .steps)) k h))
     go false h = absurd (let z : _≡_ {A = ℕ} 4 0 = answer-of (carried-cut raw k p (leb-false (length (p .steps)) k h)) e in omega arith)
 
-refused : (raw : Image) (k n : ℕ) → carry-out raw k (refuse (numbered n)) .numbers .answer ≡ n
+pub refused : (raw : Image) (k n : ℕ) → carry-out raw k (refuse (numbered n)) .numbers .answer ≡ n
 unfolding carry-out
 refused raw k n = refl
 

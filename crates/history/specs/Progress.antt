@@ -2,14 +2,14 @@
 use Prim.Native.Nat.{ℕ, zero, suc, _+_, _-_, _≤_, min}
 use native.Mathlib.Omega.{arith}
 use mathlib.Core.Path.{_≡_, refl, sym, ap, _∙_, subst}
-use mathlib.Core.Bool.{Bool, true, false}
+use mathlib.Core.Bool.{true, false}
 use mathlib.Core.Option.{Option, none, some}
 use mathlib.Core.List.{List, [], _∷_, _++_}
 use lib.ListN.{length, length-append}
-use lib.Dec.{eqb, leb}
-use borrow.Author.Tests.{eq-eqb, leb-true, leb-false}
+use lib.Dec.{eqb}
+use borrow.Author.Tests.{eq-eqb}
 use Rattle.spec.specs.Step.{Image, Step, run}
-use Rattle.spec.specs.Basics.{Answer, refuse, give, keep, concat, numbered}
+use Rattle.spec.specs.Basics.{Answer, give, keep, concat}
 use Rattle.spec.specs.Record.{Entry, size-of, name-ok}
 use Rattle.spec.specs.Chain.{Reading, read}
 use Rattle.spec.specs.Files.{files, file-named}
@@ -30,9 +30,10 @@ use Rattle.history.specs.PutSound.{name-some}
 use Rattle.history.specs.PutOld.{gone, named-by}
 use Rattle.history.specs.Puts.{Commits, put-commits}
 use Rattle.history.specs.Copying.{head-read}
-use Rattle.history.specs.Landing.{Led, new-led, replaced-led, put-length}
+use Rattle.history.specs.Landing.{After-put, new-after, replaced-after, put-length}
 use Rattle.history.specs.Ahead.{Ahead}
-use Rattle.history.specs.Induction.{carried-done, carried-cut}
+use Rattle.history.specs.Induction.{carried-done}
+use Rattle.history.specs.Formats.{done-image, refused}
 use Rattle.history.specs.Calls.{Puts, put-no, put-yes, puts-of, room-fits, sweep-is, sweep-by}
 use Rattle.history.specs.Theorem.{history-inv}
 use Rattle.history.specs.Passing.{goes-on, Passed, passes}
@@ -83,22 +84,6 @@ sweeps (k ∷ ks) (suc j) q h c u =
 
 -- ---- the theorem
 
--- a put that is not cut has done its steps
-done-image : (im : Image) (m : ℕ) (ss : List Step) → carry-out im m (give (doing ss)) .numbers .answer ≡ 0
-    → carry-out im m (give (doing ss)) .image ≡ run im ss
-done-image im m ss e = go (leb (length ss) m) refl
-  where
-    go : (b : Bool) → leb (length ss) m ≡ b → carry-out im m (give (doing ss)) .image ≡ run im ss
-    go true k = ap (λ (o : Outcome). o .image) (carried-done im m (doing ss) (leb-true (length ss) m k))
-    go false k =
-        let o : carry-out im m (give (doing ss)) .numbers .answer ≡ 4 =
-        ap (λ (o : Outcome). o .numbers .answer) (carried-cut im m (doing ss) (leb-false (length ss) m k)) in
-        absurd (let z : 4 ≡ 0 = sym o ∙ e in omega arith)
-
-refused-answer : (im : Image) (m k : ℕ) → carry-out im m (refuse (numbered k)) .numbers .answer ≡ k
-unfolding carry-out
-refused-answer im m k = refl
-
 new-alive : (n c : List ℕ) (a : ℕ) → name-ok n ≡ true → alive (record { at = a; it = file n c }) ≡ true
 new-alive n c a nice = let e : Entry = record { at = a; it = file n c } in fc-alive e (named-by 0xFC e refl (name-some n nice))
 
@@ -126,10 +111,10 @@ module _ {l : Ledger} {im : Image} {r : Reading} (q : Rested l im r) (n c : List
   left-passes {R = R} p h = record { read = R; settled = rested-settled p; passes = λ ks e u. sweeps ks (to-pass R) p h e u }
 
   -- fs are the records that put leaves
-  led-passes : (old : Option Entry) (fs : List Entry) → Old n (r .entries) old
-      → Led (run im (put-steps (r .place) old n c)) (q .h) (r .place) z fs
+  after-passes : (old : Option Entry) (fs : List Entry) → Old n (r .entries) old
+      → After-put (run im (put-steps (r .place) old n c)) (q .h) (r .place) z fs
       → keep alive fs ≡ keep (other-name n) (files (r .entries)) ++ (new ∷ []) → Passes (run im (put-steps (r .place) old n c))
-  led-passes old fs o led k =
+  after-passes old fs o led k =
       let J : Image = run im (put-steps (r .place) old n c) in
       let m : Commits l (with-file n c l) im (put-steps (r .place) old n c)
       (length n + length c + 10 + one-if-fc old + three-if (with-marker (r .place) z)) (r .place .head) =
@@ -146,13 +131,13 @@ module _ {l : Ledger} {im : Image} {r : Reading} (q : Rested l im r) (n c : List
     where
       go : {old : Option Entry} → Old n (r .entries) old → Passes (run im (put-steps (r .place) old n c))
       go (old-none a) =
-          led-passes none (r .entries ++ (new ∷ [])) (old-none a)
-          (subst (λ (fs : List Entry). Led (run im (put-steps (r .place) none n c)) (q .h) (r .place) z (fs ++ (new ∷ []))) (sym read-so)
-          (new-led q n c nice b fitting))
+          after-passes none (r .entries ++ (new ∷ [])) (old-none a)
+          (subst (λ (fs : List Entry). After-put (run im (put-steps (r .place) none n c)) (q .h) (r .place) z (fs ++ (new ∷ []))) (sym read-so)
+          (new-after q n c nice b fitting))
           (live-new n new (new-alive n c (address (r .place) z) nice) (r .entries) unique a)
       go (old-some xs ys e i v w) =
-          led-passes (some e) (xs ++ (gone e ∷ (ys ++ (new ∷ [])))) (old-some xs ys e i v w)
-          (replaced-led q n c nice b fitting xs ys e (sym read-so ∙ i) v w)
+          after-passes (some e) (xs ++ (gone e ∷ (ys ++ (new ∷ [])))) (old-some xs ys e i v w)
+          (replaced-after q n c nice b fitting xs ys e (sym read-so ∙ i) v w)
           (live-over n new (new-alive n c (address (r .place) z) nice) xs ys e (subst Unique i unique) v w
           ∙ ap (λ (fs : List Entry). keep (other-name n) (files fs) ++ (new ∷ [])) (sym i))
 
@@ -164,13 +149,13 @@ put-gets-on im l n c m i b e = go (puts-of l im n c i)
     go : Puts l im n c → Passes (put im n c m .image)
     go (put-no r) =
         let z : r .number ≡ 0 =
-        sym (refused-answer im m (r .number)) ∙ sym (ap (λ (p : Answer Plan). carry-out im m p .numbers .answer) (r .is)) ∙ e in
+        sym (refused im m (r .number)) ∙ sym (ap (λ (p : Answer Plan). carry-out im m p .numbers .answer) (r .is)) ∙ e in
         absurd (not-both (eqb (r .number) 0) (r .not-done) (eq-eqb (r .number) 0 z))
     go (put-yes r q nice rule k) =
         let ss : List Step = put-steps (r .place) (file-named n (r .entries)) n c in
         let e₁ : carry-out im m (give (doing ss)) .numbers .answer ≡ 0 =
         sym (ap (λ (p : Answer Plan). carry-out im m p .numbers .answer) k) ∙ e in
-        subst Passes (sym (ap (λ (p : Answer Plan). carry-out im m p .image) k ∙ done-image im m ss e₁))
+        subst Passes (sym (ap (λ (p : Answer Plan). carry-out im m p .image) k ∙ done-image im m (doing ss) e₁))
         (put-passes q n c nice b rule (file-named n (r .entries))
         (subst (λ (x : Reading). Old n (x .entries) (file-named n (x .entries))) (sym (q .is)) (old-file n (q .es) l (q .ok))))
 

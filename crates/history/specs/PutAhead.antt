@@ -23,10 +23,9 @@ use Rattle.history.specs.Store.{alive, files-alive, same-sym, Unique}
 use Rattle.history.specs.Ledger.{Absent}
 use Rattle.history.specs.Kinds.{Rested}
 use Rattle.history.specs.OkLaws.{same-refl}
-use Rattle.history.specs.Put.{file}
 use Rattle.history.specs.PutOld.{gone, gone-dead}
 use Rattle.history.specs.Places.{fits-all-is, fit-next, fit-some}
-use Rattle.history.specs.Landing.{Led}
+use Rattle.history.specs.Landing.{After-put}
 use Rattle.history.specs.Ahead.{live-sizes, Ahead, led-room}
 use Rattle.history.specs.HeadSector.{near, Split, split}
 
@@ -117,7 +116,7 @@ near-is p h k e = ap (λ (a : ℕ). eqb (floor (e .at)) (floor a)) k
 
 -- J is the image that put leaves, fs its records
 module _ {l : Ledger} {J : Image} {r : Reading} (p : Rested l J r) (P : Place) (n : List ℕ) (s h : ℕ) (es fs : List Entry) (new : Entry)
-    (led : Led J h P s fs) (is : r ≡ reading-from J h) (hd : P .head ≡ h) (len : P .length ≡ length J)
+    (led : After-put J h P s fs) (is : r ≡ reading-from J h) (hd : P .head ≡ h) (len : P .length ≡ length J)
     (rule : room P n s es ≡ true) (sz : size new ≡ s) (a : new .at ≡ address P s)
     (k : keep alive fs ≡ keep (other-name n) (files es) ++ (new ∷ [])) where
   R : r ≡ read (length J) h (led .T) (led .u) fs Ending.Tail

@@ -19,6 +19,7 @@ use Rattle.spec.specs.Answers.{Plan, doing, put-into, put-plan}
 use Rattle.spec.specs.Door.{settled-reading, admitted-named}
 use Rattle.spec.specs.History.{three-if}
 use Rattle.spec.specs.Bounds.{At-most, old-count, put-count, Put-exact, Put-bound, Put-kinds}
+use Rattle.laws.specs.Tests.{either}
 use Rattle.laws.specs.Steps.{length-shifted}
 use Rattle.history.specs.Put.{length-record}
 use Rattle.history.specs.StepCounts.{most-length, most-programs}
@@ -61,11 +62,7 @@ put-steps-count p o n c =
 
 old-most : (o : Option Entry) → old-count o ≤ 2
 old-most none = omega arith
-old-most (some e) = go (is-committed (e .it .status))
-  where
-    go : (b : Bool) → (elim b as (λ x. ℕ) [ true ↦ 2 | false ↦ 1 ]) ≤ 2
-    go true = omega arith
-    go false = omega arith
+old-most (some e) = either (λ (n : ℕ). n ≤ 2) (is-committed (e .it .status)) 2 1 (omega arith) (omega arith)
 
 three-most : (b : Bool) → three-if b ≤ 3
 three-most true = omega arith

@@ -16,6 +16,7 @@ use Rattle.spec.specs.Record.{Entry, content-of, data-at}
 use Rattle.spec.specs.Move.{mark-here, mark-steps, clean-steps, vacated-end, vacated, forget-steps, start-steps, vacate-steps, close-steps}
 use Rattle.spec.specs.Mount.{free-sectors, dirty, erase-steps}
 use Rattle.spec.specs.Bounds.{At-most}
+use Rattle.laws.specs.Tests.{either}
 use Rattle.laws.specs.Lists.{keep-yes, keep-no}
 use Rattle.laws.specs.Steps.{Programs, programs-append}
 use Rattle.history.specs.StepCounts.{most-append, most-more, most-programs, most-erases}
@@ -46,11 +47,7 @@ keep-few p (x ∷ xs) = go (p x) refl (keep-few p xs)
 -- ---- step (c)
 
 mark-programs : (a : ℕ) (s : List ℕ) → Programs (mark-steps a s)
-mark-programs a s = go (mark-here s)
-  where
-    go : (b : Bool) → Programs (elim b as (λ x. List Step) [ true ↦ program (a + 1) 0x00 ∷ [] | false ↦ [] ])
-    go true = tt
-    go false = tt
+mark-programs a s = either Programs (mark-here s) (program (a + 1) 0x00 ∷ []) [] tt tt
 
 pub clean-programs : (k a : ℕ) (s : List ℕ) → Programs (clean-steps k a s)
 unfolding clean-steps
@@ -59,11 +56,7 @@ clean-programs (suc k) a s =
     programs-append (mark-steps a s) (clean-steps k (a + 8) (drop 8 s)) (mark-programs a s) (clean-programs k (a + 8) (drop 8 s))
 
 mark-few : (a : ℕ) (s : List ℕ) → length (mark-steps a s) ≤ 1
-mark-few a s = go (mark-here s)
-  where
-    go : (b : Bool) → length {A = Step} (elim b as (λ x. List Step) [ true ↦ program (a + 1) 0x00 ∷ [] | false ↦ [] ]) ≤ 1
-    go true = omega arith
-    go false = omega arith
+mark-few a s = either (λ (ss : List Step). length ss ≤ 1) (mark-here s) (program (a + 1) 0x00 ∷ []) [] (omega arith) (omega arith)
 
 mark-none : (a : ℕ) → length (mark-steps a []) ≡ 0
 unfolding is-start is-high
@@ -86,11 +79,9 @@ clean-few (suc k) a (x ∷ s) =
 -- ---- steps (d) to (f)
 
 pub start-most : (a low : ℕ) → At-most 2 0 (start-steps a low)
-start-most a low = go (eqb low 0xA0)
-  where
-    go : (b : Bool) → At-most 2 0 (elim b as (λ x. List Step) [ true ↦ program a 0x80 ∷ program a 0x00 ∷ [] | false ↦ program a 0x00 ∷ [] ])
-    go true = record { programs-few = omega arith; erases-few = omega arith }
-    go false = record { programs-few = omega arith; erases-few = omega arith }
+start-most a low =
+    either (At-most 2 0) (eqb low 0xA0) (program a 0x80 ∷ program a 0x00 ∷ []) (program a 0x00 ∷ [])
+    (record { programs-few = omega arith; erases-few = omega arith }) (record { programs-few = omega arith; erases-few = omega arith })
 
 forget-most : (x : Entry) (zs : List ℕ) → At-most 1 0 (forget-steps x zs)
 forget-most x [] = record { programs-few = omega arith; erases-few = omega arith }
@@ -98,11 +89,7 @@ forget-most x (z ∷ zs) = record { programs-few = omega arith; erases-few = ome
 
 pub end-few : (N : ℕ) (y : Entry) → y .at ≤ N → vacated-end N y ≤ N
 unfolding vacated-end
-end-few N y h = go (eqb (y .at) 0)
-  where
-    go : (b : Bool) → (elim b as (λ x. ℕ) [ true ↦ N | false ↦ floor (y .at) ]) ≤ N
-    go true = omega arith
-    go false = omega arith
+end-few N y h = either (λ (a : ℕ). a ≤ N) (eqb (y .at) 0) N (floor (y .at)) (omega arith) (omega arith)
 
 vacated-few : (N : ℕ) (x y : Entry) → y .at ≤ N → length (vacated N x y) ≤ N / 4096
 vacated-few N x y h = omega (arith, sectors-few (floor (x .at)) (vacated-end N y), end-few N y h)

@@ -127,7 +127,7 @@ Finished e = is-unfinished (e .it .status) ≡ false
 abbrev pub Unmarked : Entry → Type 0
 Unmarked e = marked e ≡ false
 
-name-legal-by : (es : List Entry) (e : Entry) → live es e ≡ alive e → Well-named e → name-legal es e ≡ true
+pub name-legal-by : (es : List Entry) (e : Entry) → live es e ≡ alive e → Well-named e → name-legal es e ≡ true
 unfolding name-legal
 name-legal-by es e h n = go (alive e) refl
   where

@@ -22,6 +22,7 @@ use Rattle.spec.specs.Answers.{Plan, sweeping, sweep-of, sweep-plan}
 use Rattle.spec.specs.Door.{settled-reading, admitted}
 use Rattle.spec.specs.Bounds.{At-most, move-most, Sweep-bound, Sweep-kinds}
 use Rattle.history.specs.RepairCounts.{clean-programs, end-few, close-most}
+use Rattle.laws.specs.Tests.{either}
 use Rattle.laws.specs.Steps.{Programs}
 use Rattle.history.specs.StepCounts.{most-length, most-none, most-append, most-more, most-programs}
 use Rattle.history.specs.Landing.{put-length}
@@ -45,11 +46,7 @@ sectors-inner N (suc k) a b h = go (leb (a + 4096) b) refl (sectors-inner N k (a
     go false e p = tt
 
 start-programs : (a low : ℕ) → Programs (start-steps a low)
-start-programs a low = go (eqb low 0xA0)
-  where
-    go : (b : Bool) → Programs (elim b as (λ x. List Step) [ true ↦ program a 0x80 ∷ program a 0x00 ∷ [] | false ↦ program a 0x00 ∷ [] ])
-    go true = tt
-    go false = tt
+start-programs a low = either Programs (eqb low 0xA0) (program a 0x80 ∷ program a 0x00 ∷ []) (program a 0x00 ∷ []) tt tt
 
 forget-programs : (x : Entry) (zs : List ℕ) → Programs (forget-steps x zs)
 forget-programs x [] = tt

@@ -52,7 +52,11 @@ part-window a e s h = let q : a + (e - a) ≡ e = omega arith in take-drop a (e 
 pub part-first : (i n m : ℕ) (s : List ℕ) → i + n ≤ m → take n (drop i (take m s)) ≡ take n (drop i s)
 part-first i n m s h = take-drop i n (take m s) ∙ ap (drop i) (take-take (i + n) m s h) ∙ sym (take-drop i n s)
 
+-- address k is none of the n from i on
+abbrev pub Outside : ℕ → ℕ → ℕ → Type 0
+Outside k i n = (k < i) ⊎ (i + n ≤ k)
+
 -- a byte set before the part or behind it
-pub part-set : (s : List ℕ) (i n k b : ℕ) → (k < i) ⊎ (i + n ≤ k) → take n (drop i (set s k b)) ≡ take n (drop i s)
+pub part-set : (s : List ℕ) (i n k b : ℕ) → Outside k i n → take n (drop i (set s k b)) ≡ take n (drop i s)
 part-set s i n k b (inl h) = ap (take n) (drop-set-lt i s k b h)
 part-set s i n k b (inr h) = take-drop i n (set s k b) ∙ ap (drop i) (take-set-le (i + n) s k b h) ∙ sym (take-drop i n s)

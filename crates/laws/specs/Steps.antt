@@ -6,7 +6,10 @@ use mathlib.Core.Path.{_≡_, refl, sym, ap, _∙_}
 use mathlib.Core.List.{List, [], _∷_, _++_, append-assoc}
 use lib.ListN.{length, take, drop, set, getD, length-append, length-set, take-append-drop}
 use lib.Seq.{set-at, append-snoc, length-take-le, take-nil, take-append-add, drop-append-add}
+use borrow.Author.Tests.{ne-eqb}
 use Rattle.spec.specs.Step.{Image, Step, program, erase, sector, apply, run, bytes-at, shifted}
+use Rattle.spec.specs.Write.{name-end-steps}
+use Rattle.spec.specs.Mount.{missing-steps}
 
 -- ---- one list after another
 
@@ -143,3 +146,12 @@ write-over p (o ∷ old) (b ∷ w) s a e h =
 pub programs-bytes : (a : ℕ) (w : List ℕ) (ss : List Step) → Programs ss → Programs (bytes-at a w ++ ss)
 programs-bytes a [] ss p = p
 programs-bytes a (x ∷ w) ss p = programs-bytes (a + 1) w ss p
+
+-- ---- the missing 00 of a name
+
+module _ (s : Image) (a : ℕ) where
+  pub name-ended : getD s a 0 ≡ 0 → missing-steps s a ≡ []
+  name-ended e = rw (e, missing-steps)
+
+  pub name-open : (getD s a 0 ≡ 0 → ⊥) → missing-steps s a ≡ name-end-steps a
+  name-open e = rw (ne-eqb (getD s a 0) 0 e, missing-steps)

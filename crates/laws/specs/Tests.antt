@@ -1,10 +1,13 @@
--- Tests: two of them together, and one that comes out both ways.
+-- Tests: two of them together, one that comes out both ways, and what a test picks.
 use mathlib.Core.Path.{_≡_, refl, sym, _∙_}
 use mathlib.Core.Bool.{Bool, true, false, _&&_, _||_, false≢true}
 
 -- a test does not come out both ways
 pub not-both : (b : Bool) → b ≡ false → b ≡ true → ⊥
 not-both b p q = false≢true (sym p ∙ q)
+
+pub wrong : {A : Type 0} → false ≡ true → A
+wrong e = absurd (false≢true e)
 
 -- both, so the first
 pub and-left : (a b : Bool) → (a && b) ≡ true → a ≡ true
@@ -30,3 +33,14 @@ or-right false b h = h
 pub and-no : (a b : Bool) → (a ≡ true → b ≡ false) → (a && b) ≡ false
 and-no true b h = h refl
 and-no false b h = refl
+
+-- each follows from the other
+pub iff : (a b : Bool) → (a ≡ true → b ≡ true) → (b ≡ true → a ≡ true) → a ≡ b
+iff true b f g = sym (f refl)
+iff false true f g = g refl
+iff false false f g = refl
+
+-- what holds of both holds of the one that a test picks
+pub either : {A : Type 0} (P : A → Type 0) (t : Bool) (x y : A) → P x → P y → P (elim t [ true ↦ x | false ↦ y ])
+either P true x y p q = p
+either P false x y p q = q

@@ -1,5 +1,5 @@
 -- From the meter to the answer of a call that writes, and a refusal with the image unchanged.
-use Prim.Native.Nat.{ℕ, _-_, _≤_, _<_}
+use Prim.Native.Nat.{ℕ, _-_}
 use native.Mathlib.Omega.{arith}
 use mathlib.Core.Path.{_≡_, refl, sym, ap, ap₂, _∙_}
 use mathlib.Core.Bool.{Bool, true, false}
@@ -15,6 +15,7 @@ use Rattle.spec.specs.Numbers.{outcome-of, of-write, refusal}
 use Rattle.spec.specs.Answers.{Plan, numbers-of, carry-out, doing}
 use Rattle.flash.specs.declared.Meter.{Meter}
 use Rattle.flash.specs.Did.{Did}
+use Rattle.flash.specs.Meters.{Enough, Used-up}
 use Rattle.lilota.specs.declared.Written.{Written}
 use Rattle.lilota.specs.Numbers.{written, Written-told}
 
@@ -28,10 +29,10 @@ spent-is : (r : Meter) (t : Bool) → leb (r .asked) (r .allowance) ≡ t
     → spent r ≡ elim t [ true ↦ Written.Done (r .asked) | false ↦ Written.Cut (r .allowance) ]
 spent-is r t e = ap (λ (b : Bool). elim b [ true ↦ Written.Done (r .asked) | false ↦ Written.Cut (r .allowance) ]) e
 
-pub spent-done : (r : Meter) → r .asked ≤ r .allowance → Written.Done (r .asked) ≡ spent r
+pub spent-done : (r : Meter) → Enough r → Written.Done (r .asked) ≡ spent r
 spent-done r h = sym (spent-is r true (le-leb (r .asked) (r .allowance) h))
 
-pub spent-cut : (r : Meter) → r .allowance < r .asked → Written.Cut (r .allowance) ≡ spent r
+pub spent-cut : (r : Meter) → Used-up r → Written.Cut (r .allowance) ≡ spent r
 spent-cut r h = sym (spent-is r false (lt-leb (r .asked) (r .allowance) h))
 
 -- no refusal

@@ -1,5 +1,5 @@
 -- What the door's answers say: a reading comes with THE facts, a refusal with one of document 01's numbers.
-use Prim.Native.Nat.{ℕ, _≤_}
+use Prim.Native.Nat.{ℕ}
 use mathlib.Core.Path.{_≡_, sym}
 use mathlib.Core.Bool.{true, _&&_, and-eq-true-iff}
 use mathlib.Core.List.{List}
@@ -15,6 +15,7 @@ use Rattle.spec.specs.Numbers.{is-refusal}
 use Rattle.spec.specs.Door.{accepted, admitted, admitted-named}
 use Rattle.laws.specs.Door.{settled-gives, accepted-gives, admitted-gives, named-gives}
 use Rattle.laws.specs.Refusing.{accepted-refusing, admitted-refusing, named-refusing}
+use Rattle.record.specs.Within.{Name-length}
 use Rattle.reading.specs.declared.Read.{Read}
 use Rattle.reading.specs.declared.Judgement.{Judgement}
 use Rattle.reading.specs.Read.{answered, reading-of, Told, Quiet, judged-as, Judged-well}
@@ -29,10 +30,10 @@ Admits image (Read.Good s) = Settled image s
 Admits image (Read.Refused x) = is-refusal (x .number) ≡ true
 
 abbrev pub Admits-named : Image → List ℕ → Read → Type 0
-Admits-named image name (Read.Good s) = Settled image s × (length name ≤ 63)
+Admits-named image name (Read.Good s) = Settled image s × Name-length (length name)
 Admits-named image name (Read.Refused x) = is-refusal (x .number) ≡ true
 
-name-short : (n : List ℕ) → name-ok n ≡ true → length n ≤ 63
+name-short : (n : List ℕ) → name-ok n ≡ true → Name-length (length n)
 unfolding name-ok
 name-short n h =
     let a = leb 1 (length n) in

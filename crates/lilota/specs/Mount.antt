@@ -16,6 +16,7 @@ use Rattle.spec.specs.Move.{Work, begin}
 use Rattle.spec.specs.Mount.{mended, settled}
 use Rattle.spec.specs.Numbers.{Numbers, outcome-of, of-write, of-mount}
 use Rattle.spec.specs.Answers.{Plan, numbers-of, carry-out, mount-work, mount-of, report-of}
+use Rattle.flash.specs.Meters.{Enough, Used-up}
 use Rattle.reading.specs.declared.Survey.{Survey}
 use Rattle.reading.specs.Read.{reading-of}
 use Rattle.reading.specs.Accepted.{Accepted}
@@ -49,14 +50,14 @@ module _ (image t : Image) (k : ℕ) (s : Survey) (l : Accepted image s) (r : Me
   bytes-are : t ≡ run image (take k (mended image (reading-of image s) .steps))
   bytes-are = c .begun .bytes ∙ ap₂ (λ (n : ℕ) (w : Work). run image (take n (w .steps))) (sub-zero k) work-is
 
-  pub mount-cut : r .meter .allowance < r .meter .asked
+  pub mount-cut : Used-up (r .meter)
       → outcome-of (mounted (Mounted.Cut (r .meter .allowance))) t ≡ carry-out image k (mount-of image (reading-of image s))
   mount-cut h =
       let short : k < length (mended image (reading-of image s) .steps) = omega (arith, c .begun .cut h, ap (λ (w : Work). length (w .steps)) work-is) in
       carried image t k (mount-work (mended image (reading-of image s))) (of-write 4 (r .meter .allowance))
       (plan-cut image k (mended image (reading-of image s)) short ∙ ap (of-write 4) (sym (c .begun .same))) bytes-are
 
-  pub mount-done : r .meter .asked ≤ r .meter .allowance →
+  pub mount-done : Enough (r .meter) →
       outcome-of (mounted (Mounted.Done (report (r .head) (r .tail) (r .files)) (r .meter .asked))) t ≡ carry-out image k (mount-of image (reading-of image s))
   mount-done h = go (mended image (reading-from image (s .place .head))) (c .done h) (c .begun .whole h ∙ omega arith) work-is
     where

@@ -75,8 +75,8 @@ bad-length = refl
 -- ---- parts of the image
 
 -- a stretch that lies in the image
-abbrev pub Inside : Image → Extent → Type 0
-Inside image x = x .offset + x .length ≤ length image
+abbrev pub Extent-inside : Image → Extent → Type 0
+Extent-inside image x = x .offset + x .length ≤ length image
 
 -- the part r is the stretch x of the image itself: it begins so far behind the image's first byte
 abbrev pub Lies-at : RefT (List ℕ) → RefT (List ℕ) → Extent → Type 0

@@ -1,5 +1,5 @@
 -- Put: from what the code found to the definitions' room, steps and outcome.
-use Prim.Native.Nat.{ℕ, _+_, _≤_}
+use Prim.Native.Nat.{ℕ, _+_}
 use native.Mathlib.Omega.{arith}
 use mathlib.Core.Path.{_≡_, refl, sym, ap, _∙_}
 use mathlib.Core.Bool.{Bool, true, false}
@@ -17,6 +17,7 @@ use Rattle.spec.specs.Chain.{Reading}
 use Rattle.spec.specs.Place.{fits, fits-all, room}
 use Rattle.spec.specs.Write.{put-steps}
 use Rattle.spec.specs.Answers.{Plan, carry-out, doing, put-into}
+use Rattle.record.specs.Within.{Name-length}
 use Rattle.reading.specs.declared.Spot.{Spot}
 use Rattle.reading.specs.declared.Found.{Found}
 use Rattle.reading.specs.declared.Survey.{Survey}
@@ -29,7 +30,7 @@ use Rattle.reading.specs.Accepted.{Settled, place-sound, marker-room}
 use Rattle.writing.specs.declared.Old.{Old}
 use Rattle.writing.specs.declared.Old.the-variants as old-as
 use Rattle.writing.specs.Old.{old-of, old-entry as entry-of-old, put-old}
-use Rattle.writing.specs.Room.{placed-inside}
+use Rattle.writing.specs.Placing.{placed-inside}
 use Rattle.writing.specs.Put.{Ready}
 
 -- ---- the room
@@ -60,7 +61,7 @@ old-named image s p old name content w e =
 
 -- ---- the steps
 
-pub ready : (image : Image) (s : Survey) (n d asked : ℕ) → Settled image s → n ≤ 63 → fits (s .place) (size-of n d) ≡ true → asked ≡ 0
+pub ready : (image : Image) (s : Survey) (n d asked : ℕ) → Settled image s → Name-length n → fits (s .place) (size-of n d) ≡ true → asked ≡ 0
     → Ready (s .place) (length image) n d asked
 ready image s n d asked w l f z =
     record {

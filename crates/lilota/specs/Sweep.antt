@@ -13,17 +13,18 @@ use Rattle.spec.specs.Sweep.{no-room, moves}
 use Rattle.spec.specs.Numbers.{outcome-of, of-sweep}
 use Rattle.spec.specs.Answers.{finished, numbers-of, carry-out, sweeping, sweep-of}
 use Rattle.flash.specs.declared.Meter.{Meter}
+use Rattle.flash.specs.Meters.{Enough, Used-up}
 use Rattle.reading.specs.declared.Survey.{Survey}
 use Rattle.reading.specs.RuleLaws.{count-is}
 use Rattle.reading.specs.Read.{reading-of}
 use Rattle.reading.specs.Accepted.{Accepted}
 use Rattle.sweeping.specs.Moves.{Moves, finished-all}
-use Rattle.sweeping.specs.Planned.{Headed}
+use Rattle.sweeping.specs.Planned.{Place-of}
 use Rattle.lilota.specs.declared.Swept.{Swept}
 use Rattle.lilota.specs.Numbers.{swept}
 
 -- what the moves of an image that was read go by
-pub headed : (image : Image) (s : Survey) → Accepted image s → Headed image (s .place)
+pub headed : (image : Image) (s : Survey) → Accepted image s → Place-of image (s .place)
 headed image s w = record { led = w .led; same = ap (λ (r : Reading). r .place) (w .same) }
 
 -- ---- the moves, carried out
@@ -37,7 +38,7 @@ module _ {s t : Image} {m r : Meter} {ms : List (List Step)} {n : ℕ} (k : ℕ)
   count-as : n ≡ finished k 0 ms
   count-as = w .count ∙ ap₂ (λ (i j : ℕ). finished i j ms) a z
 
-  pub swept-done : r .asked ≤ r .allowance → outcome-of (swept (Swept.Done n (r .asked))) t ≡ carry-out s k (give (sweeping ms))
+  pub swept-done : Enough r → outcome-of (swept (Swept.Done n (r .asked))) t ≡ carry-out s k (give (sweeping ms))
   unfolding carry-out numbers-of
   swept-done h =
       let e : r .asked ≡ length (concat ms) = w .begun .whole h ∙ omega arith in
@@ -45,7 +46,7 @@ module _ {s t : Image} {m r : Meter} {ms : List (List Step)} {n : ℕ} (k : ℕ)
       let f : n ≡ length ms = count-as ∙ finished-all k 0 ms (omega arith) in
       rw (carry-out, numbers-of, le-leb (length (concat ms)) k l) (ap₂ outcome-of (ap₂ (of-sweep 0) f e) left-is)
 
-  pub swept-cut : r .allowance < r .asked → outcome-of (swept (Swept.Cut n (r .allowance))) t ≡ carry-out s k (give (sweeping ms))
+  pub swept-cut : Used-up r → outcome-of (swept (Swept.Cut n (r .allowance))) t ≡ carry-out s k (give (sweeping ms))
   unfolding carry-out numbers-of
   swept-cut h =
       let l : k < length (concat ms) = omega (arith, w .begun .cut h) in

@@ -13,7 +13,7 @@ ghost use Rattle.spec.specs.Numbers.{outcome-of, part-of};
 ghost use Rattle.spec.specs.Answers.{carry-out, file-of, getting, get};
 ghost use Rattle.reading.specs.Read.{reading-of};
 ghost use Rattle.reading.specs.Accepted.{Settled};
-ghost use Rattle.lilota.specs.Numbers.{located, Inside, Lies-at};
+ghost use Rattle.lilota.specs.Numbers.{located, Extent-inside, Lies-at};
 
 // No file, for this reason.
 fn nowhere(answer: u32) -> Located
@@ -33,7 +33,7 @@ fn get_from(image: &[u8], name: &[u8], s: Survey) -> Located
     requires { ⌜ Settled (now image) s ⌝ }
     ensures { λ r. ⌜ (outcome-of (located r) (now (image .exit))
         ≡ carry-out (now (image .entry)) 0 (file-of (now (name .entry)) getting (reading-of (now (image .entry)) s)))
-        × Inside (now (image .entry)) (r .extent) ⌝ }
+        × Extent-inside (now (image .entry)) (r .extent) ⌝ }
 {
     let place = s.place;
     let f = file_named(image, first_cursor(image, place.head), name);
@@ -52,7 +52,7 @@ fn get_from(image: &[u8], name: &[u8], s: Survey) -> Located
 // Where the bytes of the file of this name stand.
 pub fn get_place(image: &[u8], name: &[u8]) -> Located
     ensures { λ r. ⌜ (outcome-of (located r) (now (image .exit)) ≡ get (now (image .entry)) (now (name .entry)))
-        × Inside (now (image .entry)) (r .extent) ⌝ }
+        × Extent-inside (now (image .entry)) (r .extent) ⌝ }
 {
     let x = admitted_named(image, name);
     match x {

@@ -12,7 +12,7 @@ ghost use Rattle.spec.specs.Numbers.{outcome-of, part-of};
 ghost use Rattle.spec.specs.Answers.{carry-out, list-of, list};
 ghost use Rattle.reading.specs.Read.{reading-of};
 ghost use Rattle.reading.specs.Accepted.{Settled};
-ghost use Rattle.lilota.specs.Numbers.{listed, Inside, Lies-at};
+ghost use Rattle.lilota.specs.Numbers.{listed, Extent-inside, Lies-at};
 
 // No file, for this reason.
 fn unlisted(answer: u32) -> Listed
@@ -33,7 +33,7 @@ fn list_from(image: &[u8], index: usize, s: Survey) -> Listed
     requires { ⌜ Settled (now image) s ⌝ }
     ensures { λ r. ⌜ (outcome-of (listed r) (now (image .exit))
         ≡ carry-out (now (image .entry)) 0 (list-of index (reading-of (now (image .entry)) s)))
-        × Inside (now (image .entry)) (r .name) ⌝ }
+        × Extent-inside (now (image .entry)) (r .name) ⌝ }
 {
     let place = s.place;
     let f = file_indexed(image, first_cursor(image, place.head), index);
@@ -53,7 +53,7 @@ fn list_from(image: &[u8], index: usize, s: Survey) -> Listed
 // The file with this index, in the chain's order.
 pub fn list_place(image: &[u8], index: usize) -> Listed
     ensures { λ r. ⌜ (outcome-of (listed r) (now (image .exit)) ≡ list (now (image .entry)) index)
-        × Inside (now (image .entry)) (r .name) ⌝ }
+        × Extent-inside (now (image .entry)) (r .name) ⌝ }
 {
     let x = admitted(image);
     match x {

@@ -16,7 +16,6 @@ use writing::Old;
 use writing::write_file;
 ghost use mathlib.Core.Path.{_≡_};
 ghost use mathlib.Core.Bool.{true};
-ghost use Prim.Native.Nat.{_+_, _≤_};
 ghost use lib.ListN.{length};
 ghost use Rattle.spec.specs.Basics.{keep, first-such};
 ghost use Rattle.spec.specs.Record.{size-of};
@@ -26,6 +25,7 @@ ghost use Rattle.spec.specs.Write.{put-steps};
 ghost use Rattle.spec.specs.Numbers.{outcome-of};
 ghost use Rattle.spec.specs.Answers.{carry-out, put-into, put};
 ghost use Rattle.flash.specs.Did.{Did};
+ghost use Rattle.record.specs.Within.{Name-length};
 ghost use Rattle.reading.specs.Cursor.{Cursor-sound};
 ghost use Rattle.reading.specs.Rest.{rest};
 ghost use Rattle.reading.specs.FileLaws.{is-file};
@@ -45,12 +45,15 @@ fn old_file(image: &[u8], start: Cursor, name: &[u8]) -> Old
         return Old::None;
     };
     let a = e.at + 2;
-    Old::At(e.at, Status::from_byte(image[a]))
+    Old::At {
+        at: e.at,
+        status: Status::from_byte(image[a]),
+    }
 }
 
 // Put's steps, where there is room.
 fn replace(image: &mut [u8], s: Survey, name: &[u8], content: &[u8], m: Meter) -> Meter
-    requires { ⌜ Settled (now image) s × (length (now name) ≤ 63)
+    requires { ⌜ Settled (now image) s × Name-length (length (now name))
         × (fits (s .place) (size-of (length (now name)) (length (now content))) ≡ true) × (m .asked ≡ 0) ⌝ }
     ensures { λ r. ⌜ Did (now (image .entry)) m
         (put-steps (s .place) (file-named (now (name .entry)) (reading-of (now (image .entry)) s .entries))
@@ -64,7 +67,7 @@ fn replace(image: &mut [u8], s: Survey, name: &[u8], content: &[u8], m: Meter) -
 
 // The put on an image that was read: no room, or the steps.
 fn put_from(image: &mut [u8], s: Survey, name: &[u8], content: &[u8], allowance: usize) -> Written
-    requires { ⌜ Settled (now image) s × (length (now name) ≤ 63) ⌝ }
+    requires { ⌜ Settled (now image) s × Name-length (length (now name)) ⌝ }
     ensures { λ r. ⌜ (outcome-of (written r) (now (image .exit))
         ≡ carry-out (now (image .entry)) allowance
         (put-into (now (name .entry)) (now (content .entry)) (reading-of (now (image .entry)) s)))

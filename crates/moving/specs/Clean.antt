@@ -19,7 +19,7 @@ use Rattle.flash.specs.Toward.{Toward, toward-same, toward-more, toward-end}
 use Rattle.reading.specs.declared.Spot.{Spot}
 use Rattle.reading.specs.Rest.{entry-of}
 use Rattle.reading.specs.Fold.{Whole, name-length-is, content-length-is}
-use Rattle.moving.specs.Kept.{later-on}
+use Rattle.moving.specs.Untouched.{later-on}
 use Rattle.laws.specs.Clean.{clean-nil}
 
 -- ---- how many pairs may be looked at doesn't matter, if they are enough

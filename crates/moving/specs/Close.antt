@@ -15,6 +15,7 @@ use Rattle.spec.specs.Move.{vacated-end, vacated, vacated-steps, start-steps, f
 use Rattle.flash.specs.declared.Meter.{Meter}
 use Rattle.flash.specs.Did.{Did, did-both}
 use Rattle.laws.specs.Sectors.{sectors-none, sectors-more}
+use Rattle.laws.specs.Steps.{run-append}
 use Rattle.reading.specs.declared.Spot.{Spot}
 use Rattle.reading.specs.Rest.{entry-of}
 use Rattle.moving.specs.Clean.{cleaned-steps}
@@ -87,11 +88,6 @@ module _ (s : Image) (x y : Spot) (low : ℕ) where
       ∙ ap (λ (f : List Step). cleaned-steps (entry-of s x) ++ (map erase starts ++ (start-steps (y .at) low ++ f))) (forget-same s t x starts)
 
 -- ---- Y's first byte is START then
-
-run-append : (s : Image) (a b : List Step) → run s (a ++ b) ≡ run (run s a) b
-run-append s [] b = refl
-run-append s (program i x ∷ a) b = run-append (run s (program i x ∷ [])) a b
-run-append s (erase i ∷ a) b = run-append (run s (erase i ∷ [])) a b
 
 zeroed : (s : Image) (y i : ℕ) → y < length s → getD (set (set s y 0) i 0) y 0 ≡ 0
 zeroed s y i h = go (eqb y i) refl where

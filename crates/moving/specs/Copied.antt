@@ -12,11 +12,12 @@ use Rattle.spec.specs.Write.{name-end-steps, header-steps, name-steps, data-ste
 use Rattle.flash.specs.Did.{Did, did-both}
 use Rattle.laws.specs.Steps.{length-shifted, length-bytes, bytes-more, shifted-append, shifted-bytes}
 use Rattle.flash.specs.declared.Meter.{Meter}
+use Rattle.record.specs.Within.{Name-length}
 use Rattle.reading.specs.Rest.{entry-of}
 use Rattle.reading.specs.Fold.{name-length-is, content-length-is}
-use Rattle.writing.specs.Steps.{length-name}
-use Rattle.moving.specs.Kept.{Apart, off-part, length-part, Avoids, kept, Inside, inside-bytes, inside-append, inside-shifted, inside-avoids}
-use Rattle.laws.specs.Parts.{take-drop, part-first}
+use Rattle.writing.specs.WriteSteps.{length-name}
+use Rattle.moving.specs.Untouched.{Apart, off-part, length-part, Avoids, kept, Writes-in, writes-bytes, writes-append, writes-shifted, writes-avoids}
+use Rattle.laws.specs.Parts.{part-first}
 
 -- the record at this address, with n name bytes and d data bytes, as it is read
 abbrev pub entry-at : Image → ℕ → ℕ → ℕ → Entry
@@ -31,7 +32,7 @@ module _ (s : Image) (a n d : ℕ) (h : a + size-of n d ≤ length s) where
 
 -- in an image of length N such a record at `from`, and as many bytes at `to` that have none in common with it
 abbrev pub Copyable : ℕ → ℕ → ℕ → ℕ → ℕ → Type 0
-Copyable N from to n d = (n ≤ 63) × (from + size-of n d ≤ N) × (to + size-of n d ≤ N) × Apart from to (size-of n d)
+Copyable N from to n d = Name-length n × (from + size-of n d ≤ N) × (to + size-of n d ≤ N) × Apart from to (size-of n d)
 
 -- ---- byte by byte
 
@@ -46,8 +47,8 @@ copy-next {s} {t} from to n j o h l d =
     let short : length (take j w) ≡ j = length-take-le j w (omega (arith, length-part from n s l)) in
     getD-part from n j t h
     ∙ ap (λ (v : List ℕ). getD v j 0)
-    (kept from n d (inside-avoids to (to + n) from n (bytes-at to (take j w)) o
-    (inside-bytes to (to + n) to (take j w) (omega arith) (omega arith))))
+    (kept from n d (writes-avoids to (to + n) from n (bytes-at to (take j w)) o
+    (writes-bytes to (to + n) to (take j w) (omega arith) (omega arith))))
 
 -- one byte more
 pub copy-more : {s t u : Image} {m q r : Meter} (from to n j : ℕ) → Apart from to n → j < n → from + n ≤ length s
@@ -108,39 +109,39 @@ same-body {s} {t} from n d e p = rw (drop-drop 8 from t, drop-drop 8 from s) (ke
 
 -- ---- the whole record
 
-inside-header : (b d : ℕ) → 8 ≤ b → Inside 0 b (header-steps d)
-inside-header b d h = (
+writes-header : (b d : ℕ) → 8 ≤ b → Writes-in 0 b (header-steps d)
+writes-header b d h = (
   omega arith,
   omega arith,
   (
     omega arith,
     omega arith,
-    inside-append 0 b (bytes-at 4 (four d)) (program 2 0xFE ∷ [])
-        (inside-bytes 0 b 4 (four d) (omega arith) (omega arith)) (omega arith, omega arith, tt),
+    writes-append 0 b (bytes-at 4 (four d)) (program 2 0xFE ∷ [])
+        (writes-bytes 0 b 4 (four d) (omega arith) (omega arith)) (omega arith, omega arith, tt),
   ),
 )
 
-inside-name : (b : ℕ) (w : List ℕ) → 8 + length w < b → Inside 0 b (name-steps w)
-inside-name b w h =
-    inside-append 0 b (bytes-at 8 w) (name-end-steps (8 + length w)) (inside-bytes 0 b 8 w (omega arith) (omega arith))
+writes-name : (b : ℕ) (w : List ℕ) → 8 + length w < b → Writes-in 0 b (name-steps w)
+writes-name b w h =
+    writes-append 0 b (bytes-at 8 w) (name-end-steps (8 + length w)) (writes-bytes 0 b 8 w (omega arith) (omega arith))
     (omega arith, h, (omega arith, h, tt))
 
-pub inside-record : (name content : List ℕ) (z : ℕ) → z ≡ size-of (length name) (length content) → Inside 0 z (record-steps name content)
-inside-record name content z e =
+pub writes-record : (name content : List ℕ) (z : ℕ) → z ≡ size-of (length name) (length content) → Writes-in 0 z (record-steps name content)
+writes-record name content z e =
     let d : List Step = data-steps (length name) content in
-    inside-append 0 z (header-steps (length content)) (name-steps name ++ (d ++ commit-steps)) (inside-header z (length content) (omega arith))
-    (inside-append 0 z (name-steps name) (d ++ commit-steps) (inside-name z name (omega arith))
-    (inside-append 0 z d commit-steps (inside-bytes 0 z (8 + up8 (length name + 1)) content (omega arith) (omega arith))
+    writes-append 0 z (header-steps (length content)) (name-steps name ++ (d ++ commit-steps)) (writes-header z (length content) (omega arith))
+    (writes-append 0 z (name-steps name) (d ++ commit-steps) (writes-name z name (omega arith))
+    (writes-append 0 z d commit-steps (writes-bytes 0 z (8 + up8 (length name + 1)) content (omega arith) (omega arith))
     (omega arith, omega arith, tt)))
 
 -- steps of the copy, counted from its start, leave the record as it was
 copy-keeps : {s t : Image} {m r : Meter} (ss : List Step) (from to n d e : ℕ) → Apart from to (size-of n d) → e ≤ size-of n d
-    → Did s m (shifted to ss) t r → Inside 0 e ss
+    → Did s m (shifted to ss) t r → Writes-in 0 e ss
     → body n d (drop from t) ≡ body n d (drop from s)
 copy-keeps ss from to n d e o h did p =
-    same-body from n d did (inside-avoids (to + 0) (to + e) (from + 8) (up8 (n + 1) + up8 d) (shifted to ss)
+    same-body from n d did (writes-avoids (to + 0) (to + e) (from + 8) (up8 (n + 1) + up8 d) (shifted to ss)
     (off-part to (to + size-of n d) from (size-of n d) 8 (up8 (n + 1) + up8 d) (to + 0) (to + e) o (omega arith) (omega arith) (omega arith))
-    (inside-shifted to 0 e ss p))
+    (writes-shifted to 0 e ss p))
 
 -- the steps of a record with n name bytes and d data bytes, phase by phase
 record-shifted : (to : ℕ) (name content : List ℕ) (n d : ℕ) → length name ≡ n → length content ≡ d
@@ -166,10 +167,10 @@ module _ {s s₁ s₂ s₃ t : Image} {m a b c r : Meter} (from to n d : ℕ) (f
         let named = name-long s from n d fits in
         let filled = content-long s from n d fits in
         let first : body n d (drop from s₁) ≡ body n d (drop from s) =
-        copy-keeps (header-steps d) from to n d 8 apart (omega arith) header (inside-header 8 d (omega arith)) in
+        copy-keeps (header-steps d) from to n d 8 apart (omega arith) header (writes-header 8 d (omega arith)) in
         let name′ : Did s₁ a (shifted to (name-steps (name-of own))) s₂ b = rw (same-name n d (drop from s) (drop from s₁) first) at name in
         let second : body n d (drop from s₂) ≡ body n d (drop from s₁) =
-        copy-keeps (name-steps (name-of own)) from to n d (9 + n) apart (omega arith) name′ (inside-name (9 + n) (name-of own) (omega arith)) in
+        copy-keeps (name-steps (name-of own)) from to n d (9 + n) apart (omega arith) name′ (writes-name (9 + n) (name-of own) (omega arith)) in
         let content′ : Did s₂ b (shifted to (data-steps n (content-of own))) s₃ c =
         rw (same-content n d (drop from s) (drop from s₂) (second ∙ first)) at content in
         rw (record-shifted to (name-of own) (content-of own) n d named filled) (did-both header (did-both name′ (did-both content′ commit)))

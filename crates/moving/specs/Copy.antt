@@ -1,6 +1,6 @@
 -- Step (a): the head's record, copied as in put. Where the copy lies, its phases, how many steps it is, and that it leaves the
 -- head's first byte alone.
-use Prim.Native.Nat.{ℕ, _+_, _≤_, _<_}
+use Prim.Native.Nat.{ℕ, _+_, _≤_}
 use native.Mathlib.Omega.{arith}
 use native.Mathlib.Nat.{add-zero}
 use mathlib.Core.Path.{_≡_, refl, sym, ap, _∙_}
@@ -24,12 +24,14 @@ use Rattle.spec.specs.Write.{status-step, migrate-steps, delete-steps, turn-ste
 use Rattle.flash.specs.declared.Meter.{Meter}
 use Rattle.flash.specs.Did.{Did}
 use Rattle.writing.specs.declared.Old.the-variants.{At}
-use Rattle.writing.specs.Steps.{record-count}
+use Rattle.writing.specs.WriteSteps.{record-count}
 use Rattle.writing.specs.Old.{bare, old-entry, migrate-few, put-old}
-use Rattle.writing.specs.Room.{Way, at-tail, at-start, way, placed-parts, marker-before-turn}
+use Rattle.writing.specs.Placing.{Way, at-tail, at-start, way, placed-parts, marker-before-turn}
 use Rattle.writing.specs.Put.{marks, marks-few, put-phases}
-use Rattle.moving.specs.Kept.{Off, Apart, Avoids, avoids-append, kept, inside-shifted, inside-avoids}
-use Rattle.moving.specs.Copied.{entry-at, name-long, content-long, same-name, same-content, same-body, inside-record}
+use Rattle.moving.specs.Untouched.{Off, Apart, Avoids, avoids-append, kept, writes-shifted, writes-avoids}
+use Rattle.moving.specs.Copied.{entry-at, name-long, content-long, same-name, same-content, same-body, writes-record}
+use Rattle.laws.specs.Tests.{either}
+use Rattle.laws.specs.Parts.{Outside}
 
 -- "copied as in put", of an entry x in its own place
 abbrev pub copy-of : Place → Entry → List Step
@@ -53,11 +55,8 @@ copy-apart p z h e = go (way p z e) where
 
 -- ---- what stands at the head is left alone by the F8 step, but for the status, and by the marker
 
-migrate-avoids : (x : Entry) (i n : ℕ) → (x .at + 2 < i) ⊎ (i + n ≤ x .at + 2) → Avoids i n (migrate-steps (some x))
-migrate-avoids x i n o = go (is-committed (x .it .status)) where
-  go : (t : Bool) → Avoids i n (elim t [ true ↦ status-step x 0xF8 ∷ [] | false ↦ [] ])
-  go true = (o, tt)
-  go false = tt
+migrate-avoids : (x : Entry) (i n : ℕ) → Outside (x .at + 2) i n → Avoids i n (migrate-steps (some x))
+migrate-avoids x i n o = either (Avoids i n) (is-committed (x .it .status)) (status-step x 0xF8 ∷ []) [] (o, tt) tt
 
 marks-avoid : (i n t : ℕ) (k : Bool) → (k ≡ true → i + n ≤ t) → Avoids i n (marks k t)
 marks-avoid i n t true h =
@@ -133,8 +132,8 @@ copy-avoids p x e h f =
     avoids-append (x .at) 1 (migrate-steps (some x)) (turn-steps p z ++ (written ++ delete-steps (some x))) (migrate-avoids x (x .at) 1 (inr (omega arith)))
     (avoids-append (x .at) 1 (turn-steps p z) (written ++ delete-steps (some x)) (marks-avoid (x .at) 1 (p .tail) (with-marker p z) marked)
     (avoids-append (x .at) 1 written (delete-steps (some x))
-    (inside-avoids (a + 0) (a + z) (x .at) 1 written off
-    (inside-shifted a 0 z (record-steps (name-of x) (content-of x)) (inside-record (name-of x) (content-of x) z refl)))
+    (writes-avoids (a + 0) (a + z) (x .at) 1 written off
+    (writes-shifted a 0 z (record-steps (name-of x) (content-of x)) (writes-record (name-of x) (content-of x) z refl)))
     (inr (omega arith), tt)))
 
 one-kept : {s t : Image} {m r : Meter} {ss : List Step} (h : ℕ) → Did s m ss t r → Avoids h 1 ss → getD t h 0 ≡ getD s h 0

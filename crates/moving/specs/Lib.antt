@@ -1,4 +1,4 @@
-pub mod Kept
+pub mod Untouched
 pub mod Copied
 pub mod Copy
 pub mod Clean

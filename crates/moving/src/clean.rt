@@ -9,14 +9,15 @@ use spec::HIGH;
 use spec::START;
 ghost use mathlib.Core.Path.{_≡_};
 ghost use mathlib.Core.Bool.{_||_};
-ghost use Prim.Native.Nat.{_+_, _≤_, _<_, _^_};
+ghost use Prim.Native.Nat.{_+_, _≤_, _<_};
 ghost use lib.ListN.{length, take, drop};
 ghost use Rattle.spec.specs.Bytes.{is-start, is-clean, is-record};
 ghost use Rattle.spec.specs.Move.{mark-steps, clean-steps};
+ghost use Rattle.laws.specs.Length.{In-range};
 ghost use Rattle.flash.specs.Did.{Did};
+ghost use Rattle.flash.specs.Meters.{Can-count, Asked-most};
 ghost use Rattle.reading.specs.Rest.{entry-of};
 ghost use Rattle.reading.specs.Fold.{Whole};
-ghost use Rattle.writing.specs.Counts.{Counts};
 ghost use Rattle.moving.specs.Clean.{is-mark, cleaned-steps};
 
 // The first byte of a head's magic, or of a record's.
@@ -39,9 +40,9 @@ fn is_mark(b: u8, c: u8) -> bool
 // The pair at this address, if it is such a one, gets 00 as its second byte.
 fn clean_pair(image: &mut [u8], at: usize, m: Meter) -> Meter
     requires { ⌜ at + 1 < length (now image) ⌝ }
-    requires { ⌜ Counts m 1 ⌝ }
+    requires { ⌜ Can-count m 1 ⌝ }
     ensures { λ r. ⌜ (let s = now (image .entry) in Did s m (mark-steps at (drop at s)) (now (image .exit)) r) ⌝ }
-    ensures { λ r. ⌜ r .asked ≤ m .asked + 1 ⌝ }
+    ensures { λ r. ⌜ Asked-most m r 1 ⌝ }
 {
     if is_mark(image[at], image[at + 1]) {
         return program(image, at + 1, 0x00, m);
@@ -52,10 +53,10 @@ fn clean_pair(image: &mut [u8], at: usize, m: Meter) -> Meter
 // The pairs at the 8-byte boundaries of the d bytes from `at` on.
 fn clean_bytes(image: &mut [u8], at: usize, d: usize, m: Meter) -> Meter
     requires { ⌜ at + d ≤ length (now image) ⌝ }
-    requires { ⌜ length (now image) ≤ 2 ^ 24 ⌝ }
-    requires { ⌜ Counts m d ⌝ }
+    requires { ⌜ In-range (length (now image)) ⌝ }
+    requires { ⌜ Can-count m d ⌝ }
     ensures { λ r. ⌜ (let s = now (image .entry) in Did s m (clean-steps d at (take d (drop at s))) (now (image .exit)) r) ⌝ }
-    ensures { λ r. ⌜ r .asked ≤ m .asked + d ⌝ }
+    ensures { λ r. ⌜ Asked-most m r d ⌝ }
 {
     let mut q = m;
     let mut i = 0;
@@ -69,10 +70,10 @@ fn clean_bytes(image: &mut [u8], at: usize, d: usize, m: Meter) -> Meter
 // (c) X's data is cleaned.
 pub fn clean_data(image: &mut [u8], x: Spot, m: Meter) -> Meter
     requires { ⌜ Whole (now image) x ⌝ }
-    requires { ⌜ length (now image) ≤ 2 ^ 24 ⌝ }
-    requires { ⌜ Counts m (x .d) ⌝ }
+    requires { ⌜ In-range (length (now image)) ⌝ }
+    requires { ⌜ Can-count m (x .d) ⌝ }
     ensures { λ r. ⌜ (let s = now (image .entry) in Did s m (cleaned-steps (entry-of s x)) (now (image .exit)) r) ⌝ }
-    ensures { λ r. ⌜ r .asked ≤ m .asked + x .d ⌝ }
+    ensures { λ r. ⌜ Asked-most m r (x .d) ⌝ }
 {
     clean_bytes(image, x.at + 8 + up_8(x.n + 1), x.d, m)
 }

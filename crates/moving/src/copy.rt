@@ -18,16 +18,16 @@ ghost use Rattle.spec.specs.Step.{bytes-at, shifted};
 ghost use Rattle.spec.specs.Record.{size-of, name-of, content-of};
 ghost use Rattle.spec.specs.Write.{name-steps, data-steps, record-steps};
 ghost use Rattle.flash.specs.Did.{Did};
-ghost use Rattle.writing.specs.Counts.{Counts};
+ghost use Rattle.flash.specs.Meters.{Can-count};
 ghost use Rattle.writing.specs.Put.{Ready};
-ghost use Rattle.moving.specs.Kept.{Apart};
+ghost use Rattle.moving.specs.Untouched.{Apart};
 ghost use Rattle.moving.specs.Copied.{entry-at, Copyable};
 ghost use Rattle.moving.specs.Copy.{HeadEnds, copy-of};
 
 // Programs n bytes from one address on as they stand from the other on.
 fn copy_bytes(image: &mut [u8], from: usize, to: usize, n: usize, m: Meter) -> Meter
     requires { ⌜ (from + n ≤ length (now image)) × (to + n ≤ length (now image)) × Apart from to n ⌝ }
-    requires { ⌜ Counts m n ⌝ }
+    requires { ⌜ Can-count m n ⌝ }
     ensures { λ r. ⌜ (let s = now (image .entry) in Did s m (bytes-at to (take n (drop from s))) (now (image .exit)) r) ⌝ }
 {
     let mut q = m;
@@ -43,7 +43,7 @@ fn copy_bytes(image: &mut [u8], from: usize, to: usize, n: usize, m: Meter) -> M
 // The name of n bytes, and the 00 that ends it.
 fn copy_name(image: &mut [u8], from: usize, to: usize, n: usize, m: Meter) -> Meter
     requires { ⌜ (from + 8 + n ≤ length (now image)) × (to + 8 + n < length (now image)) × Apart (from + 8) (to + 8) n ⌝ }
-    requires { ⌜ Counts m (n + 2) ⌝ }
+    requires { ⌜ Can-count m (n + 2) ⌝ }
     ensures { λ r. ⌜ (let s = now (image .entry) in
         Did s m (shifted to (name-steps (take n (drop 8 (drop from s))))) (now (image .exit)) r) ⌝ }
 {
@@ -54,7 +54,7 @@ fn copy_name(image: &mut [u8], from: usize, to: usize, n: usize, m: Meter) -> Me
 // The d data bytes, behind a name of n bytes.
 fn copy_data(image: &mut [u8], from: usize, to: usize, n: usize, d: usize, m: Meter) -> Meter
     requires { ⌜ Copyable (length (now image)) from to n d ⌝ }
-    requires { ⌜ Counts m d ⌝ }
+    requires { ⌜ Can-count m d ⌝ }
     ensures { λ r. ⌜ (let s = now (image .entry) in
         Did s m (shifted to (data-steps n (content-of (entry-at s from n d)))) (now (image .exit)) r) ⌝ }
 {
@@ -65,7 +65,7 @@ fn copy_data(image: &mut [u8], from: usize, to: usize, n: usize, d: usize, m: Me
 // A whole record with n name bytes and d data bytes, as put writes it.
 fn copy_record(image: &mut [u8], from: usize, to: usize, n: usize, d: usize, m: Meter) -> Meter
     requires { ⌜ Copyable (length (now image)) from to n d ⌝ }
-    requires { ⌜ Counts m (n + d + 10) ⌝ }
+    requires { ⌜ Can-count m (n + d + 10) ⌝ }
     ensures { λ r. ⌜ (let x = entry-at (now (image .entry)) from n d in
         Did (now (image .entry)) m (shifted to (record-steps (name-of x) (content-of x))) (now (image .exit)) r) ⌝ }
 {
@@ -81,11 +81,14 @@ pub fn copy_head(image: &mut [u8], place: Place, n: usize, d: usize, m: Meter) -
     requires { ⌜ HeadEnds place (size-of n d) ⌝ }
     ensures { λ r. ⌜ (let s = now (image .entry) in Did s m (copy-of place (entry-at s (place .head) n d)) (now (image .exit)) r) ⌝ }
 {
-    let Placed::At(at, marker, _) = place.after(size(n, d)) else {
+    let Placed::At { at, marker, .. } = place.after(size(n, d)) else {
         return m;
     };
     let head = place.head;
-    let old = Old::At(head, Status::from_byte(image[head + 2]));
+    let old = Old::At {
+        at: head,
+        status: Status::from_byte(image[head + 2]),
+    };
     let a = prepare(image, old, place.tail, marker, m);
     let b = copy_record(image, head, at, n, d, a);
     delete(image, old, b)

@@ -15,13 +15,14 @@ use spec::START;
 use spec::floor;
 ghost use mathlib.Core.Path.{_≡_};
 ghost use mathlib.Core.List.{[], _∷_};
-ghost use Prim.Native.Nat.{_+_, _*_, _≤_, _<_, _^_};
+ghost use Prim.Native.Nat.{_+_, _*_, _≤_, _<_};
 ghost use lib.ListN.{length};
 ghost use Rattle.spec.specs.Move.{to-clean-step, vacated-end, vacated-steps, start-steps, forget-steps, close-steps};
+ghost use Rattle.laws.specs.Length.{In-range};
 ghost use Rattle.flash.specs.Did.{Did};
+ghost use Rattle.flash.specs.Meters.{Can-count, Asked-most};
 ghost use Rattle.reading.specs.Rest.{entry-of};
 ghost use Rattle.reading.specs.Fold.{Whole};
-ghost use Rattle.writing.specs.Counts.{Counts};
 ghost use Rattle.moving.specs.Close.{left-behind};
 
 // The head that a move or a repair leaves, and the meter.
@@ -33,7 +34,7 @@ pub struct NewHead {
 // (b) Y becomes CLEAN.
 pub fn to_clean(image: &mut [u8], y: Spot, m: Meter) -> Meter
     requires { ⌜ Whole (now image) y ⌝ }
-    requires { ⌜ Counts m 1 ⌝ }
+    requires { ⌜ Can-count m 1 ⌝ }
     ensures { λ r. ⌜ (let s = now (image .entry) in Did s m (to-clean-step (entry-of s y) ∷ []) (now (image .exit)) r) ⌝ }
 {
     program(image, y.at, CLEAN, m)
@@ -54,10 +55,10 @@ fn vacated_end(image: &[u8], y: Spot) -> usize
 // (d) The sectors from X's to the one before Y's are erased.
 fn vacate(image: &mut [u8], x: Spot, y: Spot, m: Meter) -> Meter
     requires { ⌜ Whole (now image) x × Whole (now image) y ⌝ }
-    requires { ⌜ length (now image) ≤ 2 ^ 24 ⌝ }
-    requires { ⌜ Counts m (length (now image)) ⌝ }
+    requires { ⌜ In-range (length (now image)) ⌝ }
+    requires { ⌜ Can-count m (length (now image)) ⌝ }
     ensures { λ r. ⌜ (let s = now (image .entry) in Did s m (vacated-steps (left-behind s x y)) (now (image .exit)) r) ⌝ }
-    ensures { λ r. ⌜ r .asked ≤ m .asked + length (now (image .entry)) ⌝ }
+    ensures { λ r. ⌜ Asked-most m r (length (now (image .entry))) ⌝ }
 {
     let to = vacated_end(image, y);
     erase_sectors(image, floor(x.at), to, m)
@@ -67,9 +68,9 @@ fn vacate(image: &mut [u8], x: Spot, y: Spot, m: Meter) -> Meter
 // is cut inside; from 80 at once.
 pub fn to_start(image: &mut [u8], at: usize, low: u8, m: Meter) -> Meter
     requires { ⌜ at < length (now image) ⌝ }
-    requires { ⌜ Counts m 2 ⌝ }
+    requires { ⌜ Can-count m 2 ⌝ }
     ensures { λ r. ⌜ Did (now (image .entry)) m (start-steps at low) (now (image .exit)) r ⌝ }
-    ensures { λ r. ⌜ r .asked ≤ m .asked + 2 ⌝ }
+    ensures { λ r. ⌜ Asked-most m r 2 ⌝ }
 {
     if low == CLEAN {
         return clear_by(image, at, 0x80, m);
@@ -80,9 +81,9 @@ pub fn to_start(image: &mut [u8], at: usize, low: u8, m: Meter) -> Meter
 // (f) X's second byte goes, if its sector was not erased: a later search must not stop at X.
 fn forget(image: &mut [u8], x: Spot, y: Spot, m: Meter) -> Meter
     requires { ⌜ Whole (now image) x × Whole (now image) y ⌝ }
-    requires { ⌜ Counts m 1 ⌝ }
+    requires { ⌜ Can-count m 1 ⌝ }
     ensures { λ r. ⌜ (let s = now (image .entry) in Did s m (forget-steps (entry-of s x) (left-behind s x y)) (now (image .exit)) r) ⌝ }
-    ensures { λ r. ⌜ r .asked ≤ m .asked + 1 ⌝ }
+    ensures { λ r. ⌜ Asked-most m r 1 ⌝ }
 {
     let to = vacated_end(image, y);
     if floor(x.at) + SECTOR <= to {
@@ -94,11 +95,11 @@ fn forget(image: &mut [u8], x: Spot, y: Spot, m: Meter) -> Meter
 // (c) to (f), with Y's low byte. Y becomes START only after the erases.
 pub fn close(image: &mut [u8], x: Spot, y: Spot, low: u8, m: Meter) -> Meter
     requires { ⌜ Whole (now image) x × Whole (now image) y ⌝ }
-    requires { ⌜ length (now image) ≤ 2 ^ 24 ⌝ }
-    requires { ⌜ Counts m (2 * length (now image) + 3) ⌝ }
+    requires { ⌜ In-range (length (now image)) ⌝ }
+    requires { ⌜ Can-count m (2 * length (now image) + 3) ⌝ }
     ensures { λ r. ⌜ (let s = now (image .entry) in
         Did s m (close-steps (length s) (entry-of s x) (entry-of s y) low) (now (image .exit)) r) ⌝ }
-    ensures { λ r. ⌜ r .asked ≤ m .asked + (2 * length (now (image .entry)) + 3) ⌝ }
+    ensures { λ r. ⌜ Asked-most m r (2 * length (now (image .entry)) + 3) ⌝ }
 {
     let a = clean_data(image, x, m);
     let b = vacate(image, x, y, a);

@@ -11,6 +11,7 @@ use Rattle.spec.specs.Bytes.{is-unfinished}
 use Rattle.spec.specs.Record.{size-of, status-of}
 use Rattle.spec.specs.Next.{next}
 use Rattle.spec.specs.Chain.{allowed}
+use Rattle.laws.specs.Length.{In-range}
 use Rattle.reading.specs.declared.Cursor.{Cursor}
 use Rattle.reading.specs.declared.Spot.{Spot}
 use Rattle.reading.specs.declared.Item.{Item}
@@ -83,7 +84,7 @@ pub record Cursor-sound (image : List ℕ) (c : Cursor) : Type 0 where
   pub ordered : c .at ≤ c .end
   pub inside : c .end ≤ length image
   pub room : c .room ≤ length image
-  pub small : length image ≤ 2 ^ 24
+  pub small : In-range (length image)
 
 -- what is left to read: the measure of every loop over the chain
 abbrev pub left : Cursor → ℕ

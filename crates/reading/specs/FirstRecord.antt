@@ -16,13 +16,15 @@ use Rattle.spec.specs.Geometry.{floor}
 use Rattle.spec.specs.Bytes.{clears, on-way, under-way, is-record, is-wrap, is-start, is-clean, is-record-begun, is-wrap-begun, is-high, is-erased, is-reserved, is-spare}
 use Rattle.spec.specs.Record.{low-of, high-of, status-of, spare-of, data-len-of, size-of, name-length}
 use Rattle.spec.specs.Next.{is-torn-marker, kind, sized, next-at, next}
+use Rattle.laws.specs.Tests.{wrong}
 use Rattle.laws.specs.Head.{Low}
 use Rattle.laws.specs.Parts.{long-le}
 use Rattle.reading.specs.declared.Cursor.{Cursor}
 use Rattle.reading.specs.declared.Spot.{Spot}
 use Rattle.reading.specs.Cursor.{look, goes-on, unfinished-at, past}
 use Rattle.reading.specs.Read.{first-cursor}
-use Rattle.reading.specs.Way.{From, here, turned, Reached, On, never, room-left, from-on}
+use Rattle.reading.specs.Along.{From, here, turned, Reached, room-left}
+use Rattle.reading.specs.Way.{On, from-on}
 
 -- ---- what stands there is a record or breaks a rule
 
@@ -92,8 +94,8 @@ module _ (image : Image) (h : ℕ) (l : h < length image) (b : Low (getD image h
       refl
 
   from-here : (d : Cursor) → From image (first-cursor image h) d → d ≡ first-cursor image h
-  from-here d here = refl
-  from-here d (turned e) = never (sym e ∙ straight)
+  from-here d (here e) = refl
+  from-here d (turned e) = wrong (sym straight ∙ e)
 
   module _ (x : Spot) (c : Cursor) (r : Reached image (first-cursor image h) x c) where
     start : r .seen ≡ first-cursor image h
@@ -113,14 +115,14 @@ module _ (image : Image) (h : ℕ) (l : h < length image) (b : Low (getD image h
         record {
           even = omega arith;
           up = λ z. (omega arith, omega arith, refl, refl);
-          round = λ z. never (sym z);
+          round = λ z. wrong z;
         }
 
     -- the second record stands behind the first, or at 0 after the turn
     pub apart : (y : Spot) (d : Cursor) → Reached image c y d → (x .at + size-of (x .n) (x .d) ≤ y .at) ⊎ (y .at < x .at)
     apart y d q = go (q .seen) (q .from) (q .at) where
       go : (k : Cursor) → From image c k → y .at ≡ k .at → (x .at + size-of (x .n) (x .d) ≤ y .at) ⊎ (y .at < x .at)
-      go k here e = inl (omega (arith, first-at, ap (λ (v : Cursor). v .at) past-first))
+      go k (here g) e = inl (omega (arith, first-at, ap (λ (v : Cursor). v .at) past-first))
       go k (turned g) e = inr (omega (arith, first-at, room-left (c .room) (look image c) g, ap (λ (v : Cursor). v .room) past-first))
 
     pub second-even : h % 8 ≡ 0 → (y : Spot) (d : Cursor) → Reached image c y d → y .at % 8 ≡ 0

@@ -1,5 +1,5 @@
 -- The free run, as the code goes through it.
-use Prim.Native.Nat.{ℕ, _+_, _-_, _≤_, _<_, _^_, min}
+use Prim.Native.Nat.{ℕ, _+_, _-_, _≤_, _<_, min}
 use native.Mathlib.Omega.{arith}
 use mathlib.Core.Path.{_≡_, sym, ap, _∙_}
 use mathlib.Core.Bool.{Bool, true, false}
@@ -10,13 +10,14 @@ use Rattle.spec.specs.Basics.{blank}
 use Rattle.spec.specs.Geometry.{floor}
 use Rattle.spec.specs.Reading.{limit, blank-part, free-blank, tail-blank}
 use Rattle.laws.specs.Parts.{part-window}
+use Rattle.laws.specs.Length.{In-range}
 
 -- a place of this image
 pub record In-image (image : List ℕ) (p : Place) : Type 0 where
   pub head : p .head ≤ length image
   pub tail : p .tail ≤ length image
   pub whole : p .length ≡ length image
-  pub small : length image ≤ 2 ^ 24
+  pub small : In-range (length image)
 
 -- the test that the head asks for
 abbrev pub free-by : Bool → List ℕ → Place → Bool

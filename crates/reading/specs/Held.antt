@@ -2,7 +2,7 @@
 use Prim.Native.Nat.{ℕ, _≤_, _<_}
 use native.Mathlib.Omega.{arith}
 use mathlib.Core.Path.{_≡_, refl, sym, ap, _∙_}
-use mathlib.Core.Bool.{Bool, true, false, _&&_, _||_}
+use mathlib.Core.Bool.{Bool, true, false, _||_}
 use mathlib.Core.List.{List, [], _∷_, _++_}
 use lib.ListN.{length}
 use Rattle.spec.specs.Basics.{any, same, Each}
@@ -11,15 +11,21 @@ use Rattle.spec.specs.Files.{named, named-as, has-named}
 use Rattle.reading.specs.declared.Signature.{Signature}
 use Rattle.reading.specs.declared.Earlier.{Earlier}
 use Rattle.reading.specs.declared.Repeats.{Repeats}
-use Rattle.reading.specs.Filter.{signature-of, has, with, has-set, has-kept, length-with}
+use Rattle.reading.specs.Filter.{signature-of, In-table, has, with, has-set, has-kept, length-with}
 use Rattle.reading.specs.FileLaws.{is-file}
 use Rattle.reading.specs.Repeats.{repeats-of, earlier-of, repeats-with, repeats-none, repeats-same, repeats-more, repeats-first}
-use Rattle.reading.specs.NamesLaw.{wrong}
-use Rattle.laws.specs.Tests.{and-left, and-right}
+use Rattle.reading.specs.Prefix.{each-last}
+use Rattle.laws.specs.Tests.{wrong, and-left, and-right}
 use Rattle.laws.specs.Lists.{same-is}
 
 abbrev pub signed : Entry → Signature
 signed e = signature-of (name-of e)
+
+-- e is a file, and s are the bits of its name
+pub record File-signed (e : Entry) (s : Signature) : Type 0 where
+  pub file : is-file e ≡ true
+  pub bits : s ≡ signed e
+  pub inside : In-table s
 
 -- e's name is in the table, if e is a file
 abbrev In : List ℕ → Entry → Type 0
@@ -30,26 +36,22 @@ pub record Held (table : List ℕ) (es : List Entry) : Type 0 where
   pub size : 512 ≤ length table
   pub each : Each (In table) es
 
-each-last : (P : Entry → Type 0) (es : List Entry) (e : Entry) → Each P es → P e → Each P (es ++ e ∷ [])
-each-last P [] e h q = (q, tt)
-each-last P (x ∷ es) e h q = (h .0, each-last P es e (h .1) q)
-
 held-same : (table : List ℕ) (es : List Entry) (e : Entry) → Held table es → is-file e ≡ false → Held table (es ++ e ∷ [])
 held-same table es e h n = record { size = h .size; each = each-last (In table) es e (h .each) (λ q. wrong (sym n ∙ q)) }
 
-module _ (table : List ℕ) (s : Signature) (l : s .word < length table) where
+module _ (table : List ℕ) (s : Signature) (w : In-table s) (size : 512 ≤ length table) where
   each-kept : (es : List Entry) → Each (In table) es → Each (In (with table s)) es
   each-kept [] h = tt
-  each-kept (x ∷ es) h = ((λ q. has-kept table s l (signed x) (h .0 q)), each-kept es (h .1))
+  each-kept (x ∷ es) h = ((λ q. has-kept table s w size (signed x) (h .0 q)), each-kept es (h .1))
 
-held-more : (table : List ℕ) (s : Signature) (es : List Entry) (e : Entry) → s .word < 512 → s ≡ signed e → Held table es
+held-more : (table : List ℕ) (s : Signature) (es : List Entry) (e : Entry) → In-table s → s ≡ signed e → Held table es
     → Held (with table s) (es ++ e ∷ [])
 held-more table s es e l q h =
-    let i : s .word < length table = omega (arith, h .size) in
     record {
       size = rw (length-with table s) (h .size);
       each =
-          each-last (In (with table s)) es e (each-kept table s i es (h .each)) (λ n. ap (has (with table s)) (sym q) ∙ has-set table s i);
+          each-last (In (with table s)) es e (each-kept table s l (h .size) es (h .each))
+          (λ n. ap (has (with table s)) (sym q) ∙ has-set table s l (h .size));
     }
 
 -- a name whose bits are not all set is that of no record
@@ -66,11 +68,11 @@ module _ (st : ℕ) (file : (x : Entry) → named st x ≡ true → is-file x �
         wrong (sym n ∙ ap (λ (b : List ℕ). has table (signature-of b)) s ∙ h .0 (file x f))
     go false q ih = rw (q, any) ih
 
-file-fc : (x : Entry) → named 0xFC x ≡ true → is-file x ≡ true
+pub file-fc : (x : Entry) → named 0xFC x ≡ true → is-file x ≡ true
 unfolding is-file
 file-fc x h = rw h
 
-file-f8 : (x : Entry) → named 0xF8 x ≡ true → is-file x ≡ true
+pub file-f8 : (x : Entry) → named 0xF8 x ≡ true → is-file x ≡ true
 unfolding is-file
 file-f8 x h = go (named 0xFC x) where
   go : (t : Bool) → (t || named 0xF8 x) ≡ true
@@ -91,7 +93,7 @@ module _ {es : List Entry} {n : Repeats} {table : List ℕ} (e : Entry) (w : Car
   pub carried-same : is-file e ≡ false → Carried (es ++ e ∷ []) n table
   carried-same f = record { right = w .right ∙ sym (repeats-same es e f); pending = held-same table es e (w .pending) f }
 
-  module _ (s : Signature) (l : s .word < 512) (q : s ≡ signed e) (f : is-file e ≡ true) where
+  module _ (s : Signature) (l : In-table s) (q : s ≡ signed e) (f : is-file e ≡ true) where
     -- it is, and its bits were not all set: no record of its name stands before
     pub carried-new : has table s ≡ false → Carried (es ++ e ∷ []) n (with table s)
     carried-new h =

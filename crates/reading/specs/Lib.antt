@@ -2,10 +2,12 @@ pub mod HeadLaws
 pub mod Cursor
 pub mod Fits
 pub mod CursorLaws
+pub mod Along
 pub mod Rest
 pub mod Bridge
 pub mod Ends
 pub mod Fold
+pub mod Plain
 pub mod FileLaws
 pub mod Seek
 pub mod Tally
@@ -13,10 +15,14 @@ pub mod Faithful
 pub mod TallyLaws
 pub mod NamesLaw
 pub mod Filter
+pub mod Marks
 pub mod Repeats
 pub mod Prefix
 pub mod Held
+pub mod Skip
+pub mod Gather
 pub mod FreeLaws
+pub mod HeadSkip
 pub mod Read
 pub mod Stows
 pub mod Room

@@ -1,7 +1,7 @@
 -- "a live name that breaks the name rule": it is enough to look at every FC and F8 record with a name, since one that is
 -- superseded shares its name with a live one. And where none is superseded, these records are the live files.
 use mathlib.Core.Path.{_≡_, refl, sym, ap, _∙_}
-use mathlib.Core.Bool.{Bool, true, false, false≢true}
+use mathlib.Core.Bool.{Bool, true, false}
 use mathlib.Core.List.{List, [], _∷_}
 use Rattle.spec.specs.Basics.{any, all, keep, same}
 use Rattle.spec.specs.Record.{Entry, name-of, name-ok}
@@ -9,11 +9,8 @@ use Rattle.spec.specs.Files.{named, named-as, has-named, live, superseded, file
 use Rattle.spec.specs.Reading.{name-legal, names-ok}
 use Rattle.reading.specs.FileLaws.{is-file}
 use Rattle.reading.specs.Tally.{name-fine}
-use Rattle.laws.specs.Tests.{and-left, and-right}
+use Rattle.laws.specs.Tests.{wrong, and-left, and-right, iff}
 use Rattle.laws.specs.Lists.{same-is}
-
-pub wrong : {A : Type 0} → false ≡ true → A
-wrong e = absurd (false≢true e)
 
 -- ---- tests that hold together
 
@@ -27,11 +24,6 @@ all-rest p x xs false e h = wrong (rw (e, all) at h)
 
 all-both : (p : Entry → Bool) (x : Entry) (xs : List Entry) → p x ≡ true → all p xs ≡ true → all p (x ∷ xs) ≡ true
 all-both p x xs e h = rw (e, all) h
-
-pub iff : (a b : Bool) → (a ≡ true → b ≡ true) → (b ≡ true → a ≡ true) → a ≡ b
-iff true b f g = sym (f refl)
-iff false true f g = g refl
-iff false false f g = refl
 
 -- ---- the names
 

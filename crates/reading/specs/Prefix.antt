@@ -6,6 +6,7 @@ use mathlib.Core.Bool.{Bool, true, false, _||_}
 use mathlib.Core.List.{List, [], _∷_, _++_, append-nil}
 use lib.ListN.{take, drop, take-append-drop}
 use lib.Seq.{take-nil, take-add, drop-drop}
+use Rattle.spec.specs.Basics.{Each}
 use Rattle.spec.specs.Record.{Entry}
 use Rattle.spec.specs.Files.{named-as, has-named}
 use Rattle.reading.specs.declared.Cursor.{Cursor}
@@ -28,6 +29,10 @@ module _ {A : Type 0} (k : ℕ) (xs : List A) where
 
   take-whole : drop k xs ≡ [] → take k xs ≡ xs
   take-whole e = sym (append-nil (take k xs)) ∙ ap (λ (l : List A). take k xs ++ l) (sym e) ∙ take-append-drop k xs
+
+pub each-last : (P : Entry → Type 0) (es : List Entry) (e : Entry) → Each P es → P e → Each P (es ++ e ∷ [])
+each-last P [] e h q = (q, tt)
+each-last P (x ∷ es) e h q = (h .0, each-last P es e (h .1) q)
 
 -- ---- k records of the chain are passed at c
 

@@ -1,6 +1,5 @@
 -- Names that stand twice among the FC and F8 records, one record after the other: each against those before it.
 use Prim.Native.Nat.{ℕ}
-use native.Mathlib.Omega.{arith}
 use mathlib.Core.Path.{_≡_, refl, sym, ap, ap₂, _∙_}
 use mathlib.Core.Bool.{Bool, true, false, _&&_, _||_, not}
 use mathlib.Core.List.{List, [], _∷_, _++_}
@@ -14,8 +13,7 @@ use Rattle.reading.specs.declared.Earlier.{Earlier}
 use Rattle.reading.specs.declared.Repeats.{Repeats}
 use Rattle.reading.specs.FileLaws.{is-file}
 use Rattle.reading.specs.TallyLaws.{any-or, or-false}
-use Rattle.reading.specs.NamesLaw.{wrong, iff}
-use Rattle.laws.specs.Tests.{and-left, and-right}
+use Rattle.laws.specs.Tests.{wrong, and-left, iff}
 use Rattle.laws.specs.Lists.{same-is}
 
 abbrev pub repeats-of : List Entry → Repeats
@@ -60,7 +58,7 @@ named-last st es x e = any-last (named-as st x) es e
 same-turn : (a b : List ℕ) → same a b ≡ true → same b a ≡ true
 same-turn a b h = let q : a ≡ b = same-is a b h in rw q (rw q at h)
 
-same-swap : (a b : List ℕ) → same a b ≡ same b a
+pub same-swap : (a b : List ℕ) → same a b ≡ same b a
 same-swap a b = iff (same a b) (same b a) (same-turn a b) (same-turn b a)
 
 doubled-or : (st : ℕ) (x : Entry) (es : List Entry) (t : Bool) → (named st x && has-named st es x) ≡ t

@@ -1,20 +1,17 @@
 -- All that is read from a cursor on, and its one law.
-use Prim.Native.Nat.{ℕ, zero, suc, _≤_, _<_}
+use Prim.Native.Nat.{ℕ, zero, suc, _<_}
 use native.Mathlib.Omega.{arith}
 use native.Mathlib.Nat.{not-suc-le-zero}
-use mathlib.Core.Path.{_≡_, refl}
-use mathlib.Core.Bool.{Bool, true, false}
+use mathlib.Core.Path.{_≡_, refl, ap, _∙_}
+use mathlib.Core.Bool.{false}
 use mathlib.Core.List.{List, [], _∷_}
 use lib.ListN.{drop}
-use lib.Dec.{ltb}
-use Rattle.spec.specs.declared.Next.{Next}
 use Rattle.spec.specs.Record.{rec-of, Entry}
 use Rattle.reading.specs.declared.Cursor.{Cursor}
 use Rattle.reading.specs.declared.Spot.{Spot}
 use Rattle.reading.specs.declared.Item.{Item}
-use Rattle.reading.specs.Cursor.{look, goes-on, turn, torn-end, settle, advance, left}
-use Rattle.reading.specs.Fits.{look-inside}
-use Rattle.reading.specs.CursorLaws.{advance-on, advance-here}
+use Rattle.reading.specs.Cursor.{advance, left}
+use Rattle.reading.specs.Along.{Way, way, reached-less}
 
 -- ---- every step leaves less
 
@@ -24,33 +21,13 @@ Less c (Item.End t w) = Unit {0}
 Less c (Item.TornWrap t) = Unit {0}
 Less c (Item.Broken t w) = Unit {0}
 
-torn-less : (c : Cursor) (t : Bool) → ltb 0 (c .room) ≡ t → Less c (torn-end (c .room) (c .turned) (c .at))
-unfolding torn-end
-torn-less c true e = rw (torn-end, e) tt
-torn-less c false e = rw (torn-end, e) tt
-
-settle-less : (image : List ℕ) (c : Cursor) (x : Next) → look image c ≡ x → Less c (settle image c x)
-settle-less image c (Next.Record n d) f = omega (arith, look-inside image c n d f)
-settle-less image c Next.Wrap f = tt
-settle-less image c Next.TornWrap f = torn-less c _ refl
-settle-less image c Next.Clear f = tt
-settle-less image c Next.Over f = tt
-settle-less image c Next.Bad f = tt
-
-less-more : (c d : Cursor) (r : Item) → left d ≤ left c → Less d r → Less c r
-less-more c d (Item.Record e next) h o = omega arith
-less-more c d (Item.End t w) h o = tt
-less-more c d (Item.TornWrap t) h o = tt
-less-more c d (Item.Broken t w) h o = tt
-
-advance-less-by : (image : List ℕ) (c : Cursor) (t : Bool) → goes-on (c .room) (look image c) ≡ t → Less c (advance image c)
-advance-less-by image c true e =
-    let u : Cursor = turn (c .room) (c .pending) in
-    rw (advance-on image c e) (less-more c u (settle image u (look image u)) (omega arith) (settle-less image u (look image u) refl))
-advance-less-by image c false e = rw (advance-here image c e) (settle-less image c (look image c) refl)
-
 pub advance-less : (image : List ℕ) (c : Cursor) → Less c (advance image c)
-advance-less image c = advance-less-by image c _ refl
+advance-less image c = go (advance image c) (way image c) where
+  go : (r : Item) → Way image c r → Less c r
+  go (Item.Record e next) w = reached-less w
+  go (Item.End t w) z = tt
+  go (Item.TornWrap t) z = tt
+  go (Item.Broken t w) z = tt
 
 -- ---- what is read from a cursor on
 
@@ -104,3 +81,7 @@ unfolding rest-by rest
 rest-step image c =
     followed-same image c (advance image c) (rest-by (left c) image) (rest image) (advance-less image c)
     (λ d l. enough (left c) (suc (left d)) image d l (omega arith))
+
+pub rest-record : (image : List ℕ) (c : Cursor) (e : Spot) (next : Cursor) → advance image c ≡ Item.Record e next
+    → rest image c ≡ ahead (entry-of image e) (rest image next)
+rest-record image c e next h = rest-step image c ∙ ap (λ (r : Item). followed image r (rest image)) h

@@ -1,5 +1,5 @@
 -- The survey of a chain from a head on, broken or not: what the pass over it found, as the definitions' reading.
-use Prim.Native.Nat.{ℕ, _+_, _≤_, _^_}
+use Prim.Native.Nat.{ℕ, _+_, _≤_}
 use native.Mathlib.Omega.{arith}
 use mathlib.Core.Path.{_≡_, refl, sym, ap, _∙_}
 use mathlib.Core.Bool.{Bool, true, false}
@@ -7,16 +7,20 @@ use lib.ListN.{length}
 use Rattle.spec.specs.declared.Ending.{Ending}
 use Rattle.spec.specs.Step.{Image}
 use Rattle.spec.specs.Chain.{reading-from}
+use Rattle.laws.specs.Length.{In-range}
+use Rattle.reading.specs.declared.Cursor.{Cursor}
 use Rattle.reading.specs.declared.Item.{Item}
 use Rattle.reading.specs.declared.Tally.{Tally}
 use Rattle.reading.specs.declared.Pass.{Pass}
 use Rattle.reading.specs.declared.Survey.{Survey}
+use Rattle.reading.specs.declared.Repeats.{Repeats}
 use Rattle.reading.specs.Cursor.{Cursor-sound}
 use Rattle.reading.specs.Rest.{rest}
 use Rattle.reading.specs.Bridge.{shown, reading-is}
 use Rattle.reading.specs.Ends.{Closes, rest-closes}
 use Rattle.reading.specs.Tally.{none-yet, passed, Spots, End-inside}
-use Rattle.reading.specs.Read.{first-cursor, reading-of, Surveyed}
+use Rattle.reading.specs.Repeats.{repeats-of}
+use Rattle.reading.specs.Read.{first-cursor, reading-of, Surveyed, Known}
 
 -- a torn wrap has all its eight bytes
 abbrev pub Torn-inside : ℕ → Ending → Type 0
@@ -44,10 +48,10 @@ survey-of N h (Item.End tail turned) t = told N h tail turned Ending.Tail t
 survey-of N h (Item.TornWrap a) t = told N h 0 true (Ending.TornWrap a) t
 survey-of N h (Item.Broken tail turned) t = told N h tail turned Ending.Broken t
 
-pub first-sound : (image : Image) (h : ℕ) → h ≤ length image → length image ≤ 2 ^ 24 → Cursor-sound image (first-cursor image h)
+pub first-sound : (image : Image) (h : ℕ) → h ≤ length image → In-range (length image) → Cursor-sound image (first-cursor image h)
 first-sound image h l s = record { ordered = l; inside = omega arith; room = omega arith; small = s }
 
-module _ (image : Image) (h : ℕ) (l : h ≤ length image) (small : length image ≤ 2 ^ 24) (p : Pass)
+module _ (image : Image) (h : ℕ) (l : h ≤ length image) (small : In-range (length image)) (p : Pass)
     (q : p ≡ passed none-yet (rest image (first-cursor image h))) (spots : Spots image (p .tally)) (inside : End-inside image (p .end)) where
   read-as : (s : Item) → p .end ≡ s → shown image (length image) h (rest image (first-cursor image h) .entries) s ≡ reading-from image h
   read-as s d =
@@ -79,3 +83,14 @@ module _ (image : Image) (h : ℕ) (l : h ≤ length image) (small : length imag
 
   pub seen : Seen image h (survey-of (length image) h (p .end) (p .tally))
   seen = by-end (p .end) refl inside (rw q (rest-closes image (first-cursor image h)))
+
+-- ---- what a judgement goes by
+
+pub known : (image : Image) (h : ℕ) {s : Survey} {n : Repeats} {start : Cursor}
+    → Seen image h s × (n ≡ repeats-of (rest image (first-cursor image h) .entries)) → start ≡ first-cursor image h → Known image start s n
+known image h {s} {n} {start} e q =
+    record {
+      surveyed = e .0 .surveyed;
+      at-head = q ∙ ap (first-cursor image) (sym (e .0 .head));
+      names = e .1 ∙ ap (λ (c : Cursor). repeats-of (rest image c .entries)) (sym q);
+    }

@@ -6,6 +6,7 @@ use mathlib.Core.Bool.{Bool, true, false, cond, _&&_, _||_}
 use mathlib.Core.List.{List, [], _∷_}
 use lib.ListN.{length}
 use lib.Dec.{eqb, leb, ltb}
+use borrow.Author.Tests.{ne-eqb, lt-leb}
 use Rattle.spec.specs.Bytes.{is-unfinished}
 use Rattle.spec.specs.Record.{Entry, name-of, name-ok}
 use Rattle.spec.specs.Reading.{marked}
@@ -48,6 +49,20 @@ noted t e =
       pending = is-unfinished (e .it .status);
     }
 
+-- a plain record behind the second leaves the first, the second and the marks as they are
+abbrev pub noted-plain : Tally → Spot → ℕ → Bool → Bool → Tally
+noted-plain t e files fine pending =
+    record {
+      records = t .records + 1;
+      files = files;
+      first = t .first;
+      second = t .second;
+      last = e;
+      fine = fine;
+      further = t .further;
+      pending = pending;
+    }
+
 abbrev pub tally : Tally → List Entry → Tally
 tally t [] = t
 tally t (e ∷ es) = tally (noted t e) es
@@ -82,7 +97,7 @@ pub record Passing (image : List ℕ) (start c : Cursor) (t : Tally) : Type 0 wh
   pub few : t .records + left c ≤ left start
   pub files : t .files ≤ t .records
 
-noted-records : (t : Tally) (e : Entry) → noted t e .records ≡ t .records + 1
+pub noted-records : (t : Tally) (e : Entry) → noted t e .records ≡ t .records + 1
 unfolding noted
 noted-records t e = refl
 
@@ -92,6 +107,11 @@ noted-files t e = go (is-file e) where
   go : (b : Bool) → count-with (t .files) b ≤ t .files + 1
   go true = omega arith
   go false = omega arith
+
+or-none : (a b : Bool) → a ≡ (a || (b && false))
+or-none true b = refl
+or-none false true = refl
+or-none false false = refl
 
 module _ {image : List ℕ} where
   pub passing-start : {start : Cursor} → Cursor-sound image start → 16 ≤ length image → Passing image start start none-yet
@@ -148,3 +168,11 @@ module _ {image : List ℕ} where
       } ≡ noted t (entry-of image e)
   unfolding noted
   noted-is t e files one two fine further pending w f a b c d h = rw (f, a, b, c, d, h, spot-is image e w)
+
+  pub noted-plain-is : (t : Tally) (e : Spot) (files : ℕ) (fine pending : Bool) → Whole image e → 2 ≤ t .records
+      → marked (entry-of image e) ≡ false → files ≡ count-with (t .files) (is-file (entry-of image e))
+      → fine ≡ (t .fine && name-fine (entry-of image e)) → pending ≡ unfinished-at image (e .at)
+      → noted-plain t e files fine pending ≡ noted t (entry-of image e)
+  noted-plain-is t e files fine pending w h m f c p =
+      noted-is t e files (t .first) (t .second) fine (t .further) pending w f (rw (ne-eqb (t .records) 0 (λ q. omega arith)))
+      (rw (lt-leb (t .records) 1 (omega arith))) c (rw m (or-none (t .further) (ltb 1 (t .records)))) p

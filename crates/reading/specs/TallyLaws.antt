@@ -52,7 +52,7 @@ pub any-or : (p : Entry → Bool) (e : Entry) (es : List Entry) (t : Bool) → p
 any-or p e es true h = rw (h, any)
 any-or p e es false h = rw (h, any)
 
-and-true : (a : Bool) → (a && true) ≡ a
+pub and-true : (a : Bool) → (a && true) ≡ a
 and-true true = refl
 and-true false = refl
 

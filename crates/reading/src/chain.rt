@@ -34,7 +34,7 @@ fn allowed(pending: bool, x: Next) -> Next
 {
     if pending {
         return match x {
-            Next::Record(_, _) => Next::Bad,
+            Next::Record { .. } => Next::Bad,
             Next::Wrap => Next::Bad,
             Next::TornWrap => Next::Bad,
             Next::Clear => Next::Clear,
@@ -59,7 +59,7 @@ fn goes_on(room: usize, x: Next) -> bool
     ensures { λ r. ⌜ r ≡ goes-on room x ⌝ }
 {
     match x {
-        Next::Record(_, _) => false,
+        Next::Record { .. } => false,
         Next::Wrap => 0 < room,
         Next::TornWrap => false,
         Next::Clear => false,
@@ -85,9 +85,12 @@ fn torn_end(c: Cursor) -> Item
     ensures { λ r. ⌜ r ≡ torn-end (c .room) (c .turned) (c .at) ⌝ }
 {
     if 0 < c.room {
-        return Item::TornWrap(c.at);
+        return Item::TornWrap { at: c.at };
     }
-    Item::Broken(c.at, c.turned)
+    Item::Broken {
+        at: c.at,
+        turned: c.turned,
+    }
 }
 
 // Whether the record at this address is torn or reserved.
@@ -109,20 +112,20 @@ fn record_at(image: &[u8], c: Cursor, n: usize, d: usize) -> Item
 {
     let pending = unfinished(image, c.at);
     let s = record::size(n, d);
-    Item::Record(
-        Spot {
+    Item::Record {
+        spot: Spot {
             at: c.at,
             n: n,
             d: d,
         },
-        Cursor {
+        next: Cursor {
             at: c.at + s,
             end: c.end,
             room: c.room,
             turned: c.turned,
             pending: pending,
         },
-    )
+    }
 }
 
 fn settle(image: &[u8], c: Cursor, x: Next) -> Item
@@ -130,12 +133,24 @@ fn settle(image: &[u8], c: Cursor, x: Next) -> Item
     ensures { λ r. ⌜ r ≡ settle (now (image .entry)) c x ⌝ }
 {
     match x {
-        Next::Record(n, d) => record_at(image, c, n, d),
-        Next::Wrap => Item::Broken(c.at, c.turned),
+        Next::Record { n, d } => record_at(image, c, n, d),
+        Next::Wrap => Item::Broken {
+            at: c.at,
+            turned: c.turned,
+        },
         Next::TornWrap => torn_end(c),
-        Next::Clear => Item::End(c.at, c.turned),
-        Next::Over => Item::End(c.at, c.turned),
-        Next::Bad => Item::Broken(c.at, c.turned),
+        Next::Clear => Item::End {
+            at: c.at,
+            turned: c.turned,
+        },
+        Next::Over => Item::End {
+            at: c.at,
+            turned: c.turned,
+        },
+        Next::Bad => Item::Broken {
+            at: c.at,
+            turned: c.turned,
+        },
     }
 }
 

@@ -4,6 +4,7 @@ use crate::Found;
 use crate::Item;
 use crate::Spot;
 use crate::chain::advance;
+use crate::skip::skip_others;
 use spec::Status;
 ghost use mathlib.Core.Path.{_≡_};
 ghost use lib.ListN.{length, getElem?};
@@ -83,7 +84,7 @@ pub fn has_named(image: &[u8], start: Cursor, status: Status, e: Spot) -> bool
     let mut c = start;
     loop {
         let s = advance(image, c);
-        let Item::Record(f, next) = s else {
+        let Item::Record { spot: f, next } = s else {
             return false;
         };
         if named_as(image, status, e, f) {
@@ -116,7 +117,7 @@ pub fn count_files(image: &[u8], start: Cursor) -> usize
     let mut count = 0;
     loop {
         let s = advance(image, c);
-        let Item::Record(e, next) = s else {
+        let Item::Record { spot: e, next } = s else {
             return count;
         };
         if is_live(image, start, e) {
@@ -157,8 +158,10 @@ pub fn file_named(image: &[u8], start: Cursor, name: &[u8]) -> Found
 {
     let mut c = start;
     loop {
-        let s = advance(image, c);
-        let Item::Record(e, next) = s else {
+        let o = skip_others(image, c, name, image.len());
+        let here = o.cursor;
+        let s = advance(image, here);
+        let Item::Record { spot: e, next } = s else {
             return Found::Nothing;
         };
         if is_file(image, e) {
@@ -180,7 +183,7 @@ pub fn file_indexed(image: &[u8], start: Cursor, index: usize) -> Found
     let mut left = index;
     loop {
         let s = advance(image, c);
-        let Item::Record(e, next) = s else {
+        let Item::Record { spot: e, next } = s else {
             return Found::Nothing;
         };
         if is_file(image, e) {

@@ -3,21 +3,21 @@ use crate::Signature;
 ghost use mathlib.Core.Path.{_≡_};
 ghost use Prim.Native.Nat.{_<_, _^_};
 ghost use lib.ListN.{getD};
-ghost use Rattle.reading.specs.Filter.{mixed, hash-from, four-bits, signature-of, has, with};
+ghost use Rattle.reading.specs.Filter.{mixed, hash-from, four-bits, two-bits, signature-by, signature-of, In-table, has, with};
 
-// The words of the table, 4 KiB. With 2,048 names about three are taken for added before that were not.
+// The words of the table, 4 KiB. With 2,048 names about one is taken for added before that was not.
 pub const WORDS: usize = 512;
 
 const HASH_LIMIT: u64 = 0x1_0000_0000;
 
-fn wide(x: u8) -> u64
+pub fn wide(x: u8) -> u64
     ensures { λ r. ⌜ (r ≡ x) × (r < 256) ⌝ }
 {
     x as u64
 }
 
 // The hash with one byte more.
-fn mixed(h: u64, byte: u64) -> u64
+pub fn mixed(h: u64, byte: u64) -> u64
     requires { ⌜ (h < 2 ^ 32) × (byte < 256) ⌝ }
     ensures { λ r. ⌜ (r ≡ mixed h byte) × (r < 2 ^ 32) ⌝ }
 {
@@ -51,26 +51,50 @@ fn four_bits(x: u64) -> u64
     bit(x / 0x400_0000) | bit(x / 0x10_0000 % 64) | bit(x / 0x4000 % 64) | bit(x / 0x100 % 64)
 }
 
-// The word of a name, and the bits that it sets there.
-pub fn signature(name: &[u8]) -> Signature
-    ensures { λ r. ⌜ (r ≡ signature-of (now (name .entry))) × (r .word < 512) ⌝ }
+// Up to two, in the same way.
+fn two_bits(x: u64) -> u64
+    requires { ⌜ x < 2 ^ 32 ⌝ }
+    ensures { λ r. ⌜ r ≡ two-bits x ⌝ }
 {
-    let h = hash(name);
+    bit(x / 0x100 % 64) | bit(x / 4 % 64)
+}
+
+// The words of a name with this hash, and the bits that it sets there.
+pub fn signature_by(h: u64) -> Signature
+    requires { ⌜ h < 2 ^ 32 ⌝ }
+    ensures { λ r. ⌜ (r ≡ signature-by h) × In-table r ⌝ }
+{
     let word = h * 0x85EB_CA77 % HASH_LIMIT / 0x80_0000;
     let bits = four_bits(h * 0xC2B2_AE3D % HASH_LIMIT);
+    let other = h * 0x85EB_CA77 % HASH_LIMIT / 0x4000 % 512;
+    let more = two_bits(h * 0x85EB_CA77 % HASH_LIMIT);
     Signature {
         word: word as usize,
         bits: bits,
+        other: other as usize,
+        more: more,
     }
+}
+
+pub fn signature(name: &[u8]) -> Signature
+    ensures { λ r. ⌜ (r ≡ signature-of (now (name .entry))) × In-table r ⌝ }
+{
+    signature_by(hash(name))
 }
 
 // Sets the bits, and says whether all of them were set.
 pub fn add(table: &mut [u64; WORDS], s: Signature) -> bool
-    requires { ⌜ s .word < 512 ⌝ }
+    requires { ⌜ In-table s ⌝ }
     ensures { λ r. ⌜ (r ≡ has (now (table .entry)) s) × (now (table .exit) ≡ with (now (table .entry)) s) ⌝ }
 {
-    let at = s.word;
-    let before = table[at];
-    table[at] = before | s.bits;
-    before & s.bits == s.bits
+    let a = s.word;
+    let b = s.other;
+    let before = table[a];
+    let beside = table[b];
+    table[a] = before | s.bits;
+    table[b] = table[b] | s.more;
+    if before & s.bits == s.bits {
+        return beside & s.more == s.more;
+    }
+    false
 }

@@ -4,12 +4,14 @@ use crate::Headed;
 use crate::Item;
 use crate::Judged;
 use crate::Judgement;
+use crate::Overview;
 use crate::Read;
+use crate::Stretch;
 use crate::Survey;
 use crate::Tally;
 use crate::chain::start_at;
+use crate::gather::gather;
 use crate::head::head;
-use crate::names::repeats;
 use crate::rules::legal;
 use crate::rules::settled;
 use crate::scan::pass;
@@ -18,13 +20,17 @@ use spec::Place;
 use spec::Refusal;
 use spec::floor;
 ghost use mathlib.Core.Path.{_≡_};
-ghost use Prim.Native.Nat.{_≤_, _^_};
+ghost use Prim.Native.Nat.{_≤_};
 ghost use lib.ListN.{length};
 ghost use Rattle.spec.specs.Chain.{reading-from};
 ghost use Rattle.spec.specs.Reading.{judged, reading};
 ghost use Rattle.spec.specs.Door.{settled-reading};
+ghost use Rattle.laws.specs.Length.{Workable};
 ghost use Rattle.reading.specs.declared.Read.{Read};
 ghost use Rattle.reading.specs.Read.{first-cursor, answered, Told, Quiet, judged-as, Judged-well, read-settled};
+ghost use Rattle.reading.specs.Rest.{rest};
+ghost use Rattle.reading.specs.Repeats.{repeats-of};
+ghost use Rattle.reading.specs.HeadSkip.{Blank-there};
 ghost use Rattle.reading.specs.Survey.{Seen, told, survey-of};
 
 // The cursor at a head in this image.
@@ -54,22 +60,40 @@ fn survey_of(n: usize, h: usize, end: Item, t: Tally) -> Survey
     ensures { λ r. ⌜ r ≡ survey-of n h end t ⌝ }
 {
     match end {
-        Item::Record(_, _) => told(n, h, 0, false, Ending::Broken, t),
-        Item::End(tail, turned) => told(n, h, tail, turned, Ending::Tail, t),
-        Item::TornWrap(at) => told(n, h, 0, true, Ending::TornWrap(at), t),
-        Item::Broken(tail, turned) => told(n, h, tail, turned, Ending::Broken, t),
+        Item::Record { .. } => told(n, h, 0, false, Ending::Broken, t),
+        Item::End { at, turned } => told(n, h, at, turned, Ending::Tail, t),
+        Item::TornWrap { at } => told(n, h, 0, true, Ending::TornWrap { at: at }, t),
+        Item::Broken { at, turned } => told(n, h, at, turned, Ending::Broken, t),
     }
 }
 
 // What stands from the head h on, broken or not.
 pub fn survey(image: &[u8], h: usize) -> Survey
-    requires { ⌜ (h ≤ length (now image)) × (16 ≤ length (now image)) × (length (now image) ≤ 2 ^ 24) ⌝ }
+    requires { ⌜ (h ≤ length (now image)) × Workable (now image) ⌝ }
     ensures { λ r. ⌜ Seen (now (image .entry)) h r ⌝ }
 {
     let p = pass(image, first_cursor(image, h));
     let end = p.end;
     let t = p.tally;
     survey_of(image.len(), h, end, t)
+}
+
+// The same, with what the names tell.
+fn overview(image: &[u8], h: usize) -> Overview
+    requires { ⌜ (h ≤ length (now image)) × Workable (now image) ⌝ }
+    ensures { λ r. ⌜ Seen (now (image .entry)) h (r .survey)
+        × (r .repeats ≡ repeats-of (rest (now (image .entry)) (first-cursor (now (image .entry)) h) .entries)) ⌝ }
+{
+    let all = gather(image, first_cursor(image, h));
+    let n = all.repeats;
+    let p = all.pass;
+    let end = p.end;
+    let t = p.tally;
+    let s = survey_of(image.len(), h, end, t);
+    Overview {
+        survey: s,
+        repeats: n,
+    }
 }
 
 fn read_of(j: Judged) -> Read
@@ -90,16 +114,17 @@ fn if_settled(j: Judged) -> Read
     Read::Refused(Refusal { number: 16 })
 }
 
-// What is read from the head h on, and whether it is settled.
-pub fn judge_from(image: &[u8], h: usize) -> Judgement
-    requires { ⌜ (h ≤ length (now image)) × (16 ≤ length (now image)) × (length (now image) ≤ 2 ^ 24) ⌝ }
+// What is read from the head h on, and whether it is settled; blank is a run of FF.
+pub fn judge_from(image: &[u8], h: usize, blank: Stretch) -> Judgement
+    requires { ⌜ (h ≤ length (now image)) × Workable (now image) × Blank-there (now image) blank ⌝ }
     ensures { λ r. ⌜ judged-as (now (image .entry)) r ≡ judged (now (image .entry)) (reading-from (now (image .entry)) h) ⌝ }
     ensures { λ r. ⌜ Judged-well (now (image .entry)) r ⌝ }
 {
-    let s = survey(image, h);
+    let o = overview(image, h);
+    let s = o.survey;
+    let n = o.repeats;
     let start = first_cursor(image, h);
-    let n = repeats(image, start);
-    if legal(image, start, s, n) {
+    if legal(image, start, s, n, blank) {
         return Judgement::Good(Judged {
             survey: s,
             settled: settled(image, start, s, n),
@@ -110,19 +135,21 @@ pub fn judge_from(image: &[u8], h: usize) -> Judgement
 
 // What an image reads as, and whether it is settled: all that a call asks of it first.
 pub fn judge(image: &[u8]) -> Judgement
-    requires { ⌜ (16 ≤ length (now image)) × (length (now image) ≤ 2 ^ 24) ⌝ }
+    requires { ⌜ Workable (now image) ⌝ }
     ensures { λ r. ⌜ (judged-as (now (image .entry)) r ≡ reading (now (image .entry))) × Judged-well (now (image .entry)) r ⌝ }
 {
-    let x = head(image);
+    let found = head(image);
+    let blank = found.blank;
+    let x = found.head;
     match x {
-        Headed::At(h) => judge_from(image, h),
+        Headed::At(h) => judge_from(image, h, blank),
         Headed::Refused(n) => Judgement::Refused(Refusal { number: n }),
     }
 }
 
 // What an image reads as.
 pub fn read(image: &[u8]) -> Read
-    requires { ⌜ (16 ≤ length (now image)) × (length (now image) ≤ 2 ^ 24) ⌝ }
+    requires { ⌜ Workable (now image) ⌝ }
     ensures { λ r. ⌜ (answered (now (image .entry)) r ≡ reading (now (image .entry))) × Told (now (image .entry)) r ⌝ }
 {
     let x = judge(image);
@@ -134,7 +161,7 @@ pub fn read(image: &[u8]) -> Read
 
 // What a settled image reads as, with nothing superseded; 16 for one that is not settled.
 pub fn read_settled(image: &[u8]) -> Read
-    requires { ⌜ (16 ≤ length (now image)) × (length (now image) ≤ 2 ^ 24) ⌝ }
+    requires { ⌜ Workable (now image) ⌝ }
     ensures { λ r. ⌜ (answered (now (image .entry)) r ≡ settled-reading (now (image .entry))) × Told (now (image .entry)) r
         × Quiet (now (image .entry)) r ⌝ }
 {

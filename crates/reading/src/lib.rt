@@ -4,12 +4,16 @@ pub mod chain;
 pub mod files;
 mod filter;
 pub mod free;
+mod gather;
 mod head;
 pub mod image;
+mod marks;
 mod names;
+mod plain;
 pub mod room;
 mod rules;
 pub mod scan;
+mod skip;
 
 use spec::Ending;
 use spec::Place;
@@ -19,6 +23,18 @@ use spec::Refusal;
 pub enum Headed {
     At(usize),
     Refused(u32),
+}
+
+// A part of the image, from one address up to another.
+pub struct Stretch {
+    pub from: usize,
+    pub to: usize,
+}
+
+// What the search for the head finds: the head, and a run of FF that it passed over.
+pub struct Sighting {
+    pub head: Headed,
+    pub blank: Stretch,
 }
 
 // A place in the chain: the stretch [at, end) that is left, how many bytes from 0 on the chain may still go on to,
@@ -40,10 +56,16 @@ pub struct Spot {
 
 // What stands at a cursor: a record, with the cursor past it; or how the chain ends, with the address and whether it had turned.
 pub enum Item {
-    Record(Spot, Cursor),
-    End(usize, bool),
-    TornWrap(usize),
-    Broken(usize, bool),
+    Record { spot: Spot, next: Cursor },
+    End { at: usize, turned: bool },
+    TornWrap { at: usize },
+    Broken { at: usize, turned: bool },
+}
+
+// A plain record at a cursor, with the cursor past it; or anything else.
+pub enum Nearby {
+    Record { spot: Spot, next: Cursor },
+    Other,
 }
 
 // What is looked for among the files.
@@ -52,10 +74,24 @@ pub enum Found {
     Nothing,
 }
 
-// What a name sets in the table of bits: these bits of this word.
+// Where a search goes on behind records that were passed over, and how many more it may pass.
+pub struct Skipped {
+    pub cursor: Cursor,
+    pub left: usize,
+}
+
+// What a name sets in the table of bits: these bits of one word, and more of another.
 pub struct Signature {
     pub word: usize,
     pub bits: u64,
+    pub other: usize,
+    pub more: u64,
+}
+
+// Whether a name is a good one, and what it sets in the table.
+pub struct NameMarks {
+    pub fine: bool,
+    pub signature: Signature,
 }
 
 // Whether an FC record and whether an F8 record of some name stand in a part of the chain.
@@ -90,11 +126,30 @@ pub struct Pass {
     pub end: Item,
 }
 
+// What is gathered at a cursor: the tally of the records before it, and what their names tell.
+pub struct Gathered {
+    pub cursor: Cursor,
+    pub tally: Tally,
+    pub repeats: Repeats,
+}
+
+// The same of a whole chain, and how the chain ends.
+pub struct FullPass {
+    pub pass: Pass,
+    pub repeats: Repeats,
+}
+
 // All that the calls go by: head, tail and turn; how the chain ends; the tally.
 pub struct Survey {
     pub place: Place,
     pub ending: Ending,
     pub tally: Tally,
+}
+
+// That, and what the names tell: what a judgement goes by.
+pub struct Overview {
+    pub survey: Survey,
+    pub repeats: Repeats,
 }
 
 // What a legal image reads as, and whether mount has no step to do.

@@ -1,5 +1,5 @@
-// Names that stand twice among the FC and F8 records: one pass over the chain, with a table of bits that tells most names apart, so that
-// names need not be compared pair by pair.
+// Names that stand twice among the FC and F8 records: a table of bits tells most names apart, so that names need not be compared pair by
+// pair.
 use crate::Cursor;
 use crate::Earlier;
 use crate::Item;
@@ -13,18 +13,20 @@ use crate::files::named_as;
 use crate::filter::WORDS;
 use crate::filter::add;
 use crate::filter::signature;
+use crate::skip::skip_other_names;
 use spec::Status;
 ghost use mathlib.Core.Path.{_≡_};
 ghost use mathlib.Core.Bool.{_||_};
 ghost use Prim.Native.Nat.{_<_};
 ghost use lib.ListN.{length};
-ghost use Rattle.spec.specs.Files.{named-as};
+ghost use Rattle.spec.specs.Files.{named, named-as};
 ghost use Rattle.reading.specs.Cursor.{Cursor-sound};
-ghost use Rattle.reading.specs.Rest.{rest, entry-of};
+ghost use Rattle.reading.specs.Rest.{entry-of};
 ghost use Rattle.reading.specs.Fold.{Whole};
-ghost use Rattle.reading.specs.Repeats.{repeats-of, earlier-of, repeats-with};
+ghost use Rattle.reading.specs.Repeats.{earlier-of, repeats-with};
 ghost use Rattle.reading.specs.Prefix.{front, front-and, earlier-with};
-ghost use Rattle.reading.specs.Held.{signed, Carried};
+ghost use Rattle.reading.specs.Filter.{In-table};
+ghost use Rattle.reading.specs.Held.{signed, Carried, File-signed};
 
 fn either(a: bool, b: bool) -> bool
     ensures { λ r. ⌜ r ≡ (a || b) ⌝ }
@@ -70,15 +72,17 @@ fn earlier(image: &[u8], start: Cursor, count: usize, e: Spot) -> Earlier
         migrating: false,
     };
     loop {
-        if left == 0 {
+        let o = skip_other_names(image, c, e, left);
+        if o.left == 0 {
             return f;
         }
-        let s = advance(image, c);
-        let Item::Record(x, next) = s else {
+        let here = o.cursor;
+        let s = advance(image, here);
+        let Item::Record { spot: x, next } = s else {
             return f;
         };
         f = earlier_with(image, f, e, x);
-        left -= 1;
+        left = o.left - 1;
         c = next;
     }
 }
@@ -102,16 +106,46 @@ fn repeats_with(n: Repeats, committed: bool, f: Earlier) -> Repeats
 // The bits of the record's name.
 fn signed(image: &[u8], e: Spot) -> Signature
     requires { ⌜ Whole (now image) e ⌝ }
-    ensures { λ r. ⌜ (r ≡ signed (entry-of (now (image .entry)) e)) × (r .word < 512) ⌝ }
+    ensures { λ r. ⌜ (r ≡ signed (entry-of (now (image .entry)) e)) × In-table r ⌝ }
 {
     let at = e.at + 8;
     let end = at + e.n;
     signature(&image[at..end])
 }
 
-// What is carried along, n and the table, with the record e behind those that were passed, as many as count says. Where not all bits of its
-// name are set, no record of its name was passed; else these records tell.
-fn repeats_and(
+// What is carried along, n, with the record e behind those that were passed, as many as count says: these records tell. It is seldom
+// called, and two functions call it, so that the compiler keeps it out of the loop over plain records.
+fn repeats_by(image: &[u8], start: Cursor, count: usize, n: Repeats, e: Spot) -> Repeats
+    requires { ⌜ Cursor-sound (now image) start × Whole (now image) e ⌝ }
+    ensures { λ r. ⌜ r ≡ repeats-with n (named 0xFC (entry-of (now (image .entry)) e))
+        (earlier-of (front (now (image .entry)) start count) (entry-of (now (image .entry)) e)) ⌝ }
+{
+    let f = earlier(image, start, count, e);
+    repeats_with(n, named(image, Status::COMMITTED, e), f)
+}
+
+// The same of n and the table, for a file whose name has the bits s. Where not all of them are set, no record of its name was passed.
+pub fn repeats_signed(
+    image: &[u8],
+    start: Cursor,
+    count: usize,
+    table: &mut [u64; WORDS],
+    n: Repeats,
+    e: Spot,
+    s: Signature,
+) -> Repeats
+    requires { ⌜ Cursor-sound (now image) start × Whole (now image) e × Carried (front (now image) start count) n (now table)
+        × File-signed (entry-of (now image) e) s ⌝ }
+    ensures { λ r. ⌜ Carried (front-and (now (image .entry)) start count e) r (now (table .exit)) ⌝ }
+{
+    if add(table, s) {
+        return repeats_by(image, start, count, n, e);
+    }
+    n
+}
+
+// The same for any record.
+pub fn repeats_and(
     image: &[u8],
     start: Cursor,
     count: usize,
@@ -126,31 +160,7 @@ fn repeats_and(
         return n;
     }
     if add(table, signed(image, e)) {
-        let f = earlier(image, start, count, e);
-        return repeats_with(n, named(image, Status::COMMITTED, e), f);
+        return repeats_by(image, start, count, n, e);
     }
     n
-}
-
-// The names of all records from the cursor on.
-pub fn repeats(image: &[u8], start: Cursor) -> Repeats
-    requires { ⌜ Cursor-sound (now image) start ⌝ }
-    ensures { λ r. ⌜ r ≡ repeats-of (rest (now (image .entry)) start .entries) ⌝ }
-{
-    let mut table = [0u64; WORDS];
-    let mut c = start;
-    let mut count = 0;
-    let mut n = Repeats {
-        doubled: false,
-        superseded: false,
-    };
-    loop {
-        let s = advance(image, c);
-        let Item::Record(e, next) = s else {
-            return n;
-        };
-        n = repeats_and(image, start, count, &mut table, n, e);
-        count += 1;
-        c = next;
-    }
 }

@@ -14,10 +14,11 @@ use spec::Placed;
 use spec::floor;
 ghost use mathlib.Core.Path.{_≡_};
 ghost use mathlib.Core.List.{[], _∷_};
-ghost use Prim.Native.Nat.{_<_, _≤_, _^_, max};
+ghost use Prim.Native.Nat.{_<_, _^_, max};
 ghost use lib.ListN.{length};
 ghost use Rattle.spec.specs.Place.{address, in-head-sector, joining};
 ghost use Rattle.spec.specs.Placed.{placed};
+ghost use Rattle.record.specs.Within.{Name-length};
 ghost use Rattle.reading.specs.Cursor.{Cursor-sound};
 ghost use Rattle.reading.specs.Rest.{rest, entry-of};
 ghost use Rattle.reading.specs.Fold.{Whole};
@@ -35,7 +36,7 @@ struct Stowed {
 fn stow(placed: Placed, size: usize) -> Placed
     ensures { λ r. ⌜ r ≡ stow placed size ⌝ }
 {
-    let Placed::At(_, _, place) = placed else {
+    let Placed::At { place, .. } = placed else {
         return Placed::Full;
     };
     place.after(size)
@@ -100,7 +101,7 @@ fn stow_chain(image: &[u8], start: Cursor, place: Place, name: &[u8], first: Sto
     let mut stowed = first;
     loop {
         let s = advance(image, c);
-        let Item::Record(e, next) = s else {
+        let Item::Record { spot: e, next } = s else {
             return stowed;
         };
         stowed = stow_record(image, place, e, name, stowed);
@@ -127,7 +128,7 @@ fn has_last(place: Place, at: usize, size: usize, stowed: Stowed) -> bool
     let placed = stowed.placed;
     let largest = stowed.largest;
     let new = stow_new(place, at, size, placed);
-    let Placed::At(_, _, _) = stow(stow(new, largest), largest) else {
+    let Placed::At { .. } = stow(stow(new, largest), largest) else {
         return false;
     };
     true
@@ -136,7 +137,7 @@ fn has_last(place: Place, at: usize, size: usize, stowed: Stowed) -> bool
 // Whether there is room for a file of this name with d data bytes, where nothing is superseded.
 // Content that is longer than the image is refused before its size is computed.
 pub fn has_room(image: &[u8], s: Survey, name: &[u8], d: usize) -> bool
-    requires { ⌜ Unsuperseded (now image) s × (length (now name) ≤ 63) ⌝ }
+    requires { ⌜ Unsuperseded (now image) s × Name-length (length (now name)) ⌝ }
     ensures { λ r. ⌜ r ≡ room-in (reading-of (now (image .entry)) s) (now (name .entry)) d ⌝ }
 {
     let place = s.place;
@@ -145,7 +146,7 @@ pub fn has_room(image: &[u8], s: Survey, name: &[u8], d: usize) -> bool
     }
     let new = size(name.len(), d);
     let first = place.after(new);
-    let Placed::At(at, _, _) = first else {
+    let Placed::At { at, .. } = first else {
         return false;
     };
     let alone = Stowed {

@@ -1,10 +1,14 @@
--- A record that was read lies within the l bytes it was read from.
+-- A record that was read lies within the l bytes it was read from; and how long a name may be.
 use Prim.Native.Nat.{ℕ, _≤_, _<_, _^_}
 use mathlib.Core.Path.{_≡_}
 use mathlib.Core.List.{List}
 use lib.ListN.{length}
 use Rattle.spec.specs.declared.Next.{Next}
 use Rattle.spec.specs.Record.{size-of}
+
+-- a length that a name can have
+abbrev pub Name-length : ℕ → Type 0
+Name-length n = n ≤ 63
 
 abbrev pub Within : Next → ℕ → Type 0
 Within (Next.Record n d) l = (n < 64) × (size-of n d ≤ l) × (d < 2 ^ 32)

@@ -1,5 +1,5 @@
 -- What mount answers once its repairs are done.
-use Prim.Native.Nat.{ℕ, _-_, _≤_, _<_}
+use Prim.Native.Nat.{ℕ, _-_}
 use native.Mathlib.Omega.{arith}
 use mathlib.Core.Path.{_≡_, sym, ap, _∙_}
 use lib.ListN.{length}
@@ -9,6 +9,7 @@ use Rattle.spec.specs.Files.{files}
 use Rattle.spec.specs.Move.{Work}
 use Rattle.spec.specs.Mount.{mended}
 use Rattle.flash.specs.declared.Meter.{Meter}
+use Rattle.flash.specs.Meters.{Enough, Used-up}
 use Rattle.reading.specs.declared.Survey.{Survey}
 use Rattle.reading.specs.Rest.{rest}
 use Rattle.reading.specs.Read.{first-cursor, reading-of}
@@ -26,13 +27,13 @@ pub record Numbered (w : Work) (r : Mended) : Type 0 where
 -- the repairs on s, read from h on, gave t: all of them, with their numbers, or their first steps up to the allowance
 pub record Counted (s : Image) (h : ℕ) (m : Meter) (t : Image) (r : Mended) : Type 0 where
   pub begun : Began s m (mended s (reading-from s h) .steps) t (r .meter)
-  pub done : r .meter .asked ≤ r .meter .allowance → Numbered (mended s (reading-from s h)) r
+  pub done : Enough (r .meter) → Numbered (mended s (reading-from s h)) r
 
 module _ {s t : Image} {h k : ℕ} {m q : Meter} (w : Mends s h m t k q) where
-  pub counted-cut : q .allowance < q .asked → Counted s h m t (record { head = 0; tail = 0; files = 0; meter = q })
+  pub counted-cut : Used-up q → Counted s h m t (record { head = 0; tail = 0; files = 0; meter = q })
   counted-cut l = record { begun = w .mending .begun; done = λ b. absurd (omega arith) }
 
-  pub counted-done : (v : Survey) (n : ℕ) → q .asked ≤ q .allowance → Seen t k v → n ≡ length (files (rest t (first-cursor t k) .entries))
+  pub counted-done : (v : Survey) (n : ℕ) → Enough q → Seen t k v → n ≡ length (files (rest t (first-cursor t k) .entries))
       → Counted s h m t (record { head = k; tail = v .place .tail; files = n; meter = q })
   counted-done v n l f e =
       let r : mended s (reading-from s h) .reading ≡ reading-of t v = w .mending .reading l ∙ sym (f .same) in

@@ -2,7 +2,7 @@
 use Prim.Native.Nat.{ℕ, _+_, _-_, _≤_}
 use native.Mathlib.Omega.{arith}
 use mathlib.Core.Path.{_≡_, refl, sym, ap, ap₂, subst, _∙_}
-use mathlib.Core.Logic.{inl, inr, ⊎-elim}
+use mathlib.Core.Logic.{inl, ⊎-elim}
 use mathlib.Core.Bool.{Bool, true, false, _&&_, not}
 use mathlib.Core.List.{List, [], _∷_, _++_, map}
 use lib.ListN.{length, set, getD}
@@ -13,7 +13,6 @@ use Rattle.spec.specs.Step.{Image, Step, program, run}
 use Rattle.spec.specs.Basics.{any, keep, empty}
 use Rattle.spec.specs.Bytes.{is-unfinished, is-erased, is-reserved}
 use Rattle.spec.specs.Record.{Entry, name-of, size-of}
-use Rattle.spec.specs.Chain.{Reading, reading-from}
 use Rattle.spec.specs.Files.{named, named-as, has-named, superseded, same-name}
 use Rattle.spec.specs.Mount.{delete-step, drop-steps}
 use Rattle.flash.specs.declared.Meter.{Meter}
@@ -21,13 +20,13 @@ use Rattle.flash.specs.Did.{Did, did-one}
 use Rattle.reading.specs.declared.Cursor.{Cursor}
 use Rattle.reading.specs.declared.Spot.{Spot}
 use Rattle.reading.specs.declared.Item.{Item}
-use Rattle.reading.specs.Cursor.{Cursor-sound, turn, unfinished-at, advance}
-use Rattle.reading.specs.Rest.{Run, entry-of, followed, rest, rest-step}
+use Rattle.reading.specs.Cursor.{Cursor-sound, unfinished-at, advance}
+use Rattle.reading.specs.Along.{Reached, reached}
+use Rattle.reading.specs.Rest.{Run, entry-of, rest, rest-record}
 use Rattle.reading.specs.Fold.{Not-record, rest-done}
-use Rattle.reading.specs.Bridge.{shown, reading-is}
 use Rattle.reading.specs.Read.{first-cursor}
 use Rattle.flash.specs.Toward.{Toward, toward-more, toward-end}
-use Rattle.recovery.specs.Trail.{way, stood-fits, Tidy, Ahead, tidy-next, window-kept, look-dropped, here-again, there-again}
+use Rattle.recovery.specs.Trail.{Tidy, Ahead, tidy-seen, tidy-next, ahead-back, look-dropped, step-again}
 use Rattle.recovery.specs.Path.{Path, here, path-snoc, rest-path, path-tidy, path-kept, Passed, rest-kept}
 use Rattle.laws.specs.Tests.{and-left}
 
@@ -68,9 +67,9 @@ pub record Still (t u : Image) (start : Cursor) (before : List Entry) (e : Spot)
   pub named : (x : Entry) → has-named 0xFC (rest u start .entries) x ≡ has-named 0xFC (rest t start .entries) x
   pub path : Path u start (before ++ (entry-of u e ∷ [])) behind
 
-pub rest-here : (image : Image) (c : Cursor) (e : Spot) (behind : Cursor) → advance image c ≡ Item.Record e behind
+rest-here : (image : Image) (c : Cursor) (e : Spot) (behind : Cursor) → advance image c ≡ Item.Record e behind
     → rest image c .entries ≡ entry-of image e ∷ rest image behind .entries
-rest-here image c e behind h = ap (λ (r : Run). r .entries) (rest-step image c ∙ ap (λ (x : Item). followed image x (rest image)) h)
+rest-here image c e behind h = ap (λ (r : Run). r .entries) (rest-record image c e behind h)
 
 module _ (t : Image) (start c : Cursor) (before : List Entry) (e : Spot) (behind : Cursor)
     (p : Path t start before c) (tidy : Tidy start) (h : advance t c ≡ Item.Record e behind) where
@@ -81,43 +80,38 @@ module _ (t : Image) (start c : Cursor) (before : List Entry) (e : Spot) (behind
     tidy-c : Tidy c
     tidy-c = path-tidy p tidy
 
+    onto : Reached t c e behind
+    onto = reached t c e behind h
+
+    abbrev seen : Cursor
+    seen = onto .seen
+
+    ahead-there : Ahead seen (e .at + 2)
+    ahead-there = inl (omega (arith, onto .at), omega (arith, onto .at, tidy-seen tidy-c onto .ordered, onto .fits))
+
     ahead : Ahead c (e .at + 2)
-    ahead =
-        ⊎-elim
-        (λ w. inl (omega (arith, w .1 .place), omega (arith, w .1 .place, tidy-c .ordered, stood-fits t e behind c (w .1))))
-        (λ w. inr (omega (arith, w .1 .place, stood-fits t e behind (turn (c .room) (c .pending)) (w .1))))
-        (way t e behind c h)
+    ahead = ahead-back tidy-c onto (e .at + 2) ahead-there
 
-    finished : (i : ℕ) → e .at ≡ i → unfinished-at (set t (i + 2) 0) i ≡ unfinished-at t i
+    -- its byte, by the address at which it was looked for
+    old-there : getD t (seen .at + 2) 0 ≡ 0xF8
+    old-there = ap (λ (k : ℕ). getD t (k + 2) 0) (sym (onto .at)) ∙ old
+
+    finished : unfinished-at (set t (seen .at + 2) 0) (seen .at) ≡ unfinished-at t (seen .at)
     unfolding is-unfinished is-erased is-reserved
-    finished i q =
-        ap is-unfinished (getD-drop i (set t (i + 2) 0) 2 0 ∙ getD-set-same t (i + 2) 0 0 (omega arith))
-        ∙ sym (ap is-unfinished (getD-drop i t 2 0 ∙ ap (λ (k : ℕ). getD t (k + 2) 0) (sym q) ∙ old))
+    finished =
+        ap is-unfinished (getD-drop (seen .at) (set t (seen .at + 2) 0) 2 0 ∙ getD-set-same t (seen .at + 2) 0 0 (omega (arith, onto .at)))
+        ∙ sym (ap is-unfinished (getD-drop (seen .at) t 2 0 ∙ old-there))
 
-    step-again : advance (set t (e .at + 2) 0) c ≡ Item.Record e behind
-    step-again =
-        ⊎-elim
-        (λ w.
-        let q : e .at ≡ c .at = w .1 .place in
-        ap (λ (i : ℕ). advance (set t (i + 2) 0) c) q
-        ∙ (here-again t (set t (c .at + 2) 0) c e behind (w .1)
-        (look-dropped t c (e .n) (e .d) (w .1 .what) (omega arith) (ap (λ (k : ℕ). getD t (k + 2) 0) (sym q) ∙ old)) (finished (c .at) q)))
-        (λ w.
-        let q : e .at ≡ 0 = w .1 .place in
-        let f = stood-fits t e behind (turn (c .room) (c .pending)) (w .1) in
-        ap (λ (i : ℕ). advance (set t (i + 2) 0) c) q
-        ∙ (there-again t (set t (0 + 2) 0) c e behind (w .0) (window-kept t (0 + 2) 0 c (tidy-c .ordered) (inl (omega (arith, tidy-c .apart, f))))
-        (w .1)
-        (look-dropped t (turn (c .room) (c .pending)) (e .n) (e .d) (w .1 .what) (omega arith) (ap (λ (k : ℕ). getD t (k + 2) 0) (sym q) ∙ old))
-        (finished 0 q)))
-        (way t e behind c h)
+    done-again : advance (set t (e .at + 2) 0) c ≡ Item.Record e behind
+    done-again =
+        let there = ap (λ (k : ℕ). k + 2) (onto .at) in
+        step-again tidy-c onto (e .at + 2) 0 ahead-there
+        (rw there (look-dropped t seen (e .n) (e .d) (onto .what) (omega (arith, onto .at)) old-there))
+        (rw there finished)
 
     behind-passed : Passed behind (e .at + 2)
     behind-passed =
-        ⊎-elim
-        (λ w. rw (w .1 .moved) (record { before = inl (omega (arith, w .1 .place)); low = omega (arith, w .1 .place, tidy-c .apart) }))
-        (λ w. rw (w .1 .moved) (record { before = inl (omega (arith, w .1 .place)); low = omega arith }))
-        (way t e behind c h)
+        rw (onto .next-is) record { before = inl (omega (arith, onto .at)); low = omega (arith, onto .at, tidy-seen tidy-c onto .apart) }
 
     status-now : entry-of (set t (e .at + 2) 0) e .it .status ≡ 0
     status-now = getD-drop (e .at) (set t (e .at + 2) 0) 2 0 ∙ getD-set-same t (e .at + 2) 0 0 (omega arith)
@@ -126,7 +120,7 @@ module _ (t : Image) (start c : Cursor) (before : List Entry) (e : Spot) (behind
     status-was = getD-drop (e .at) t 2 0 ∙ old
 
     rest-same : rest (set t (e .at + 2) 0) behind ≡ rest t behind
-    rest-same = rest-kept t (e .at + 2) 0 behind (tidy-next t c e behind tidy-c h) behind-passed
+    rest-same = rest-kept t (e .at + 2) 0 behind (tidy-next tidy-c onto) behind-passed
 
     still-named : (x : Entry) → has-named 0xFC (rest (set t (e .at + 2) 0) start .entries) x ≡ has-named 0xFC (rest t start .entries) x
     unfolding has-named
@@ -134,7 +128,7 @@ module _ (t : Image) (start c : Cursor) (before : List Entry) (e : Spot) (behind
         let v : Image = set t (e .at + 2) 0 in
         let new : rest v start .entries ≡ before ++ (entry-of v e ∷ rest t behind .entries) =
         rest-path (path-kept t (e .at + 2) 0 p tidy ahead .1)
-        ∙ ap (λ (l : List Entry). before ++ l) (rest-here v c e behind step-again ∙ ap (λ (r : Run). entry-of v e ∷ r .entries) rest-same) in
+        ∙ ap (λ (l : List Entry). before ++ l) (rest-here v c e behind done-again ∙ ap (λ (r : Run). entry-of v e ∷ r .entries) rest-same) in
         let was : rest t start .entries ≡ before ++ (entry-of t e ∷ rest t behind .entries) =
         rest-path p ∙ ap (λ (l : List Entry). before ++ l) (rest-here t c e behind h) in
         let no : named-as 0xFC x (entry-of v e) ≡ named-as 0xFC x (entry-of t e) =
@@ -148,7 +142,7 @@ module _ (t : Image) (start c : Cursor) (before : List Entry) (e : Spot) (behind
         record {
           later = ap (λ (r : Run). r .entries) rest-same;
           named = still-named;
-          path = path-snoc e (path-kept t (e .at + 2) 0 p tidy ahead .1) step-again;
+          path = path-snoc e (path-kept t (e .at + 2) 0 p tidy ahead .1) done-again;
         }
 
 -- ---- the loop
@@ -215,17 +209,6 @@ sound-same s t c w e = record { ordered = w .ordered; inside = rw e (w .inside);
 
 pub tidy-first : (s : Image) (h : ℕ) → h ≤ length s → Tidy (first-cursor s h)
 tidy-first s h l = record { ordered = l; apart = omega arith }
-
-shown-entries : (s : Image) (h : ℕ) (es : List Entry) (x : Item) → shown s (length s) h es x .entries ≡ es
-shown-entries s h es (Item.Record e c) = refl
-shown-entries s h es (Item.End t w) = refl
-shown-entries s h es (Item.TornWrap t) = refl
-shown-entries s h es (Item.Broken t w) = refl
-
-pub entries-of : (s : Image) (h : ℕ) → h ≤ length s → rest s (first-cursor s h) .entries ≡ reading-from s h .entries
-entries-of s h l =
-    sym (shown-entries s h (rest s (first-cursor s h) .entries) (rest s (first-cursor s h) .ending))
-    ∙ ap (λ (r : Reading). r .entries) (reading-is s h l)
 
 -- ---- one record, as the code finds it
 

@@ -22,8 +22,8 @@ use Rattle.reading.specs.Rest.{entry-of, rest}
 use Rattle.reading.specs.RuleLaws.{head-none, first-low, first-clean}
 use Rattle.reading.specs.Read.{first-cursor}
 use Rattle.reading.specs.Survey.{Seen}
-use Rattle.moving.specs.Kept.{later-on}
-use Rattle.recovery.specs.Sectors.{dirty-erased, dirty-same}
+use Rattle.moving.specs.Untouched.{later-on}
+use Rattle.recovery.specs.DirtySectors.{dirty-erased, dirty-same}
 use Rattle.recovery.specs.Repairs.{steps-1}
 
 -- ---- the sectors behind those that were erased are judged as before

@@ -12,7 +12,6 @@ use Rattle.spec.specs.Basics.{Each}
 use Rattle.spec.specs.Bytes.{is-erased, is-reserved}
 use Rattle.spec.specs.Record.{Entry}
 use Rattle.spec.specs.Chain.{reading-from}
-use Rattle.spec.specs.Write.{name-end-steps}
 use Rattle.spec.specs.Mount.{status-void-steps, torn-steps, missing-steps, reserved-steps, void-steps, last-steps, torn-wrap-steps}
 use Rattle.flash.specs.declared.Meter.{Meter}
 use Rattle.flash.specs.Did.{Did, did-both}
@@ -28,14 +27,6 @@ use Rattle.reading.specs.RuleLaws.{count-is}
 use Rattle.reading.specs.Read.{Tallied, first-cursor}
 use Rattle.reading.specs.Survey.{Seen}
 use Rattle.recovery.specs.Repairs.{steps-3}
-
--- ---- the name's end
-
-pub name-ended : (s : Image) (a : ℕ) → getD s a 0 ≡ 0 → missing-steps s a ≡ []
-name-ended s a e = ap (λ (t : Bool). elim t [ true ↦ [] | false ↦ name-end-steps a ]) (eq-eqb (getD s a 0) 0 e)
-
-pub name-open : (s : Image) (a : ℕ) → (getD s a 0 ≡ 0 → ⊥) → missing-steps s a ≡ name-end-steps a
-name-open s a e = ap (λ (t : Bool). elim t [ true ↦ [] | false ↦ name-end-steps a ]) (ne-eqb (getD s a 0) 0 e)
 
 -- ---- by its status
 

@@ -1,5 +1,5 @@
 pub mod Readable
-pub mod Sectors
+pub mod DirtySectors
 pub mod Repairs
 pub mod Free
 pub mod Pair
@@ -7,7 +7,7 @@ pub mod Last
 pub mod Mending
 pub mod Mended
 pub mod Counted
-pub mod Kept
+pub mod SameRecord
 pub mod Trail
 pub mod Path
 pub mod Drop

@@ -1,5 +1,5 @@
 -- The four repairs in their order.
-use Prim.Native.Nat.{ℕ, _≤_, _<_}
+use Prim.Native.Nat.{ℕ, _≤_}
 use mathlib.Core.Path.{_≡_, refl, sym, ap, ap₂, _∙_}
 use mathlib.Core.Logic.{_⊎_, inl, inr}
 use mathlib.Core.Bool.{Bool, true, false}
@@ -14,6 +14,7 @@ use Rattle.spec.specs.Move.{Work, begin, after}
 use Rattle.spec.specs.Mount.{repair-1, repair-2-on, repair-3, drop-steps, repair-4, mended}
 use Rattle.flash.specs.declared.Meter.{Meter}
 use Rattle.flash.specs.Did.{Did}
+use Rattle.flash.specs.Meters.{Enough, Used-up}
 use Rattle.reading.specs.declared.Item.{Item}
 use Rattle.reading.specs.Rest.{rest}
 use Rattle.reading.specs.Bridge.{shown, reading-is}
@@ -66,10 +67,10 @@ step-or-same N h (x ∷ (y ∷ es)) = pair-step-or-same N h x y _ _ refl refl
 -- ---- each repair, done or left undone
 
 module _ {s t : Image} {m r : Meter} {w : Work} {h : ℕ} (v : Mending s m w t h r) where
-  head-is : r .asked ≤ r .allowance → h ≤ length t → w .reading .place .head ≡ h
+  head-is : Enough r → h ≤ length t → w .reading .place .head ≡ h
   head-is l i = ap (λ (x : Reading). x .place .head) (v .reading l) ∙ place-head t h i
 
-  module _ {u : Image} {q : Meter} (l : r .asked ≤ r .allowance) (i : h ≤ length t) where
+  module _ {u : Image} {q : Meter} (l : Enough r) (i : h ≤ length t) where
     pub repaired-1 : Did t r (steps-1 t (reading-from t h)) u q → Mending s m (repair-1 w) u h q
     repaired-1 d =
         rw (repair-1-is w ∙ ap (after w (steps-1 (w .image) (w .reading))) (head-is l i))
@@ -95,7 +96,7 @@ module _ {s t : Image} {m r : Meter} {w : Work} {h : ℕ} (v : Mending s m w t h
         rw (repair-2-is w h es, a)
         (mending-more v (steps-2 N es) k l (rw (ap₂ steps-2 n e) (d .did)) (rw (← a) (step-or-same N h es)))
 
-  module _ (l : r .allowance < r .asked) (j : ℕ) where
+  module _ (l : Used-up r) (j : ℕ) where
     pub skipped-2 : Mending s m (repair-2-on w) t j r
     skipped-2 =
         rw (repair-2-is w h (w .reading .entries))

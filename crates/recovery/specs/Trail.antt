@@ -1,13 +1,13 @@
 -- The chain after one byte was written: what is read before that byte stays as it was.
 use Prim.Native.Nat.{ℕ, _+_, _-_, _≤_, _<_}
 use native.Mathlib.Omega.{arith}
-use mathlib.Core.Path.{_≡_, refl, sym, ap, ap₂, _∙_}
+use mathlib.Core.Path.{_≡_, sym, ap, ap₂, _∙_}
 use mathlib.Core.Logic.{_⊎_, inl, inr, ⊎-elim}
 use mathlib.Core.Bool.{Bool, true, false}
+use native.Mathlib.Nat.{not-suc-le-zero}
 use mathlib.Core.List.{List}
 use lib.ListN.{length, take, drop, set, getD, length-set, length-drop, length-take}
 use lib.Seq.{getD-take, getD-drop, getD-set-other, getD-set-same}
-use lib.Dec.{ltb}
 use Rattle.spec.specs.declared.Next.{Next}
 use Rattle.spec.specs.Step.{Image}
 use Rattle.spec.specs.Bytes.{is-unfinished}
@@ -17,59 +17,13 @@ use Rattle.spec.specs.Chain.{allowed}
 use Rattle.reading.specs.declared.Cursor.{Cursor}
 use Rattle.reading.specs.declared.Spot.{Spot}
 use Rattle.reading.specs.declared.Item.{Item}
-use Rattle.reading.specs.Cursor.{window, look, goes-on, turn, past, torn-end, unfinished-at, settle, advance}
-use Rattle.laws.specs.Parts.{part-window, part-set}
-use Rattle.reading.specs.CursorLaws.{advance-on, advance-here}
+use Rattle.reading.specs.Cursor.{window, look, goes-on, turn, past, unfinished-at, settle, advance}
+use Rattle.laws.specs.Parts.{Outside, part-window, part-set}
 use Rattle.reading.specs.Fits.{look-inside}
+use Rattle.reading.specs.Along.{From, here, turned, from-advance, Reached}
 use Rattle.reading.specs.Rest.{entry-of}
 use Rattle.reading.specs.Bridge.{rec-part}
-use Rattle.recovery.specs.Kept.{next-kept, kind-dropped}
-
--- ---- a step onto a record
-
--- the record e, which x says stands at v, and the cursor past it
-pub record Stood (image : Image) (v : Cursor) (x : Next) (e : Spot) (behind : Cursor) : Type 0 where
-  pub what : x ≡ Next.Record (e .n) (e .d)
-  pub place : e .at ≡ v .at
-  pub moved : behind ≡ past v (size-of (e .n) (e .d)) (unfinished-at image (v .at))
-
-module _ (image : Image) (e : Spot) (behind : Cursor) where
-  torn-other : (v : Cursor) (t : Bool) → ltb 0 (v .room) ≡ t → torn-end (v .room) (v .turned) (v .at) ≡ Item.Record e behind → ⊥
-  unfolding torn-end
-  torn-other v true f h = let q : Item.TornWrap (v .at) ≡ Item.Record e behind = rw (torn-end, f) at h in let z : _≡_ {A = ℕ} 0 1 = cc in omega arith
-  torn-other v false f h =
-      let q : Item.Broken (v .at) (v .turned) ≡ Item.Record e behind = rw (torn-end, f) at h in let z : _≡_ {A = ℕ} 0 1 = cc in omega arith
-
-  stood : (v : Cursor) (x : Next) → settle image v x ≡ Item.Record e behind → Stood image v x e behind
-  stood v (Next.Record n d) h =
-      let a : _≡_ {A = Spot} (record { at = v .at; n = n; d = d }) e = cc in
-      let b : past v (size-of n d) (unfinished-at image (v .at)) ≡ behind = cc in
-      record {
-        what = ap (λ (z : Spot). Next.Record (z .n) (z .d)) a;
-        place = sym (ap (λ (z : Spot). z .at) a);
-        moved = sym b ∙ ap (λ (z : Spot). past v (size-of (z .n) (z .d)) (unfinished-at image (v .at))) a;
-      }
-  stood v Next.Wrap h = absurd (let z : _≡_ {A = ℕ} 0 1 = cc in omega arith)
-  stood v Next.TornWrap h = absurd (torn-other v _ refl h)
-  stood v Next.Clear h = absurd (let z : _≡_ {A = ℕ} 0 1 = cc in omega arith)
-  stood v Next.Over h = absurd (let z : _≡_ {A = ℕ} 0 1 = cc in omega arith)
-  stood v Next.Bad h = absurd (let z : _≡_ {A = ℕ} 0 1 = cc in omega arith)
-
-  -- it stands at c, or at 0 after the turn
-  abbrev Way : Cursor → Type 0
-  Way c =
-      ((goes-on (c .room) (look image c) ≡ false) × Stood image c (look image c) e behind)
-      ⊎ ((goes-on (c .room) (look image c) ≡ true) × Stood image (turn (c .room) (c .pending)) (look image (turn (c .room) (c .pending))) e behind)
-
-  pub way : (c : Cursor) → advance image c ≡ Item.Record e behind → Way c
-  way c h = go (goes-on (c .room) (look image c)) refl where
-    go : (t : Bool) → goes-on (c .room) (look image c) ≡ t → Way c
-    go true q = inr (q, stood (turn (c .room) (c .pending)) (look image (turn (c .room) (c .pending))) (sym (advance-on image c q) ∙ h))
-    go false q = inl (q, stood c (look image c) (sym (advance-here image c q) ∙ h))
-
-  -- a record lies within its stretch
-  pub stood-fits : (v : Cursor) → Stood image v (look image v) e behind → size-of (e .n) (e .d) ≤ v .end - v .at
-  stood-fits v s = look-inside image v (e .n) (e .d) (s .what)
+use Rattle.recovery.specs.SameRecord.{next-kept, kind-dropped}
 
 -- ---- cursors
 
@@ -82,41 +36,49 @@ pub record Tidy (c : Cursor) : Type 0 where
 abbrev pub Ahead : Cursor → ℕ → Type 0
 Ahead c a = ((c .at ≤ a) × (a < c .end)) ⊎ (a < c .room)
 
--- address a is off the n bytes from i on
-abbrev pub Off : ℕ → ℕ → ℕ → Type 0
-Off a i n = (a < i) ⊎ (i + n ≤ a)
+pub from-tidy : {image : Image} {c d : Cursor} → From image c d → Tidy c → Tidy d
+from-tidy (here e) t = t
+from-tidy (turned e) t = record { ordered = omega arith; apart = omega arith }
 
-module _ (image : Image) (c : Cursor) (e : Spot) (behind : Cursor) (tidy : Tidy c) (h : advance image c ≡ Item.Record e behind) where
+below-room : (c : Cursor) (a : ℕ) → Ahead (turn (c .room) (c .pending)) a → a < c .room
+below-room c a (inl p) = p .1
+below-room c a (inr p) = absurd (not-suc-le-zero p)
+
+from-ahead : {image : Image} {c d : Cursor} (a : ℕ) → From image c d → Ahead d a → Ahead c a
+from-ahead a (here e) o = o
+from-ahead {c = c} a (turned e) o = inr (below-room c a o)
+
+module _ {image : Image} {c : Cursor} {e : Spot} {behind : Cursor} (tidy : Tidy c) (r : Reached image c e behind) where
+  pub tidy-seen : Tidy (r .seen)
+  tidy-seen = from-tidy (r .from) tidy
+
   pub tidy-next : Tidy behind
   tidy-next =
-      ⊎-elim
-      (λ w. rw (w .1 .moved) (record {
-        ordered = omega (arith, tidy .ordered, stood-fits image e behind c (w .1));
-        apart = omega (arith, tidy .apart);
-      }))
-      (λ w. rw (w .1 .moved) (record { ordered = omega (arith, stood-fits image e behind (turn (c .room) (c .pending)) (w .1)); apart = omega arith }))
-      (way image e behind c h)
+      rw (r .next-is) (record { ordered = omega (arith, tidy-seen .ordered, r .fits); apart = omega (arith, tidy-seen .apart) })
 
-  pub ahead-back : (a : ℕ) → Ahead behind a → Ahead c a
-  ahead-back a o =
-      ⊎-elim
-      (λ w. ⊎-elim (λ (p : (behind .at ≤ a) × (a < behind .end)). inl
-      (omega (arith, ap (λ (z : Cursor). z .at) (w .1 .moved)), omega (arith, ap (λ (z : Cursor). z .end) (w .1 .moved))))
-      (λ (p : a < behind .room). inr (omega (arith, ap (λ (z : Cursor). z .room) (w .1 .moved)))) o)
-      (λ w. inr (⊎-elim (λ (p : (behind .at ≤ a) × (a < behind .end)). omega (arith, ap (λ (z : Cursor). z .end) (w .1 .moved)))
-      (λ (p : a < behind .room). absurd (omega (arith, ap (λ (z : Cursor). z .room) (w .1 .moved)))) o))
-      (way image e behind c h)
+  module _ (a : ℕ) where
+    -- what is ahead behind the record is off it, and was ahead before
+    pub off-record : Ahead behind a → Outside a (r .seen .at) (size-of (e .n) (e .d)) × Ahead (r .seen) a
+    off-record o = go (rw (r .next-is) at o)
+      where
+        go : Ahead (past (r .seen) (size-of (e .n) (e .d)) (unfinished-at image (r .seen .at))) a
+            → Outside a (r .seen .at) (size-of (e .n) (e .d)) × Ahead (r .seen) a
+        go (inl p) = (inr (p .0), inl (omega (arith, p .0), p .1))
+        go (inr p) = (inl (omega (arith, tidy-seen .apart)), inr p)
+
+    pub ahead-back : Ahead (r .seen) a → Ahead c a
+    ahead-back o = from-ahead a (r .from) o
 
 -- ---- one byte is written
 
 module _ (s : Image) (a b : ℕ) where
-  pub window-kept : (c : Cursor) → c .at ≤ c .end → Off a (c .at) (c .end - c .at) → look (set s a b) c ≡ look s c
+  pub window-kept : (c : Cursor) → c .at ≤ c .end → Outside a (c .at) (c .end - c .at) → look (set s a b) c ≡ look s c
   unfolding look
   window-kept c l o =
       ap (λ (w : List ℕ). allowed (c .pending) (next w))
       (sym (part-window (c .at) (c .end) (set s a b) l) ∙ part-set s (c .at) (c .end - c .at) a b o ∙ part-window (c .at) (c .end) s l)
 
-  pub entry-kept : (e : Spot) → Off a (e .at) (size-of (e .n) (e .d)) → entry-of (set s a b) e ≡ entry-of s e
+  pub entry-kept : (e : Spot) → Outside a (e .at) (size-of (e .n) (e .d)) → entry-of (set s a b) e ≡ entry-of s e
   entry-kept e o =
       let z : ℕ = size-of (e .n) (e .d) in
       ap (λ (x : Rec). record { at = e .at; it = x })
@@ -151,7 +113,7 @@ module _ (s : Image) (c : Cursor) (n d : ℕ) (h : look s c ≡ Next.Record n d)
   fits = look-inside s c n d h
 
   -- the record is read again, if no byte of it is written
-  pub look-kept : (a b : ℕ) → Off a (c .at) (size-of n d) → look (set s a b) c ≡ Next.Record n d
+  pub look-kept : (a b : ℕ) → Outside a (c .at) (size-of n d) → look (set s a b) c ≡ Next.Record n d
   unfolding look
   look-kept a b o =
       let p = allowed-record (c .pending) (next (window s c)) n d h in
@@ -182,22 +144,15 @@ module _ (s : Image) (c : Cursor) (n d : ℕ) (h : look s c ≡ Next.Record n d)
 
 -- ---- the step is the same
 
-resettled : (s t : Image) (v : Cursor) (x : Next) (e : Spot) (behind : Cursor) → Stood s v x e behind → look t v ≡ Next.Record (e .n) (e .d)
-    → unfinished-at t (v .at) ≡ unfinished-at s (v .at)
-    → settle t v (look t v) ≡ Item.Record e behind
-resettled s t v x e behind w l u =
-    ap (settle t v) l
-    ∙ ap₂ Item.Record (ap (λ (i : ℕ). record { at = i; n = e .n; d = e .d }) (sym (w .place)))
-    (ap (past v (size-of (e .n) (e .d))) u ∙ sym (w .moved))
+module _ {s : Image} {c : Cursor} {e : Spot} {behind : Cursor} (tidy : Tidy c) (r : Reached s c e behind) (a b : ℕ) (o : Ahead (r .seen) a)
+    (l : look (set s a b) (r .seen) ≡ Next.Record (e .n) (e .d)) where
+  again : {d : Cursor} → From s c d → Ahead d a → look (set s a b) d ≡ Next.Record (e .n) (e .d) → From (set s a b) c d
+  again (here f) p k = here (ap (goes-on (c .room)) k)
+  again (turned f) p k =
+      turned (ap (goes-on (c .room)) (window-kept s a b c (tidy .ordered) (inl (omega (arith, below-room c a p, tidy .apart)))) ∙ f)
 
-pub here-again : (s t : Image) (c : Cursor) (e : Spot) (behind : Cursor) → Stood s c (look s c) e behind → look t c ≡ Next.Record (e .n) (e .d)
-    → unfinished-at t (c .at) ≡ unfinished-at s (c .at)
-    → advance t c ≡ Item.Record e behind
-here-again s t c e behind w l u = advance-here t c (ap (goes-on (c .room)) l) ∙ resettled s t c (look s c) e behind w l u
-
-pub there-again : (s t : Image) (c : Cursor) (e : Spot) (behind : Cursor) → goes-on (c .room) (look s c) ≡ true → look t c ≡ look s c
-    → Stood s (turn (c .room) (c .pending)) (look s (turn (c .room) (c .pending))) e behind → look t (turn (c .room) (c .pending)) ≡ Next.Record (e .n) (e .d)
-    → unfinished-at t 0 ≡ unfinished-at s 0 → advance t c ≡ Item.Record e behind
-there-again s t c e behind g k w l u =
-    let v : Cursor = turn (c .room) (c .pending) in
-    advance-on t c (ap (goes-on (c .room)) k ∙ g) ∙ resettled s t v (look s v) e behind w l u
+  pub step-again : unfinished-at (set s a b) (r .seen .at) ≡ unfinished-at s (r .seen .at) → advance (set s a b) c ≡ Item.Record e behind
+  step-again u =
+      from-advance (again (r .from) o l) ∙ ap (settle (set s a b) (r .seen)) l
+      ∙ ap₂ Item.Record (ap (λ (i : ℕ). record { at = i; n = e .n; d = e .d }) (sym (r .at)))
+      (ap (past (r .seen) (size-of (e .n) (e .d))) u ∙ sym (r .next-is))

@@ -8,9 +8,9 @@ use reading::scan::low_of;
 use record::bytes::is_clean;
 use spec::START;
 ghost use mathlib.Core.Path.{_≡_};
-ghost use Prim.Native.Nat.{_+_, _*_, _≤_, _<_};
+ghost use Prim.Native.Nat.{_+_, _*_, _<_};
 ghost use lib.ListN.{length};
-ghost use Rattle.writing.specs.Counts.{Counts};
+ghost use Rattle.flash.specs.Meters.{Can-count, Asked-most};
 ghost use Rattle.recovery.specs.Readable.{Readable};
 ghost use Rattle.recovery.specs.Pair.{Move-finished};
 
@@ -27,9 +27,9 @@ fn at_head(head: usize, m: Meter) -> NewHead
 // The repair, on what is read from the head h on: a second record CLEAN, START, or neither.
 pub fn finish_move(image: &mut [u8], h: usize, m: Meter) -> NewHead
     requires { ⌜ Readable (now image) h ⌝ }
-    requires { ⌜ Counts m (2 * length (now image) + 3) ⌝ }
+    requires { ⌜ Can-count m (2 * length (now image) + 3) ⌝ }
     ensures { λ r. ⌜ Move-finished (now (image .entry)) h m (now (image .exit)) (r .head) (r .meter) ⌝ }
-    ensures { λ r. ⌜ r .meter .asked ≤ m .asked + (2 * length (now (image .entry)) + 3) ⌝ }
+    ensures { λ r. ⌜ Asked-most m (r .meter) (2 * length (now (image .entry)) + 3) ⌝ }
     ensures { λ r. ⌜ r .head < length (now (image .entry)) ⌝ }
 {
     let s = survey(image, h);

@@ -10,22 +10,23 @@ use spec::SECTOR;
 use spec::floor;
 ghost use mathlib.Core.Path.{_≡_};
 ghost use mathlib.Core.Bool.{false};
-ghost use Prim.Native.Nat.{_+_, _*_, _≤_, _^_};
+ghost use Prim.Native.Nat.{_+_, _*_, _≤_};
 ghost use lib.ListN.{length};
 ghost use Rattle.spec.specs.Geometry.{ceiling};
 ghost use Rattle.spec.specs.Chain.{reading-from};
 ghost use Rattle.spec.specs.Mount.{erase-steps};
+ghost use Rattle.laws.specs.Length.{In-range};
 ghost use Rattle.flash.specs.Did.{Did};
+ghost use Rattle.flash.specs.Meters.{Can-count, Asked-most};
 ghost use Rattle.reading.specs.FreeLaws.{In-image};
-ghost use Rattle.writing.specs.Counts.{Counts};
 ghost use Rattle.recovery.specs.Readable.{Readable};
 ghost use Rattle.recovery.specs.Repairs.{steps-1};
 
 // The first start of a sector that is not below a.
 fn ceiling(a: usize) -> usize
-    requires { ⌜ a ≤ 2 ^ 24 ⌝ }
+    requires { ⌜ In-range a ⌝ }
     ensures { λ r. ⌜ r ≡ ceiling a ⌝ }
-    ensures { λ r. ⌜ r ≤ 2 ^ 24 ⌝ }
+    ensures { λ r. ⌜ In-range r ⌝ }
 {
     floor(a + (SECTOR - 1))
 }
@@ -34,9 +35,9 @@ fn ceiling(a: usize) -> usize
 fn erase_run(image: &mut [u8], p: Place, m: Meter) -> Meter
     requires { ⌜ In-image (now image) p ⌝ }
     requires { ⌜ (p .turned ≡ false → p .head ≤ p .tail) ⌝ }
-    requires { ⌜ Counts m (2 * length (now image)) ⌝ }
+    requires { ⌜ Can-count m (2 * length (now image)) ⌝ }
     ensures { λ r. ⌜ (let s = now (image .entry) in Did s m (erase-steps s p) (now (image .exit)) r) ⌝ }
-    ensures { λ r. ⌜ r .asked ≤ m .asked + 2 * length (now (image .entry)) ⌝ }
+    ensures { λ r. ⌜ Asked-most m r (2 * length (now (image .entry))) ⌝ }
 {
     let low = floor(p.head);
     let from = ceiling(p.tail);
@@ -50,9 +51,9 @@ fn erase_run(image: &mut [u8], p: Place, m: Meter) -> Meter
 // The repair, on what is read from the head h on.
 pub fn erase_free(image: &mut [u8], h: usize, m: Meter) -> Meter
     requires { ⌜ Readable (now image) h ⌝ }
-    requires { ⌜ Counts m (2 * length (now image) + 2) ⌝ }
+    requires { ⌜ Can-count m (2 * length (now image) + 2) ⌝ }
     ensures { λ r. ⌜ (let s = now (image .entry) in Did s m (steps-1 s (reading-from s h)) (now (image .exit)) r) ⌝ }
-    ensures { λ r. ⌜ r .asked ≤ m .asked + (2 * length (now (image .entry)) + 2) ⌝ }
+    ensures { λ r. ⌜ Asked-most m r (2 * length (now (image .entry)) + 2) ⌝ }
 {
     let s = survey(image, h);
     let t = s.tally;

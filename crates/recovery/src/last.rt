@@ -12,24 +12,24 @@ use spec::Status;
 use writing::build::void_status;
 use writing::build::write_end;
 use writing::build::write_marker;
-ghost use Prim.Native.Nat.{_+_, _≤_, _<_};
+ghost use Prim.Native.Nat.{_+_, _<_};
 ghost use lib.ListN.{length};
 ghost use Rattle.spec.specs.Step.{shifted};
 ghost use Rattle.spec.specs.Chain.{reading-from};
 ghost use Rattle.spec.specs.Mount.{torn-steps, missing-steps, reserved-steps, void-steps, last-steps, torn-wrap-steps};
 ghost use Rattle.flash.specs.Did.{Did};
+ghost use Rattle.flash.specs.Meters.{Can-count, Asked-most};
 ghost use Rattle.reading.specs.Rest.{entry-of, rest};
 ghost use Rattle.reading.specs.Fold.{Whole};
 ghost use Rattle.reading.specs.Read.{Tallied, first-cursor};
 ghost use Rattle.reading.specs.Survey.{Torn-inside};
-ghost use Rattle.writing.specs.Counts.{Counts};
 ghost use Rattle.recovery.specs.Readable.{Readable};
 ghost use Rattle.recovery.specs.Repairs.{steps-3};
 
 // A torn record becomes a dead one with no name and no data: nine steps, always all.
 fn build_void(part: &mut [u8], m: Meter) -> Meter
     requires { ⌜ 8 < length (now part) ⌝ }
-    requires { ⌜ Counts m 9 ⌝ }
+    requires { ⌜ Can-count m 9 ⌝ }
     ensures { λ r. ⌜ Did (now (part .entry)) m torn-steps (now (part .exit)) r ⌝ }
 {
     let zeros = [0u8; 5];
@@ -42,7 +42,7 @@ fn build_void(part: &mut [u8], m: Meter) -> Meter
 // The image from the torn record's start on is lent to the function above.
 fn void_torn(image: &mut [u8], at: usize, m: Meter) -> Meter
     requires { ⌜ at + 8 < length (now image) ⌝ }
-    requires { ⌜ Counts m 9 ⌝ }
+    requires { ⌜ Can-count m 9 ⌝ }
     ensures { λ r. ⌜ Did (now (image .entry)) m (shifted at torn-steps) (now (image .exit)) r ⌝ }
 {
     build_void(&mut image[at..], m)
@@ -51,9 +51,9 @@ fn void_torn(image: &mut [u8], at: usize, m: Meter) -> Meter
 // The 00 that ends a name, if it is missing.
 fn end_name(image: &mut [u8], at: usize, m: Meter) -> Meter
     requires { ⌜ at < length (now image) ⌝ }
-    requires { ⌜ Counts m 2 ⌝ }
+    requires { ⌜ Can-count m 2 ⌝ }
     ensures { λ r. ⌜ (let s = now (image .entry) in Did s m (missing-steps s at) (now (image .exit)) r) ⌝ }
-    ensures { λ r. ⌜ r .asked ≤ m .asked + 2 ⌝ }
+    ensures { λ r. ⌜ Asked-most m r 2 ⌝ }
 {
     if image[at] == 0x00 {
         return m;
@@ -64,9 +64,9 @@ fn end_name(image: &mut [u8], at: usize, m: Meter) -> Meter
 // A reserved record's name gets an end, and its status goes.
 fn void_reserved(image: &mut [u8], e: Spot, m: Meter) -> Meter
     requires { ⌜ Whole (now image) e ⌝ }
-    requires { ⌜ Counts m 4 ⌝ }
+    requires { ⌜ Can-count m 4 ⌝ }
     ensures { λ r. ⌜ (let s = now (image .entry) in Did s m (reserved-steps s (entry-of s e)) (now (image .exit)) r) ⌝ }
-    ensures { λ r. ⌜ r .asked ≤ m .asked + 4 ⌝ }
+    ensures { λ r. ⌜ Asked-most m r 4 ⌝ }
 {
     let a = end_name(image, e.at + (8 + e.n), m);
     void_status(image, e.at, Status::RESERVED, a)
@@ -75,9 +75,9 @@ fn void_reserved(image: &mut [u8], e: Spot, m: Meter) -> Meter
 // A record that is torn, reserved or finished.
 fn void_record(image: &mut [u8], e: Spot, m: Meter) -> Meter
     requires { ⌜ Whole (now image) e ⌝ }
-    requires { ⌜ Counts m 9 ⌝ }
+    requires { ⌜ Can-count m 9 ⌝ }
     ensures { λ r. ⌜ (let s = now (image .entry) in Did s m (void-steps s (entry-of s e)) (now (image .exit)) r) ⌝ }
-    ensures { λ r. ⌜ r .asked ≤ m .asked + 9 ⌝ }
+    ensures { λ r. ⌜ Asked-most m r 9 ⌝ }
 {
     let status = image[e.at + 2];
     if status == Status::ERASED.byte {
@@ -92,10 +92,10 @@ fn void_record(image: &mut [u8], e: Spot, m: Meter) -> Meter
 // The last of the records that the tally counts.
 fn void_counted(image: &mut [u8], t: Tally, h: usize, m: Meter) -> Meter
     requires { ⌜ Tallied (now image) (first-cursor (now image) h) t ⌝ }
-    requires { ⌜ Counts m 9 ⌝ }
+    requires { ⌜ Can-count m 9 ⌝ }
     ensures { λ r. ⌜ (let s = now (image .entry) in
         Did s m (last-steps s (rest s (first-cursor s h) .entries)) (now (image .exit)) r) ⌝ }
-    ensures { λ r. ⌜ r .asked ≤ m .asked + 9 ⌝ }
+    ensures { λ r. ⌜ Asked-most m r 9 ⌝ }
 {
     if t.records == 0 {
         return m;
@@ -107,12 +107,12 @@ fn void_counted(image: &mut [u8], t: Tally, h: usize, m: Meter) -> Meter
 // A torn wrap marker is written over with all its bytes.
 fn finish_wrap(image: &mut [u8], ending: Ending, m: Meter) -> Meter
     requires { ⌜ Torn-inside (length (now image)) ending ⌝ }
-    requires { ⌜ Counts m 3 ⌝ }
+    requires { ⌜ Can-count m 3 ⌝ }
     ensures { λ r. ⌜ Did (now (image .entry)) m (torn-wrap-steps ending) (now (image .exit)) r ⌝ }
-    ensures { λ r. ⌜ r .asked ≤ m .asked + 3 ⌝ }
+    ensures { λ r. ⌜ Asked-most m r 3 ⌝ }
 {
     match ending {
-        Ending::TornWrap(at) => write_marker(image, at, m),
+        Ending::TornWrap { at } => write_marker(image, at, m),
         _ => m,
     }
 }
@@ -120,9 +120,9 @@ fn finish_wrap(image: &mut [u8], ending: Ending, m: Meter) -> Meter
 // The repair, on what is read from the head h on.
 pub fn void_last(image: &mut [u8], h: usize, m: Meter) -> Meter
     requires { ⌜ Readable (now image) h ⌝ }
-    requires { ⌜ Counts m 12 ⌝ }
+    requires { ⌜ Can-count m 12 ⌝ }
     ensures { λ r. ⌜ (let s = now (image .entry) in Did s m (steps-3 s (reading-from s h)) (now (image .exit)) r) ⌝ }
-    ensures { λ r. ⌜ r .asked ≤ m .asked + 12 ⌝ }
+    ensures { λ r. ⌜ Asked-most m r 12 ⌝ }
 {
     let s = survey(image, h);
     let t = s.tally;

@@ -15,8 +15,9 @@ use reading::files::count_files;
 use reading::image::first_cursor;
 use reading::image::survey;
 use superseded::drop_superseded;
-ghost use Prim.Native.Nat.{_≤_, _<_, _^_};
+ghost use Prim.Native.Nat.{_<_, _^_};
 ghost use lib.ListN.{length};
+ghost use Rattle.flash.specs.Meters.{Can-count, Enough};
 ghost use Rattle.recovery.specs.Readable.{Readable};
 ghost use Rattle.recovery.specs.Mended.{Mends};
 ghost use Rattle.recovery.specs.Counted.{Counted};
@@ -24,8 +25,8 @@ ghost use Rattle.recovery.specs.Counted.{Counted};
 // The four repairs. The next one reads what those before it left, so none begins once the allowance is used up.
 fn repair(image: &mut [u8], head: usize, m: Meter) -> NewHead
     requires { ⌜ Readable (now image) head ⌝ }
-    requires { ⌜ m .asked ≤ 2 ^ 24 ⌝ }
-    requires { ⌜ m .asked ≤ m .allowance ⌝ }
+    requires { ⌜ Can-count m (2 ^ 31) ⌝ }
+    requires { ⌜ Enough m ⌝ }
     ensures { λ r. ⌜ Mends (now (image .entry)) head m (now (image .exit)) (r .head) (r .meter) ⌝ }
     ensures { λ r. ⌜ r .head < length (now (image .entry)) ⌝ }
 {
@@ -66,8 +67,8 @@ pub struct Mended {
 // Mount, on an image that was read from this head.
 pub fn mend(image: &mut [u8], head: usize, m: Meter) -> Mended
     requires { ⌜ Readable (now image) head ⌝ }
-    requires { ⌜ m .asked ≤ 2 ^ 24 ⌝ }
-    requires { ⌜ m .asked ≤ m .allowance ⌝ }
+    requires { ⌜ Can-count m (2 ^ 31) ⌝ }
+    requires { ⌜ Enough m ⌝ }
     ensures { λ r. ⌜ Counted (now (image .entry)) head m (now (image .exit)) r ⌝ }
 {
     let p = repair(image, head, m);

@@ -19,10 +19,10 @@ pub enum Kind {
     Bad,
 }
 
-// What stands at the front of a part: a record with the lengths of its name and of its data, a wrap marker,
-// a torn one, eight FF bytes, nothing at all, or what breaks a rule.
+// What stands at the front of a part: a record with n name bytes and d data bytes, a wrap marker, a torn one, eight FF bytes,
+// nothing at all, or what breaks a rule.
 pub enum Next {
-    Record(usize, usize),
+    Record { n: usize, d: usize },
     Wrap,
     TornWrap,
     Clear,
@@ -30,10 +30,10 @@ pub enum Next {
     Bad,
 }
 
-// How a chain ends: at its tail, with a torn wrap at this address, or by a broken rule.
+// How a chain ends: at its tail, with a torn wrap at an address, or by a broken rule.
 pub enum Ending {
     Tail,
-    TornWrap(usize),
+    TornWrap { at: usize },
     Broken,
 }
 
@@ -47,7 +47,11 @@ pub struct Place {
 
 // A size placed: its address, whether a wrap marker goes to the tail before it, and the place after it. Or it doesn't fit.
 pub enum Placed {
-    At(usize, bool, Place),
+    At {
+        at: usize,
+        marker: bool,
+        place: Place,
+    },
     Full,
 }
 
@@ -78,17 +82,21 @@ impl Place {
         ensures { λ r. ⌜ r ≡ placed self size ⌝ }
     {
         if self.fits_at_tail(size) {
-            return Placed::At(
-                self.tail,
-                false,
-                self.with_tail(self.tail + size, self.turned),
-            );
+            return Placed::At {
+                at: self.tail,
+                marker: false,
+                place: self.with_tail(self.tail + size, self.turned),
+            };
         }
         if self.turned {
             return Placed::Full;
         }
         if size <= floor(self.head) {
-            return Placed::At(0, self.tail < self.length, self.with_tail(size, true));
+            return Placed::At {
+                at: 0,
+                marker: self.tail < self.length,
+                place: self.with_tail(size, true),
+            };
         }
         Placed::Full
     }

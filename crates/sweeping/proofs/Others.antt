@@ -8,7 +8,7 @@ use Rattle.spec.specs.declared.Place.{Place}
 use Rattle.spec.specs.Step.{Image}
 use Rattle.sweeping.proofs.Plan.{the-type as plan-type}
 use Rattle.sweeping.specs.declared.Plan.{Plan}
-use Rattle.sweeping.specs.Steps.{copying}
+use Rattle.sweeping.specs.MoveSteps.{copying}
 use Rattle.sweeping.specs.Planned.{Planned, Going, full}
 
 pub not-stopped : (s : Image) (p : Place) (x : Plan) → OneOf (1 ∷ 2 ∷ []) (tagOf plan-type x) → Planned s p x → Going s p x

@@ -5,35 +5,36 @@ use mathlib.Core.Path.{_≡_, refl, sym, ap, ap₂, _∙_}
 use mathlib.Core.Logic.{_⊎_, inl, inr, ⊎-elim}
 use mathlib.Core.List.{List, [], _∷_}
 use lib.ListN.{length, take, drop, getD}
-use Rattle.spec.specs.Step.{Image, Step, program, run}
+use Rattle.spec.specs.Step.{Image, program, run}
 use Rattle.spec.specs.Geometry.{up8}
 use Rattle.spec.specs.Record.{size-of, Entry}
 use Rattle.spec.specs.Chain.{reading-from}
 use Rattle.spec.specs.Move.{clean-steps, close-steps}
+use Rattle.laws.specs.Parts.{Outside}
 use Rattle.flash.specs.declared.Meter.{Meter}
 use Rattle.flash.specs.Did.{Did, did-none, did-both, did-all}
+use Rattle.flash.specs.Meters.{Asked-most, Enough}
 use Rattle.reading.specs.declared.Cursor.{Cursor}
 use Rattle.reading.specs.declared.Spot.{Spot}
 use Rattle.reading.specs.declared.Item.{Item}
 use Rattle.reading.specs.Cursor.{advance}
-use Rattle.reading.specs.Rest.{Run, entry-of, rest}
-use Rattle.reading.specs.Fold.{Not-record, rest-done}
+use Rattle.reading.specs.Rest.{entry-of}
+use Rattle.reading.specs.Fold.{Not-record}
 use Rattle.reading.specs.Read.{first-cursor}
-use Rattle.moving.specs.Kept.{kept}
+use Rattle.moving.specs.Untouched.{kept}
 use Rattle.moving.specs.Clean.{cleaned-is}
 use Rattle.moving.specs.Close.{close-same, close-low}
 use Rattle.moving.specs.declared.NewHead.{NewHead}
-use Rattle.reading.specs.Way.{reached}
+use Rattle.reading.specs.Along.{reached}
 use Rattle.reading.specs.FirstRecord.{apart, second-even}
-use Rattle.sweeping.specs.Steps.{hand-steps, hand-head, handing, heading}
-use Rattle.reading.specs.Standing.{Led, Taken, entries-are, stands}
-use Rattle.laws.specs.Steps.{run-append}
+use Rattle.sweeping.specs.MoveSteps.{hand-steps, hand-head, handing, heading}
+use Rattle.reading.specs.Standing.{Led, Taken, stands, none-listed, one-listed, two-listed}
 
 pub record Handed (s : Image) (h : ℕ) (m : Meter) (t : Image) (r : NewHead) : Type 0 where
   pub did : Did s m (handing s h) t (r .meter)
   pub head : r .head ≡ heading s h
-  pub led : r .meter .asked ≤ r .meter .allowance → Led t (r .head)
-  pub few : r .meter .asked ≤ m .asked + 2 * length s + 4
+  pub led : Enough (r .meter) → Led t (r .head)
+  pub few : Asked-most m (r .meter) (2 * length s + 4)
 
 -- ---- how the code comes to it
 
@@ -51,27 +52,19 @@ module _ {s : Image} {h : ℕ} (w : Led s h) (m : Meter) where
 
   pub hand-none : {k : Cursor} (q : Item) → k ≡ first-cursor s h → q ≡ advance s k → Not-record q
       → Handed s h m s (record { head = h; meter = m })
-  hand-none q f e z =
-      none-handed [] (entries-are s h w ∙ ap (λ (r : Run). r .entries) (rest-done s (first-cursor s h) q (e ∙ ap (advance s) f) z)) refl (λ N. refl)
+  hand-none q f e z = none-handed [] (none-listed s h w q f e z) refl (λ N. refl)
 
   module _ {x : Spot} {c : Cursor} (t : Taken s (first-cursor s h) x c) where
-    listed : reading-from s h .entries ≡ entry-of s x ∷ rest s c .entries
-    listed = entries-are s h w ∙ ap (λ (r : Run). r .entries) (t .passes .split)
-
     pub hand-one : (q : Item) → q ≡ advance s c → Not-record q → Handed s h m s (record { head = h; meter = m })
-    hand-one q e z =
-        none-handed (entry-of s x ∷ []) (listed ∙ ap (λ (r : Run). entry-of s x ∷ r .entries) (rest-done s c q e z)) refl (λ N. refl)
+    hand-one q e z = none-handed (entry-of s x ∷ []) (one-listed s h w t q e z) refl (λ N. refl)
 
     module _ {y : Spot} {d : Cursor} (u : Taken s c y d) where
-      two : reading-from s h .entries ≡ entry-of s x ∷ (entry-of s y ∷ rest s d .entries)
-      two = listed ∙ ap (λ (r : Run). entry-of s x ∷ r .entries) (u .passes .split)
-
       -- Y's first byte is none of X's data
       same-data : {v : Image} {a : Meter} → Did s m (program (y .at) 0xA0 ∷ []) v a
           → take (x .d) (drop (x .at + 8 + up8 (x .n + 1)) v) ≡ take (x .d) (drop (x .at + 8 + up8 (x .n + 1)) s)
       same-data g =
           let o = apart s h (w .inside) (w .low) x c (reached s (first-cursor s h) x c (t .step)) y d (reached s c y d (u .step)) in
-          let off : (y .at < x .at + 8 + up8 (x .n + 1)) ⊎ (x .at + 8 + up8 (x .n + 1) + x .d ≤ y .at) =
+          let off : Outside (y .at) (x .at + 8 + up8 (x .n + 1)) (x .d) =
           ⊎-elim (λ (l : x .at + size-of (x .n) (x .d) ≤ y .at). inr (omega arith)) (λ (l : y .at < x .at). inl (omega arith)) o in
           kept (x .at + 8 + up8 (x .n + 1)) (x .d) g (off, tt)
 
@@ -83,18 +76,18 @@ module _ {s : Image} {h : ℕ} (w : Led s h) (m : Meter) where
 
       handing-is : handing s h ≡ program (y .at) 0xA0 ∷ close-steps (length s) (entry-of s x) (entry-of s y) 0xA0
       unfolding handing
-      handing-is = ap₂ hand-steps (stands s h w .whole) two
+      handing-is = ap₂ hand-steps (stands s h w .whole) (two-listed s h w t u)
 
       heading-is : heading s h ≡ y .at
       unfolding heading
-      heading-is = ap (hand-head h) two
+      heading-is = ap (hand-head h) (two-listed s h w t u)
 
       pub hand-two : {v z : Image} {a q : Meter} → length v ≡ length s → length z ≡ length s → Did s m (program (y .at) 0xA0 ∷ []) v a
-          → Did v a (close-steps (length v) (entry-of v x) (entry-of v y) 0xA0) z q → q .asked ≤ a .asked + (2 * length v + 3)
+          → Did v a (close-steps (length v) (entry-of v x) (entry-of v y) 0xA0) z q → Asked-most a q (2 * length v + 3)
           → Handed s h m z (record { head = y .at; meter = q })
       hand-two {v} {z} {a} {q} l k g i b =
           let did : Did s m (handing s h) z q = rw handing-is (did-both g (rw (same-close l g) at i)) in
-          let low : q .asked ≤ q .allowance → getD z (y .at) 0 ≡ 0 = λ n.
+          let low : Enough q → getD z (y .at) 0 ≡ 0 = λ n.
           let j : z ≡ run (run s (program (y .at) 0xA0 ∷ [])) (close-steps (length s) (entry-of s x) (entry-of s y) 0xA0) = did-all did n
           ∙ ap (run s) handing-is in
           ap (λ (i : Image). getD i (y .at) 0) j

@@ -1,5 +1,5 @@
 pub mod Moves
-pub mod Steps
+pub mod MoveSteps
 pub mod Stuck
 pub mod Planned
 pub mod Handed

@@ -1,5 +1,5 @@
 -- Moves, each a list of steps, begun one after another; n of them are finished.
-use Prim.Native.Nat.{ℕ, suc, _+_, _≤_, _<_}
+use Prim.Native.Nat.{ℕ, suc, _+_, _≤_}
 use native.Mathlib.Omega.{arith}
 use mathlib.Core.Path.{_≡_, refl, ap, _∙_}
 use mathlib.Core.List.{List, [], _∷_}
@@ -11,6 +11,7 @@ use Rattle.spec.specs.Answers.{finished}
 use Rattle.flash.specs.declared.Meter.{Meter}
 use Rattle.flash.specs.Did.{did-none}
 use Rattle.flash.specs.Began.{Began, began-did, began-both, began-cut}
+use Rattle.flash.specs.Meters.{Enough, Used-up}
 
 pub record Moves (s : Image) (m : Meter) (ms : List (List Step)) (t : Image) (n : ℕ) (r : Meter) : Type 0 where
   pub begun : Began s m (concat ms) t r
@@ -21,11 +22,11 @@ moves-none s m = record { begun = began-did (did-none s m); count = refl }
 
 module _ {s t : Image} {m r : Meter} {a : List Step} (ms : List (List Step)) (w : Began s m a t r) where
   -- one that was cut
-  pub moves-cut : r .allowance < r .asked → Moves s m (a ∷ ms) t 0 r
+  pub moves-cut : Used-up r → Moves s m (a ∷ ms) t 0 r
   moves-cut h = record { begun = began-cut w (concat ms) h; count = rw (lt-leb (m .asked + length a) (m .allowance) (w .cut h), finished) }
 
   -- one that was finished, and the others
-  pub moves-more : {u : Image} {n : ℕ} {q : Meter} → r .asked ≤ r .allowance → Moves t r ms u n q → Moves s m (a ∷ ms) u (suc n) q
+  pub moves-more : {u : Image} {n : ℕ} {q : Meter} → Enough r → Moves t r ms u n q → Moves s m (a ∷ ms) u (suc n) q
   moves-more h v =
       record {
         begun = began-both w h (v .begun);

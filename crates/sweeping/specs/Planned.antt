@@ -1,5 +1,5 @@
 -- What a move will do with the head's record, and what the copy is given.
-use Prim.Native.Nat.{ℕ, _+_, _≤_, _^_}
+use Prim.Native.Nat.{ℕ, _+_, _^_}
 use native.Mathlib.Omega.{arith}
 use mathlib.Core.Path.{_≡_, refl, sym, ap, ap₂, subst, _∙_}
 use mathlib.Core.Bool.{Bool, true, false}
@@ -17,6 +17,8 @@ use Rattle.spec.specs.Placed.{placed, Place-sound}
 use Rattle.spec.specs.Sweep.{no-room, stuck}
 use Rattle.flash.specs.declared.Meter.{Meter}
 use Rattle.flash.specs.Did.{Did, did-none}
+use Rattle.flash.specs.Meters.{Can-count, Asked-most}
+use Rattle.record.specs.Within.{Name-length}
 use Rattle.reading.specs.declared.Cursor.{Cursor}
 use Rattle.reading.specs.declared.Spot.{Spot}
 use Rattle.reading.specs.declared.Item.{Item}
@@ -24,18 +26,18 @@ use Rattle.reading.specs.Cursor.{advance}
 use Rattle.reading.specs.Rest.{Run, entry-of, rest}
 use Rattle.reading.specs.Fold.{Whole, name-length-is, content-length-is, Not-record, rest-done}
 use Rattle.reading.specs.Read.{first-cursor}
-use Rattle.writing.specs.Room.{placed-parts, placed-full}
+use Rattle.writing.specs.Placing.{placed-parts, placed-full}
 use Rattle.writing.specs.Put.{Ready}
 use Rattle.moving.specs.Copied.{entry-at}
 use Rattle.moving.specs.Copy.{copy-of, HeadEnds, copy-few, copy-keeps-low}
 use Rattle.sweeping.specs.declared.Plan.{Plan}
-use Rattle.sweeping.specs.Steps.{copying}
+use Rattle.sweeping.specs.MoveSteps.{copying}
 use Rattle.laws.specs.Sweep.{room-on, room-live, room-dead, copy-live, copy-dead}
 use Rattle.sweeping.specs.Stuck.{stuck-empty, room-empty, stuck-live, stuck-last, stuck-not}
-use Rattle.reading.specs.Standing.{Led, Taken, Standing, entries-are, stands, head-at, stands-past}
+use Rattle.reading.specs.Standing.{Led, Taken, Standing, stands, listed, head-at, stands-past, none-listed, two-listed}
 
 -- the place of the reading from its head on
-pub record Headed (s : Image) (p : Place) : Type 0 where
+pub record Place-of (s : Image) (p : Place) : Type 0 where
   pub led : Led s (p .head)
   pub same : p ≡ reading-from s (p .head) .place
 
@@ -45,7 +47,7 @@ pub record Copies (s : Image) (p : Place) (n d : ℕ) : Type 0 where
   pub steps : copying s (p .head) ≡ copy-of p (entry-at s (p .head) n d)
   pub ends : HeadEnds p (size-of n d)
   pub taken : fits p (size-of n d) ≡ true
-  pub named : n ≤ 63
+  pub named : Name-length n
 
 -- there is no further move
 pub record No-move (s : Image) (h : ℕ) (full : Bool) : Type 0 where
@@ -81,17 +83,16 @@ full-is s p (Plan.Copy n d) w = sym (room-on (reading-from s (p .head)) (w .on))
 
 -- ---- how the code comes to it
 
-module _ {s : Image} {p : Place} (w : Headed s p) where
+module _ {s : Image} {p : Place} (w : Place-of s p) where
   pub plan-none : {k : Cursor} (q : Item) → k ≡ first-cursor s (p .head) → q ≡ advance s k → Not-record q → No-move s (p .head) false
   plan-none {k} q f e z =
       let r : Reading = reading-from s (p .head) in
-      let none : r .entries ≡ [] = entries-are s (p .head) (w .led)
-      ∙ ap (λ (v : Run). v .entries) (rest-done s (first-cursor s (p .head)) q (e ∙ ap (advance s) f) z) in
+      let none : r .entries ≡ [] = none-listed s (p .head) (w .led) q f e z in
       record { stop = stuck-empty r (r .entries) refl none; room = ap (no-room r) none ∙ room-empty r }
 
   module _ {x : Spot} {c : Cursor} (t : Taken s (first-cursor s (p .head)) x c) where
-    listed : reading-from s (p .head) .entries ≡ entry-of s x ∷ rest s c .entries
-    listed = entries-are s (p .head) (w .led) ∙ ap (λ (r : Run). r .entries) (t .passes .split)
+    abbrev first : reading-from s (p .head) .entries ≡ entry-of s x ∷ rest s c .entries
+    first = listed s (p .head) (w .led) t
 
     living : (b : Bool) → b ≡ live (rest s (first-cursor s (p .head)) .entries) (entry-of s x)
         → live (entry-of s x ∷ rest s c .entries) (entry-of s x) ≡ b
@@ -113,8 +114,8 @@ module _ {s : Image} {p : Place} (w : Headed s p) where
           let no : fits (r .place) (size (entry-of s x)) ≡ false = fitting false
           (placed-full p (size-of (x .n) (x .d)) (ap (placed p) (sym g) ∙ sym i ∙ j)) in
           record {
-            stop = stuck-live r (entry-of s x) (rest s c .entries) false listed (living b e ∙ l) no;
-            room = ap (no-room r) listed ∙ room-live r (entry-of s x) (rest s c .entries) false (living b e ∙ l) no;
+            stop = stuck-live r (entry-of s x) (rest s c .entries) false first (living b e ∙ l) no;
+            room = ap (no-room r) first ∙ room-live r (entry-of s x) (rest s c .entries) false (living b e ∙ l) no;
           }
 
       pub plan-copy : {y : ℕ} {v : Placed} {a : ℕ} {i : Bool} {o : Place} → b ≡ true → y ≡ size-of (x .n) (x .d) → v ≡ placed p y
@@ -128,9 +129,9 @@ module _ {s : Image} {p : Place} (w : Headed s p) where
           (stands-past s (p .head) (w .led) t) in
           let taken : fits p z ≡ true = placed-parts p z a i o (ap (placed p) (sym g) ∙ sym j ∙ k) .0 in
           record {
-            on = stuck-live r (entry-of s x) (rest s c .entries) true listed (living b e ∙ l) (fitting true taken);
+            on = stuck-live r (entry-of s x) (rest s c .entries) true first (living b e ∙ l) (fitting true taken);
             steps =
-                copy-live r (entry-of s x) (rest s c .entries) listed (living b e ∙ l)
+                copy-live r (entry-of s x) (rest s c .entries) first (living b e ∙ l)
                 ∙ ap₂ (λ (v : Place) (i : ℕ). copy-of v (entry-at s i (x .n) (x .d))) (sym (w .same)) at;
             ends = record { inside = omega (arith, t .passes .whole .fits, stand .whole); before = stand .up };
             taken = taken;
@@ -141,8 +142,8 @@ module _ {s : Image} {p : Place} (w : Headed s p) where
       plan-last l r g z =
           let v : Reading = reading-from s (p .head) in
           record {
-            stop = stuck-last v (entry-of s x) (rest s c .entries) listed (ap (λ (i : Run). i .entries) (rest-done s c r g z)) (living b e ∙ l);
-            room = ap (no-room v) listed ∙ room-dead v (entry-of s x) (rest s c .entries) (living b e ∙ l);
+            stop = stuck-last v (entry-of s x) (rest s c .entries) first (ap (λ (i : Run). i .entries) (rest-done s c r g z)) (living b e ∙ l);
+            room = ap (no-room v) first ∙ room-dead v (entry-of s x) (rest s c .entries) (living b e ∙ l);
           }
 
       pub plan-leave : {y : Spot} {d : Cursor} → b ≡ false → Taken s c y d → (stuck (reading-from s (p .head)) ≡ false) × (copying s (p .head) ≡ [])
@@ -150,7 +151,7 @@ module _ {s : Image} {p : Place} (w : Headed s p) where
       plan-leave {y} {d} l u =
           let r : Reading = reading-from s (p .head) in
           let behind : rest s c .entries ≡ entry-of s y ∷ rest s d .entries = ap (λ (v : Run). v .entries) (u .passes .split) in
-          let two : r .entries ≡ entry-of s x ∷ (entry-of s y ∷ rest s d .entries) = listed ∙ ap (λ (es : List Entry). entry-of s x ∷ es) behind in
+          let two : r .entries ≡ entry-of s x ∷ (entry-of s y ∷ rest s d .entries) = two-listed s (p .head) (w .led) t u in
           let dead : live (entry-of s x ∷ (entry-of s y ∷ rest s d .entries)) (entry-of s x) ≡ false =
           sym (ap (λ (es : List Entry). live (entry-of s x ∷ es) (entry-of s x)) behind) ∙ living b e ∙ l in (
             stuck-not r (entry-of s x) (entry-of s y) (rest s d .entries) two dead,
@@ -163,17 +164,17 @@ module _ {s : Image} {p : Place} (w : Headed s p) where
 -- its steps, how many they are at most, and the byte at the head, which stays
 abbrev Copied : Image → Place → Meter → Image → Meter → Type 0
 Copied s p m t r =
-    Did s m (copying s (p .head)) t r × ((r .asked ≤ m .asked + (length s + 15)) × (getD t (p .head) 0 ≡ getD s (p .head) 0))
+    Did s m (copying s (p .head)) t r × (Asked-most m r (length s + 15) × (getD t (p .head) 0 ≡ getD s (p .head) 0))
 
-module _ {s : Image} {p : Place} (w : Headed s p) where
+module _ {s : Image} {p : Place} (w : Place-of s p) where
   pub sound : Place-sound p
   sound =
       let o : Standing (length s) (p .head) (p .head) p = subst (Standing (length s) (p .head) (p .head)) (sym (w .same))
       (stands s (p .head) (w .led)) in
       record { inside = omega (arith, w .led .inside, o .whole); short = omega (arith, w .led .small, o .whole) }
 
-  pub ready : {n d : ℕ} (k : ℕ) → Copies s p n d → k ≤ 2 ^ 31 → Ready p (length s) n d k
-  ready k c l =
+  pub ready : {n d : ℕ} (m : Meter) → Copies s p n d → Can-count m (2 ^ 31) → Ready p (length s) n d (m .asked)
+  ready m c l =
       let o : Standing (length s) (p .head) (p .head) p = subst (Standing (length s) (p .head) (p .head)) (sym (w .same))
       (stands s (p .head) (w .led)) in
       record {

@@ -1,5 +1,5 @@
 -- Moves one after another, as the sweep makes them.
-use Prim.Native.Nat.{ℕ, suc, _+_, _*_, _≤_, _<_, _^_}
+use Prim.Native.Nat.{ℕ, suc, _+_, _*_, _≤_, _^_}
 use native.Mathlib.Omega.{arith}
 use native.Mathlib.Nat.{add-zero, zero-add}
 use mathlib.Core.Path.{_≡_, sym, ap, ap₂, subst, _∙_}
@@ -10,6 +10,7 @@ use Rattle.spec.specs.Step.{Image}
 use Rattle.spec.specs.Chain.{Reading, reading-from}
 use Rattle.spec.specs.Sweep.{stuck, moves}
 use Rattle.flash.specs.declared.Meter.{Meter}
+use Rattle.flash.specs.Meters.{Asked-most, Enough, Used-up}
 use Rattle.reading.specs.declared.Survey.{Survey}
 use Rattle.reading.specs.Survey.{Seen}
 use Rattle.moving.specs.declared.NewHead.{NewHead}
@@ -17,23 +18,23 @@ use Rattle.sweeping.specs.declared.MoveEnd.{MoveEnd}
 use Rattle.flash.specs.Began.{Began}
 use Rattle.sweeping.specs.Moves.{Moves, moves-none, moves-cut, moves-more}
 use Rattle.laws.specs.Sweep.{moves-stuck, moves-next}
-use Rattle.sweeping.specs.Planned.{Headed}
+use Rattle.sweeping.specs.Planned.{Place-of}
 use Rattle.sweeping.specs.WholeMove.{whole-move, Left, Move-made}
 
 -- a move that was cut
 pub record Move-cut (s : Image) (h : ℕ) (m : Meter) (t : Image) (q : Meter) : Type 0 where
   pub on : stuck (reading-from s h) ≡ false
   pub begun : Began s m (whole-move s h .steps) t q
-  pub over : q .allowance < q .asked
+  pub over : Used-up q
 
 -- a move that was finished, and the place that it leaves
 pub record Move-done (s : Image) (h : ℕ) (m : Meter) (t : Image) (p : Place) (q : Meter) : Type 0 where
   pub on : stuck (reading-from s h) ≡ false
   pub begun : Began s m (whole-move s h .steps) t q
-  pub within : q .asked ≤ q .allowance
+  pub within : Enough q
   pub left : Left s h t (p .head)
-  pub headed : Headed t p
-  pub few : q .asked ≤ m .asked + 2 ^ 26
+  pub headed : Place-of t p
+  pub few : Asked-most m q (2 ^ 26)
 
 abbrev pub Move-ended : Image → ℕ → Meter → Image → MoveEnd → Type 0
 Move-ended s h m t MoveEnd.Stuck = (stuck (reading-from s h) ≡ true) × (t ≡ s)
@@ -42,7 +43,7 @@ Move-ended s h m t (MoveEnd.Done p q) = Move-done s h m t p q
 
 -- the place that a survey saw of what a finished move left
 pub done-seen : {s t : Image} {h : ℕ} {m : Meter} {r : NewHead} {v : Survey} → stuck (reading-from s h) ≡ false → Move-made s h m t r
-    → r .meter .asked ≤ r .meter .allowance → Seen t (r .head) v
+    → Enough (r .meter) → Seen t (r .head) v
     → Move-done s h m t (v .place) (r .meter)
 done-seen {s} {t} {h} {m} {r} {v} on w l seen =
     let left : Left s h t (v .place .head) = subst (Left s h t) (sym (seen .head)) (w .left l) in
@@ -64,10 +65,10 @@ done-seen {s} {t} {h} {m} {r} {v} on w l seen =
 pub record Sweeping (s : Image) (m : Meter) (k h : ℕ) (t : Image) (q : Meter) (left : ℕ) (p : Place) (n : ℕ) : Type 0 where
   pub onward : (u : Image) (i : ℕ) (r : Meter) → Moves t q (moves left t (reading-from t (p .head))) u i r
       → Moves s m (moves k s (reading-from s h)) u (n + i) r
-  pub headed : Headed t p
+  pub headed : Place-of t p
   pub few : q .asked + left * 2 ^ 26 ≤ 2 ^ 30
 
-pub sweeping-start : {s : Image} {m : Meter} {k : ℕ} (p : Place) → Headed s p → k ≤ 5 → m .asked ≤ 2 ^ 16 → Sweeping s m k (p .head) s m k p 0
+pub sweeping-start : {s : Image} {m : Meter} {k : ℕ} (p : Place) → Place-of s p → k ≤ 5 → m .asked ≤ 2 ^ 16 → Sweeping s m k (p .head) s m k p 0
 sweeping-start p w l f = record { onward = λ u i r v. rw zero-add v; headed = w; few = omega arith }
 
 module _ {s : Image} {m : Meter} {k h : ℕ} {t : Image} {q : Meter} {left : ℕ} {p : Place} {n : ℕ} (w : Sweeping s m k h t q left p n) where

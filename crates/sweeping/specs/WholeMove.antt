@@ -1,5 +1,5 @@
 -- The whole move: (a), and then (b) to (f) on the image that (a) left.
-use Prim.Native.Nat.{ℕ, _+_, _≤_, _<_, _^_}
+use Prim.Native.Nat.{ℕ, _+_, _^_}
 use native.Mathlib.Omega.{arith}
 use mathlib.Core.Path.{_≡_, sym, ap, subst, _∙_}
 use mathlib.Core.List.{_++_}
@@ -9,9 +9,10 @@ use Rattle.spec.specs.Chain.{reading-from}
 use Rattle.spec.specs.Move.{Work, begin, move}
 use Rattle.flash.specs.declared.Meter.{Meter}
 use Rattle.flash.specs.Did.{Did, did-all}
+use Rattle.flash.specs.Meters.{Asked-most, Enough, Used-up}
 use Rattle.moving.specs.declared.NewHead.{NewHead}
 use Rattle.flash.specs.Began.{Began, began-did, began-both, began-cut}
-use Rattle.sweeping.specs.Steps.{copying, handing, heading, move-is}
+use Rattle.sweeping.specs.MoveSteps.{copying, handing, heading, move-is}
 use Rattle.reading.specs.Standing.{Led, stands}
 use Rattle.sweeping.specs.Handed.{Handed}
 
@@ -27,8 +28,8 @@ pub record Left (s : Image) (h : ℕ) (t : Image) (next : ℕ) : Type 0 where
 
 pub record Move-made (s : Image) (h : ℕ) (m : Meter) (t : Image) (r : NewHead) : Type 0 where
   pub begun : Began s m (whole-move s h .steps) t (r .meter)
-  pub left : r .meter .asked ≤ r .meter .allowance → Left s h t (r .head)
-  pub few : r .meter .asked ≤ m .asked + 2 ^ 26
+  pub left : Enough (r .meter) → Left s h t (r .head)
+  pub few : Asked-most m (r .meter) (2 ^ 26)
 
 -- the image that (a) left is led as before
 pub led-still : {s t : Image} {h : ℕ} → Led s h → length t ≡ length s → getD t h 0 ≡ getD s h 0 → Led t h
@@ -42,11 +43,11 @@ led-still w l e =
       small = omega (arith, w .small);
     }
 
-module _ {s t : Image} {h : ℕ} {m a : Meter} (w : Led s h) (d : Did s m (copying s h) t a) (few : a .asked ≤ m .asked + (length s + 15)) where
+module _ {s t : Image} {h : ℕ} {m a : Meter} (w : Led s h) (d : Did s m (copying s h) t a) (few : Asked-most m a (length s + 15)) where
   steps-are : whole-move s h .steps ≡ copying s h ++ handing (run s (copying s h)) h
   steps-are = ap (λ (v : Work). v .steps) (move-is s h (stands s h w .head))
 
-  pub moved-cut : {i : ℕ} → a .allowance < a .asked → Move-made s h m t (record { head = i; meter = a })
+  pub moved-cut : {i : ℕ} → Used-up a → Move-made s h m t (record { head = i; meter = a })
   moved-cut l =
       record {
         begun = rw steps-are (began-cut (began-did d) (handing (run s (copying s h)) h) l);
@@ -54,7 +55,7 @@ module _ {s t : Image} {h : ℕ} {m a : Meter} (w : Led s h) (d : Did s m (copyi
         few = omega (arith, w .small);
       }
 
-  pub moved-over : {u : Image} {r : NewHead} → a .asked ≤ a .allowance → length t ≡ length s → Handed t h a u r → Move-made s h m u r
+  pub moved-over : {u : Image} {r : NewHead} → Enough a → length t ≡ length s → Handed t h a u r → Move-made s h m u r
   moved-over {u} {r} l k v =
       let e : t ≡ run s (copying s h) = did-all d l in
       record {

@@ -8,16 +8,16 @@ use spec::Place;
 // What the next move does with the head's record: there is no further move, for want of room or not; the record is
 // dead and stays behind; or it is copied, with its n name bytes and d data bytes.
 pub enum Plan {
-    Stop(bool),
+    Stop { full: bool },
     Leave,
-    Copy(usize, usize),
+    Copy { n: usize, d: usize },
 }
 
 // How a move ended: there was none, it was cut, or it was finished and left this place.
 pub enum MoveEnd {
     Stuck,
-    Cut(Meter),
-    Done(Place, Meter),
+    Cut { meter: Meter },
+    Done { place: Place, meter: Meter },
 }
 
 // The finished moves of a sweep, and its meter.

@@ -14,62 +14,66 @@ use spec::CLEAN;
 use spec::Place;
 use spec::Placed;
 ghost use mathlib.Core.Path.{_≡_};
-ghost use Prim.Native.Nat.{_+_, _*_, _≤_, _<_, _^_};
+ghost use Prim.Native.Nat.{_+_, _*_, _^_};
 ghost use lib.ListN.{length, getD};
 ghost use Rattle.spec.specs.Chain.{reading-from};
 ghost use Rattle.spec.specs.Sweep.{no-room};
 ghost use Rattle.flash.specs.Did.{Did};
-ghost use Rattle.writing.specs.Counts.{Counts};
-ghost use Rattle.sweeping.specs.Steps.{copying};
+ghost use Rattle.flash.specs.Meters.{Can-count, Asked-most};
+ghost use Rattle.sweeping.specs.MoveSteps.{copying};
 ghost use Rattle.reading.specs.Standing.{Led};
-ghost use Rattle.sweeping.specs.Planned.{Headed, Planned, Going};
+ghost use Rattle.sweeping.specs.Planned.{Place-of, Planned, Going};
 ghost use Rattle.sweeping.specs.Handed.{Handed};
 ghost use Rattle.sweeping.specs.WholeMove.{Move-made};
 
 // A live head moves if its copy fits, a dead one if a record stands behind it.
 pub fn plan(image: &[u8], place: Place) -> Plan
-    requires { ⌜ Headed (now image) place ⌝ }
+    requires { ⌜ Place-of (now image) place ⌝ }
     ensures { λ r. ⌜ Planned (now (image .entry)) place r ⌝ }
 {
     let start = first_cursor(image, place.head);
-    let Item::Record(x, past) = advance(image, start) else {
-        return Plan::Stop(false);
+    let Item::Record {
+        spot: x,
+        next: past,
+    } = advance(image, start)
+    else {
+        return Plan::Stop { full: false };
     };
     if is_live(image, start, x) {
-        let Placed::At(_, _, _) = place.after(size(x.n, x.d)) else {
-            return Plan::Stop(true);
+        let Placed::At { .. } = place.after(size(x.n, x.d)) else {
+            return Plan::Stop { full: true };
         };
-        return Plan::Copy(x.n, x.d);
+        return Plan::Copy { n: x.n, d: x.d };
     }
-    let Item::Record(_, _) = advance(image, past) else {
-        return Plan::Stop(false);
+    let Item::Record { .. } = advance(image, past) else {
+        return Plan::Stop { full: false };
     };
     Plan::Leave
 }
 
 // The head's record is live and does not fit.
 pub fn no_room(image: &[u8], place: Place) -> bool
-    requires { ⌜ Headed (now image) place ⌝ }
+    requires { ⌜ Place-of (now image) place ⌝ }
     ensures { λ r. ⌜ (let v = reading-from (now (image .entry)) (place .head) in r ≡ no-room v (v .entries)) ⌝ }
 {
     let p = plan(image, place);
     match p {
-        Plan::Stop(full) => full,
+        Plan::Stop { full } => full,
         _ => false,
     }
 }
 
 // Step (a).
 fn copy(image: &mut [u8], place: Place, plan: Plan, m: Meter) -> Meter
-    requires { ⌜ Headed (now image) place ⌝ }
+    requires { ⌜ Place-of (now image) place ⌝ }
     requires { ⌜ Going (now image) place plan ⌝ }
-    requires { ⌜ m .asked ≤ 2 ^ 31 ⌝ }
+    requires { ⌜ Can-count m (2 ^ 31) ⌝ }
     ensures { λ r. ⌜ (let s = now (image .entry) in Did s m (copying s (place .head)) (now (image .exit)) r) ⌝ }
-    ensures { λ r. ⌜ r .asked ≤ m .asked + (length (now (image .entry)) + 15) ⌝ }
+    ensures { λ r. ⌜ Asked-most m r (length (now (image .entry)) + 15) ⌝ }
     ensures { λ r. ⌜ getD (now (image .exit)) (place .head) 0 ≡ getD (now (image .entry)) (place .head) 0 ⌝ }
 {
     match plan {
-        Plan::Copy(n, d) => copy_head(image, place, n, d, m),
+        Plan::Copy { n, d } => copy_head(image, place, n, d, m),
         _ => m,
     }
 }
@@ -77,16 +81,20 @@ fn copy(image: &mut [u8], place: Place, plan: Plan, m: Meter) -> Meter
 // Steps (b) to (f), of the first two records from the head on; with fewer there is nothing to do.
 fn hand_over(image: &mut [u8], head: usize, m: Meter) -> NewHead
     requires { ⌜ Led (now image) head ⌝ }
-    requires { ⌜ Counts m (2 * length (now image) + 4) ⌝ }
+    requires { ⌜ Can-count m (2 * length (now image) + 4) ⌝ }
     ensures { λ r. ⌜ Handed (now (image .entry)) head m (now (image .exit)) r ⌝ }
 {
-    let Item::Record(x, past) = advance(image, first_cursor(image, head)) else {
+    let Item::Record {
+        spot: x,
+        next: past,
+    } = advance(image, first_cursor(image, head))
+    else {
         return NewHead {
             head: head,
             meter: m,
         };
     };
-    let Item::Record(y, _) = advance(image, past) else {
+    let Item::Record { spot: y, .. } = advance(image, past) else {
         return NewHead {
             head: head,
             meter: m,
@@ -102,9 +110,9 @@ fn hand_over(image: &mut [u8], head: usize, m: Meter) -> NewHead
 
 // The whole move. Y may be X's own copy, so that it is looked for only after the copy is done.
 pub fn move_head(image: &mut [u8], place: Place, plan: Plan, m: Meter) -> NewHead
-    requires { ⌜ Headed (now image) place ⌝ }
+    requires { ⌜ Place-of (now image) place ⌝ }
     requires { ⌜ Going (now image) place plan ⌝ }
-    requires { ⌜ m .asked ≤ 2 ^ 31 ⌝ }
+    requires { ⌜ Can-count m (2 ^ 31) ⌝ }
     ensures { λ r. ⌜ Move-made (now (image .entry)) (place .head) m (now (image .exit)) r ⌝ }
 {
     let a = copy(image, place, plan, m);

@@ -11,28 +11,32 @@ ghost use mathlib.Core.Path.{_≡_};
 ghost use Prim.Native.Nat.{_≤_, _^_, min};
 ghost use Rattle.spec.specs.Chain.{reading-from};
 ghost use Rattle.spec.specs.Sweep.{moves};
+ghost use Rattle.flash.specs.Meters.{Can-count};
 ghost use Rattle.sweeping.specs.Moves.{Moves};
-ghost use Rattle.sweeping.specs.Planned.{Headed};
+ghost use Rattle.sweeping.specs.Planned.{Place-of};
 ghost use Rattle.sweeping.specs.Sweeping.{Move-ended};
 
 // One move, if there is one, and the place that it leaves; a move that was cut leaves none to go on from.
 fn next_move(image: &mut [u8], place: Place, m: Meter) -> MoveEnd
-    requires { ⌜ Headed (now image) place ⌝ }
-    requires { ⌜ m .asked ≤ 2 ^ 31 ⌝ }
+    requires { ⌜ Place-of (now image) place ⌝ }
+    requires { ⌜ Can-count m (2 ^ 31) ⌝ }
     ensures { λ r. ⌜ Move-ended (now (image .entry)) (place .head) m (now (image .exit)) r ⌝ }
 {
     let p = plan(image, place);
-    if let Plan::Stop(_) = p {
+    if let Plan::Stop { .. } = p {
         return MoveEnd::Stuck;
     }
     let r = move_head(image, place, p, m);
     let q = r.meter;
     if q.allowance < q.asked {
-        return MoveEnd::Cut(q);
+        return MoveEnd::Cut { meter: q };
     }
     let s = survey(image, r.head);
     let next = s.place;
-    MoveEnd::Done(next, q)
+    MoveEnd::Done {
+        place: next,
+        meter: q,
+    }
 }
 
 // The moves of a sweep at most.
@@ -49,7 +53,7 @@ fn at_most(n: usize) -> usize
 
 // The sweep of an image with this many records. Only finished moves are counted.
 pub fn sweep(image: &mut [u8], place: Place, records: usize, m: Meter) -> Swept
-    requires { ⌜ Headed (now image) place ⌝ }
+    requires { ⌜ Place-of (now image) place ⌝ }
     requires { ⌜ m .asked ≤ 2 ^ 16 ⌝ }
     ensures { λ r. ⌜ (let s = now (image .entry) in
         Moves s m (moves (min 5 records) s (reading-from s (place .head))) (now (image .exit)) (r .moves) (r .meter)) ⌝ }
@@ -64,10 +68,13 @@ pub fn sweep(image: &mut [u8], place: Place, records: usize, m: Meter) -> Swept
             MoveEnd::Stuck => {
                 return Swept { moves: n, meter: q };
             }
-            MoveEnd::Cut(r) => {
+            MoveEnd::Cut { meter: r } => {
                 return Swept { moves: n, meter: r };
             }
-            MoveEnd::Done(next, r) => {
+            MoveEnd::Done {
+                place: next,
+                meter: r,
+            } => {
                 p = next;
                 q = r;
             }

@@ -1,7 +1,6 @@
 -- The file that a put replaces, as the code has it.
 use Prim.Native.Nat.{ℕ, _+_, _≤_, _<_}
 use mathlib.Core.Path.{_≡_, refl}
-use mathlib.Core.Bool.{Bool, true, false}
 use mathlib.Core.Option.{Option, none, some}
 use mathlib.Core.List.{List, [], _∷_}
 use Rattle.spec.specs.declared.Place.{Place}
@@ -14,6 +13,7 @@ use Rattle.spec.specs.Record.{Entry}
 use Rattle.spec.specs.Write.{status-step, migrate-steps, put-steps}
 use Rattle.writing.specs.declared.Old.{Old}
 use Rattle.writing.specs.declared.Old.the-variants.{None, At}
+use Rattle.laws.specs.Tests.{either}
 
 -- address and status are all that the steps ask of an entry
 abbrev pub old-of : Option Entry → Old
@@ -41,10 +41,8 @@ Lies (At a st) N = a + 2 < N
 -- at most one step
 pub migrate-few : (o : Option Entry) → length (migrate-steps o) ≤ 1
 migrate-few none = omega arith
-migrate-few (some e) = go (is-committed (e .it .status)) where
-  go : (t : Bool) → length {A = Step} (elim t [ true ↦ status-step e 0xF8 ∷ [] | false ↦ [] ]) ≤ 1
-  go true = omega arith
-  go false = omega arith
+migrate-few (some e) =
+    either (λ (ss : List Step). length ss ≤ 1) (is-committed (e .it .status)) (status-step e 0xF8 ∷ []) [] (omega arith) (omega arith)
 
 pub lies-same : (o : Old) (N M : ℕ) → Lies o N → M ≡ N → Lies o M
 lies-same o N M l e = rw e l

@@ -18,21 +18,21 @@ ghost use Prim.Native.Nat.{_+_, _<_};
 ghost use lib.ListN.{length};
 ghost use Rattle.spec.specs.Write.{migrate-steps, delete-steps, put-steps};
 ghost use Rattle.flash.specs.Did.{Did};
-ghost use Rattle.writing.specs.Counts.{Counts};
+ghost use Rattle.flash.specs.Meters.{Can-count};
 ghost use Rattle.writing.specs.Old.{old-entry, Lies};
 ghost use Rattle.writing.specs.Put.{marks, Ready};
 
 // The file that a put replaces: its address and its status, or none.
 pub enum Old {
     None,
-    At(usize, Status),
+    At { at: usize, status: Status },
 }
 
 // What goes before the new record: the old file's status FC to F8, if it is FC; then the marker, if one is needed.
 pub fn prepare(image: &mut [u8], old: Old, tail: usize, marker: bool, m: Meter) -> Meter
     requires { ⌜ Lies old (length (now image)) ⌝ }
     requires { ⌜ (marker ≡ true → tail + 2 < length (now image)) ⌝ }
-    requires { ⌜ Counts m 4 ⌝ }
+    requires { ⌜ Can-count m 4 ⌝ }
     ensures { λ r. ⌜ Did (now (image .entry)) m (migrate-steps (old-entry old) ++ marks marker tail) (now (image .exit)) r ⌝ }
 {
     let a = migrate(image, old, m);
@@ -45,10 +45,10 @@ pub fn prepare(image: &mut [u8], old: Old, tail: usize, marker: bool, m: Meter) 
 // FC to F8: the old file stays readable until it is deleted.
 fn migrate(image: &mut [u8], old: Old, m: Meter) -> Meter
     requires { ⌜ Lies old (length (now image)) ⌝ }
-    requires { ⌜ Counts m 1 ⌝ }
+    requires { ⌜ Can-count m 1 ⌝ }
     ensures { λ r. ⌜ Did (now (image .entry)) m (migrate-steps (old-entry old)) (now (image .exit)) r ⌝ }
 {
-    let Old::At(at, status) = old else {
+    let Old::At { at, status } = old else {
         return m;
     };
     if status.byte == Status::COMMITTED.byte {
@@ -60,10 +60,10 @@ fn migrate(image: &mut [u8], old: Old, m: Meter) -> Meter
 // The old file's status 00.
 pub fn delete(image: &mut [u8], old: Old, m: Meter) -> Meter
     requires { ⌜ Lies old (length (now image)) ⌝ }
-    requires { ⌜ Counts m 1 ⌝ }
+    requires { ⌜ Can-count m 1 ⌝ }
     ensures { λ r. ⌜ Did (now (image .entry)) m (delete-steps (old-entry old)) (now (image .exit)) r ⌝ }
 {
-    let Old::At(at, _) = old else {
+    let Old::At { at, .. } = old else {
         return m;
     };
     set_status(image, at, Status::DELETED, m)
@@ -83,7 +83,7 @@ pub fn write_file(
     ensures { λ r. ⌜ (let steps = put-steps place (old-entry old) (now (name .entry)) (now (content .entry)) in
         Did (now (image .entry)) m steps (now (image .exit)) r) ⌝ }
 {
-    let Placed::At(at, marker, _) = place.after(size(name.len(), content.len())) else {
+    let Placed::At { at, marker, .. } = place.after(size(name.len(), content.len())) else {
         return m;
     };
     let a = prepare(image, old, place.tail, marker, m);

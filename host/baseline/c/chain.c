@@ -1,5 +1,4 @@
 /* "Chain and tail T": what stands at a place of the chain. */
-#include "names.h"
 #include "store.h"
 
 Cursor bl_cursor(size_t n, size_t head)
@@ -51,8 +50,8 @@ static Step record_at(const uint8_t *m, size_t n, Cursor *c, Header h, Record *r
     return A_RECORD;
 }
 
-/* What stands at the cursor, which then goes on behind it; r is changed by a record alone. */
-Step bl_next(const uint8_t *m, size_t n, Cursor *c, Record *r)
+/* As bl_next, whatever stands there. */
+Step bl_next_thing(const uint8_t *m, size_t n, Cursor *c, Record *r)
 {
     for (;;) {
         Header h;

@@ -1,14 +1,17 @@
 /* "Reading an image": the head. */
-#include "names.h"
 #include "store.h"
 
-/* The end of the record that the walk steps over at p; p itself if there is none. */
-static size_t walk_over(const uint8_t *m, size_t n, size_t p, Header h)
+/* The walk steps over a record of this header at p, if it has a name and ends by N. */
+static bool walked(size_t p, Header h)
 {
     unsigned magic = magic_of(h);
+    return status_of(h) != ERASED && (magic == RECORD || (magic == CLEAN && p == 0));
+}
+
+/* The end of the record at p; p itself if it has no name, or ends past N. */
+static size_t walk_over(const uint8_t *m, size_t n, size_t p, Header h)
+{
     size_t length, data;
-    if (status_of(h) == ERASED || !(magic == RECORD || (magic == CLEAN && p == 0)))
-        return p;
     if (!name_end(m, n, p, h, &length))
         return p;
     data = p + size_before_data(length);
@@ -23,7 +26,7 @@ static size_t walk(const uint8_t *m, size_t n)
         Header h = word_at(m, p);
         if (torn(h))
             return p + 8;
-        next = walk_over(m, n, p, h);
+        next = is_plain(h) || walked(p, h) ? walk_over(m, n, p, h) : p;
         if (next == p)
             break;
         p = next;

@@ -65,24 +65,23 @@ static inline bool name_key(const uint8_t *name, size_t length, uint64_t *key)
 }
 
 /*
- * Which keys were seen: five bits for each. One that wasn't is seldom taken for one that was: among 2,048 of them once
- * or not at all, among 256 hardly ever.
+ * Which keys were seen: three bits for each in one word, two in another. One that wasn't is seldom taken for one that was:
+ * among 2,048 of them once or not at all, among 256 hardly ever.
  */
 typedef struct {
     uint64_t bits[512];
 } Seen;
 
+static inline uint64_t bit_of(uint64_t key, int by) { return UINT64_C(1) << (key >> by & 63); }
+
 /* Whether the key was perhaps seen before; from now on it was. */
 static inline bool seen(Seen *s, uint64_t key)
 {
-    uint64_t stride = key >> 32 | 1;
-    bool before = true;
-    int i;
-    for (i = 0; i < 5; i++, key += stride) {
-        uint64_t *word = &s->bits[key >> 6 & 511], bit = UINT64_C(1) << (key & 63);
-        before &= (*word & bit) != 0;
-        *word |= bit;
-    }
+    uint64_t *one = &s->bits[key >> 55], *other = &s->bits[key >> 46 & 511];
+    uint64_t in_one = bit_of(key, 0) | bit_of(key, 6) | bit_of(key, 12), in_other = bit_of(key, 18) | bit_of(key, 24);
+    bool before = (in_one & ~*one) == 0 && (in_other & ~*other) == 0;
+    *one |= in_one;
+    *other |= in_other;
     return before;
 }
 

@@ -1,5 +1,4 @@
 /* The reading of an image: head, chain, names, free run and refusal 5, each read once. */
-#include "names.h"
 #include "store.h"
 
 /* Asks for the file of this name. False: no good name. */

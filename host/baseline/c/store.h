@@ -4,6 +4,7 @@
 
 #include "baseline.h"
 #include "bytes.h"
+#include "names.h"
 
 /* A record of the chain. A torn one has no name and no data, whatever its header says. */
 typedef struct {
@@ -71,7 +72,36 @@ typedef struct {
 typedef enum { A_RECORD, THE_TAIL, A_TORN_WRAP, A_BREACH } Step;
 
 Cursor bl_cursor(size_t n, size_t head);
-Step bl_next(const uint8_t *m, size_t n, Cursor *c, Record *r);
+Step bl_next_thing(const uint8_t *m, size_t n, Cursor *c, Record *r);
+
+/* A plain record at the cursor, if it ends in time. */
+static inline Step next_plain(const uint8_t *m, size_t n, Cursor *c, Header h, Record *r)
+{
+    size_t room = c->end - c->at, name_length, before;
+    if (!name_end(m, n, c->at, h, &name_length))
+        return A_BREACH;
+    before = size_before_data(name_length);
+    if (before > room || data_length_of(h) > room - before)
+        return A_BREACH;
+    r->at = c->at;
+    r->size = before + up8(data_length_of(h));
+    r->name_length = name_length;
+    r->header = h;
+    r->turned = c->turned;
+    c->at += r->size;
+    return A_RECORD;
+}
+
+/* What stands at the cursor, which then goes on behind it; r is changed by a record alone. */
+static inline Step bl_next(const uint8_t *m, size_t n, Cursor *c, Record *r)
+{
+    if (c->at != c->end && !c->held) {
+        Header h = word_at(m, c->at);
+        if (is_plain(h))
+            return next_plain(m, n, c, h, r);
+    }
+    return bl_next_thing(m, n, c, r);
+}
 
 /* reading.c: one reading of the whole image, which also finds the file that is asked for */
 

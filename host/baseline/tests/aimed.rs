@@ -2,7 +2,7 @@
 use baseline::functions;
 use model::{floor, read_image, SECTOR};
 use std::collections::BTreeSet;
-use testing::aimed::{tight, write_record};
+use testing::aimed::{chain_of, tight, write_record};
 use testing::c_calls::Library;
 use testing::call::{Call, Store};
 use testing::rng::Rng;
@@ -52,32 +52,6 @@ fn different_names(r: &mut Rng, count: usize) -> Vec<Vec<u8>> {
         names.swap(i, r.below(i as u64 + 1) as usize);
     }
     names
-}
-
-/// A chain of these files, FC and F8, with dead records between; from 0 or across the turn. Gives the image, or none if
-/// it is too short.
-fn chain_of(r: &mut Rng, n: usize, files: &[(Vec<u8>, u8)]) -> Option<Vec<u8>> {
-    let mut img = vec![0xFF; n];
-    let head = r.of(&[0, 16, floor(n as u64 / 2), floor(n as u64 / 2) + 40, n as u64 - SECTOR]);
-    let mut at = write_record(&mut img, head, [0x00, 0x5A, 0x00], b"", b"");
-    let mut end = n as u64;
-    for (name, status) in files {
-        let dead = r.chance(10);
-        let (name, status) = if dead { (&b"dead"[..], 0x00) } else { (&name[..], *status) };
-        let data = vec![0x11; r.below(20) as usize];
-        let size = model::size_of(name.len() as u64, data.len() as u64);
-        if at + size > end {
-            if end < n as u64 || size > floor(head) {
-                return None;
-            }
-            if at < end {
-                img[at as usize..at as usize + 3].copy_from_slice(&[0xFA, 0x5A, 0xF0]);
-            }
-            (at, end) = (0, floor(head));
-        }
-        at = write_record(&mut img, at, [0xA5, 0x5A, status], name, &data);
-    }
-    Some(img)
 }
 
 /// Many files: none doubled, and a few names doubled with any two statuses.

@@ -37,7 +37,7 @@ pub fn settled(n: usize, files: usize, fill: Fill) -> Option<Vec<u8>> {
     }?;
     let mut left = img.clone();
     let reply = model::mount(&mut left, 0);
-    assert_eq!((reply.answer, reply.third), (0, files as u64), "the image is settled");
+    assert_eq!((reply.answer, reply.report.files), (0, files as u64), "the image is settled");
     let chain = read_image(&img).expect("it is settled");
     put_room(&img, &chain, &name(files - 1), CONTENT.len() as u64).map(|_| img)
 }

@@ -11,6 +11,8 @@ pub struct Effort {
     pub runs: usize,
     /// a run repeats its call until it took so many seconds
     pub seconds: f64,
+    /// a run makes one call, after other bytes took the caches
+    pub cold: bool,
 }
 
 /// A median, with the least and the most.
@@ -39,7 +41,7 @@ pub struct Times {
 }
 
 /// Seconds of this thread on the processor: what other programs take doesn't count.
-fn now() -> f64 {
+pub fn now() -> f64 {
     #[repr(C)]
     struct Timespec {
         seconds: i64,
@@ -94,11 +96,26 @@ impl Undo<'_> {
     }
 }
 
+/// Bytes that take the caches: twice the largest.
+struct Others(Vec<u8>);
+
+impl Others {
+    const BYTES: usize = 64 << 20;
+
+    /// Each line is written.
+    fn take_caches(&mut self) {
+        self.0.chunks_mut(64).for_each(|line| line[0] = line[0].wrapping_add(1));
+        black_box(&self.0);
+    }
+}
+
 /// A case and the copies of its image that it is measured on.
 struct Bench<'a> {
     case: &'a Case,
     undo: Undo<'a>,
     copies: Vec<Vec<u8>>,
+    /// if the caches are to be cold
+    others: Option<Others>,
 }
 
 /// Short calls are timed several at once, each on a copy of the image, so that they take at least so many seconds.
@@ -109,13 +126,17 @@ const MOST_BYTES: usize = 64 << 20;
 
 impl Bench<'_> {
     /// Both are right: they do what the model does. The faster one says how many copies there are.
-    fn new<'a>(library: &Library, baseline: &Library, case: &'a Case) -> Bench<'a> {
+    fn new<'a>(library: &Library, baseline: &Library, case: &'a Case, cold: bool) -> Bench<'a> {
         let mut after = case.img.clone();
         let reply = case.call.run(&mut after);
         for store in [library, baseline] {
             agrees(store, case, &reply, &after);
         }
-        let mut bench = Bench { case, undo: Undo::new(&case.img, &after), copies: vec![case.img.clone()] };
+        let others = cold.then(|| Others(vec![0; Others::BYTES]));
+        let mut bench = Bench { case, undo: Undo::new(&case.img, &after), copies: vec![case.img.clone()], others };
+        if cold {
+            return bench;
+        }
         let once = bench.run(baseline, 0.0001);
         let copies = (AT_ONCE / once) as usize;
         let most = MOST_COPIES.min(MOST_BYTES / case.img.len());
@@ -124,6 +145,10 @@ impl Bench<'_> {
     }
 
     fn run(&mut self, store: &Library, seconds: f64) -> f64 {
+        if let Some(others) = &mut self.others {
+            others.take_caches();
+            return (self.call_each(store) - clock()).max(0.0);
+        }
         if self.undo.stretches.is_empty() {
             self.run_reading(store, seconds)
         } else {
@@ -162,7 +187,9 @@ impl Bench<'_> {
         took
     }
 
-    fn scan(&self, seconds: f64) -> f64 {
+    fn scan(&mut self, seconds: f64) -> f64 {
+        let seconds = if self.others.is_some() { 0.0 } else { seconds };
+        self.others.iter_mut().for_each(Others::take_caches);
         let img = &self.copies[0];
         repeated(seconds, || {
             black_box(baseline::scan(black_box(img)));
@@ -192,15 +219,15 @@ fn agrees(store: &Library, case: &Case, reply: &Reply, after: &[u8]) {
     assert!(img == after, "{}: another image", case.call.kind());
 }
 
-/// The times; the three take turns, so that they share what else the machine does.
+/// The times; the three take turns, so that they share what else the machine does. Library and C go first by turns.
 pub fn times(library: &Library, baseline: &Library, case: &Case, effort: Effort) -> Times {
-    let mut bench = Bench::new(library, baseline, case);
+    let mut bench = Bench::new(library, baseline, case, effort.cold);
     let mut turns: Vec<(f64, f64, f64)> = Vec::new();
-    for _ in 0..=effort.runs {
-        let ours = bench.run(library, effort.seconds);
-        let plain = bench.run(baseline, effort.seconds);
-        let scan = bench.scan(effort.seconds);
-        turns.push((ours, plain, scan));
+    for turn in 0..=effort.runs {
+        let stores = if turn % 2 == 0 { [library, baseline] } else { [baseline, library] };
+        let mut both = stores.map(|store| bench.run(store, effort.seconds));
+        both.rotate_left(turn % 2);
+        turns.push((both[0], both[1], bench.scan(effort.seconds)));
     }
     // the first turn warmed the buffers up and doesn't count
     let turns = &turns[1..];

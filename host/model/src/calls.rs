@@ -5,15 +5,38 @@ use crate::geometry::*;
 use crate::plan::{planned, Ask, Plan};
 use crate::rules::read_settled;
 
-/// What a call answers. Mount: h, T, live files. Sweep: finished moves. Get: the
-/// file's offset and length. List: the name's offset and length, the file's
-/// length. All else is zero.
+/// What mount reports of the image it leaves: h, T, the count of live files.
+#[derive(Clone, Copy, PartialEq, Eq, Debug, Default)]
+pub struct Report {
+    pub head: u64,
+    pub tail: u64,
+    pub files: u64,
+}
+
+/// A stretch of the image.
+#[derive(Clone, Copy, PartialEq, Eq, Debug, Default)]
+pub struct Extent {
+    pub offset: u64,
+    pub length: u64,
+}
+
+impl Extent {
+    /// Its bytes.
+    pub fn of<'a>(&self, img: &'a [u8]) -> &'a [u8] {
+        &img[self.offset as usize..(self.offset + self.length) as usize]
+    }
+}
+
+/// What a call answers: mount its report, sweep its finished moves, get where the
+/// content stands, list where the name stands and the content's length. All else
+/// is zero.
 #[derive(Clone, Copy, PartialEq, Eq, Debug, Default)]
 pub struct Reply {
     pub answer: u32,
-    pub first: u64,
-    pub second: u64,
-    pub third: u64,
+    pub report: Report,
+    pub moves: u64,
+    pub extent: Extent,
+    pub size: u64,
     pub steps: u64,
 }
 
@@ -56,7 +79,7 @@ fn carried(img: &mut [u8], plan: Plan, allowance: u64) -> Reply {
     let steps = carry_out(img, &plan.steps, allowance);
     let finished = plan.ends.iter().filter(|&&e| e <= steps).count() as u64;
     if steps < plan.steps.len() as u64 {
-        Reply { first: finished, steps, ..Reply::refusal(4) }
+        Reply { moves: finished, steps, ..Reply::refusal(4) }
     } else {
         Reply { steps, ..plan.done }
     }
@@ -81,7 +104,10 @@ pub fn put(img: &mut [u8], name: &[u8], data: &[u8], allowance: u64) -> Reply {
 
 /// "there get gives offset and length"
 pub fn get(img: &[u8], name: &[u8]) -> Reply {
-    told(read_file(img, name).map(|r| Reply { first: r.data_at, second: r.data_len, ..Reply::default() }))
+    told(read_file(img, name).map(|r| {
+        let extent = Extent { offset: r.data_at, length: r.data_len };
+        Reply { extent, ..Reply::default() }
+    }))
 }
 
 /// "List by index (chain order) gives name part and length." 2: "index ≥ files".
@@ -89,7 +115,8 @@ pub fn list(img: &[u8], index: u64) -> Reply {
     told(read(img, None).and_then(|c| {
         let index = usize::try_from(index).map_err(|_| 2u32)?;
         let r = c.live().nth(index).ok_or(2u32)?;
-        Ok(Reply { first: r.at + 8, second: r.name_len, third: r.data_len, ..Reply::default() })
+        let extent = Extent { offset: r.at + 8, length: r.name_len };
+        Ok(Reply { extent, size: r.data_len, ..Reply::default() })
     }))
 }
 

@@ -1,6 +1,6 @@
 //! Wrong models, one error at a time, to show that the testers notice them: those of
-//! document 01's "Errors that look right", K14's clauses, each left out or turned, and
-//! K6's room rule with a part left out.
+//! document 01's "Errors that look right", K14's clauses, each left out or turned, K6's
+//! room rule with a part left out, and names told apart by K2's table alone.
 //! None is seeded by default.
 use std::cell::Cell;
 
@@ -64,6 +64,8 @@ pub enum Fault {
     OthersNotCounted,
     /// K6: the new record is never counted in the head's sector.
     NewNotCounted,
+    /// K2: a name whose bits are all set in the table of names counts as doubled.
+    BitsTakenForName,
     /// K14: a cut reaches inside the program step behind an undone erase. No fault of a
     /// library: the other reading of "its next program step".
     CutPastErase,
@@ -71,7 +73,7 @@ pub enum Fault {
 
 impl Fault {
     /// The faults that a library can have.
-    pub const ALL: [Fault; 29] = [
+    pub const ALL: [Fault; 30] = [
         Fault::NotCleaned,
         Fault::CleanedLate,
         Fault::StartBeforeErase,
@@ -101,6 +103,7 @@ impl Fault {
         Fault::RoomAsIn01,
         Fault::OthersNotCounted,
         Fault::NewNotCounted,
+        Fault::BitsTakenForName,
     ];
 }
 

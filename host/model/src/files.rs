@@ -1,5 +1,7 @@
 //! Live files: which records are files, and how they are found.
+use crate::bits;
 use crate::chain::{Chain, Record};
+use crate::faults::{self, Fault};
 use crate::geometry::*;
 
 impl Record {
@@ -30,6 +32,9 @@ impl Chain {
 /// Sorted by name, so that images with many records are read quickly.
 pub fn judge(img: &[u8], c: &mut Chain) -> bool {
     let mut files: Vec<usize> = (0..c.records.len()).filter(|&i| c.records[i].may_be_file()).collect();
+    if faults::seeded(Fault::BitsTakenForName) && bits::colliding(files.iter().map(|&i| c.records[i].name(img))) > 0 {
+        return false;
+    }
     // of one name, FC before F8
     files.sort_by_key(|&i| (c.records[i].name(img), u8::MAX - c.records[i].status));
     for k in 0..files.len() {

@@ -10,6 +10,7 @@
 //! speed: a call works its step list out on a copy of the image, and the list
 //! is then carried out as far as the allowance goes.
 
+pub mod bits;
 pub mod calls;
 pub mod chain;
 pub mod faults;
@@ -26,7 +27,7 @@ pub mod sweep;
 pub mod torn;
 pub mod write;
 
-pub use calls::{format, get, list, mount, put, remove, sweep, Reply};
+pub use calls::{format, get, list, mount, put, remove, sweep, Extent, Reply, Report};
 pub use chain::{read_chain, Chain, Record};
 pub use flash::{carry_out, cut_inside, Step};
 pub use geometry::*;

@@ -1,5 +1,5 @@
 //! What a writing call would do, before its first step.
-use crate::calls::{accepted, read, read_file, Reply};
+use crate::calls::{accepted, read, read_file, Reply, Report};
 use crate::flash::Step;
 use crate::geometry::DELETED;
 use crate::place::put_room;
@@ -49,7 +49,8 @@ pub fn planned(img: &[u8], ask: Ask) -> Result<Plan, u32> {
 fn plan_mount(img: &[u8]) -> Result<Plan, u32> {
     accepted(img, None)?;
     let (steps, c) = mount_steps(img)?;
-    let done = Reply { first: c.head, second: c.tail, third: c.live_count(), ..Reply::default() };
+    let report = Report { head: c.head, tail: c.tail, files: c.live_count() };
+    let done = Reply { report, ..Reply::default() };
     Ok(Plan { done, ..Plan::of(steps) })
 }
 
@@ -64,6 +65,6 @@ fn plan_put(img: &[u8], name: &[u8], data: &[u8]) -> Result<Plan, u32> {
 /// "Sweep's success gives finished moves and steps". 28: "no move made, for want of room".
 fn plan_sweep(img: &[u8]) -> Result<Plan, u32> {
     let sweep = sweep_steps(img, read(img, None)?).ok_or(28u32)?;
-    let done = Reply { first: sweep.ends.len() as u64, ..Reply::default() };
+    let done = Reply { moves: sweep.ends.len() as u64, ..Reply::default() };
     Ok(Plan { done, ends: sweep.ends, ..Plan::of(sweep.steps) })
 }

@@ -45,7 +45,18 @@ fn dose() -> Vec<u8> {
 }
 
 fn mounts(img: &mut [u8], h: u64, t: u64, files: u64, steps: u64) {
-    assert_eq!(mount(img, ALL), Reply { answer: 0, first: h, second: t, third: files, steps });
+    let report = Report { head: h, tail: t, files };
+    assert_eq!(mount(img, ALL), Reply { report, steps, ..Reply::default() });
+}
+
+fn gives(img: &[u8], name: &[u8], offset: u64, length: u64) {
+    let extent = Extent { offset, length };
+    assert_eq!(get(img, name), Reply { extent, ..Reply::default() });
+}
+
+fn lists(img: &[u8], index: u64, offset: u64, length: u64, size: u64) {
+    let extent = Extent { offset, length };
+    assert_eq!(list(img, index), Reply { extent, size, ..Reply::default() });
 }
 
 /// "At 16" after a put of "dose" to a fresh image was cut at k and mounted.
@@ -191,14 +202,14 @@ fn replacing() {
     assert_eq!(img, image(&[&FIRST, &old(0xF8), &edited(&second, &[(2, 0xFE)])]));
     mounts(&mut img, 0, 64, 1, 2);
     assert_eq!(img, image(&[&FIRST, &old(0xF8), &edited(&second, &[(2, 0x00)])]));
-    assert_eq!(get(&img, b"dose"), Reply { first: 32, second: 3, ..Reply::default() });
+    gives(&img, b"dose", 32, 3);
     // the first with the new one: "mount takes 1"
     let mut img = dose();
     put_dose(&mut img, &[4, 5, 6], 18, 4, 18);
     assert_eq!(img, image(&[&FIRST, &old(0xF8), &second]));
     mounts(&mut img, 0, 64, 1, 1);
     assert_eq!(img, image(&[&FIRST, &old(0x00), &second]));
-    assert_eq!(get(&img, b"dose"), Reply { first: 56, second: 3, ..Reply::default() });
+    gives(&img, b"dose", 56, 3);
 }
 
 #[test]
@@ -219,7 +230,7 @@ fn sweep_after_the_first_put() {
     for (data, cleaned, steps) in [([1, 2, 3], [1, 2, 3], 27), ([0x00, 0x5A, 3], [0x00, 0x00, 3], 28)] {
         let mut img = fresh();
         put_dose(&mut img, &data, ALL, 0, 17);
-        assert_eq!(sweep(&mut img, ALL), Reply { first: 2, steps, ..Reply::default() });
+        assert_eq!(sweep(&mut img, ALL), Reply { moves: 2, steps, ..Reply::default() });
         let first = edited(&FIRST, &[(1, 0x00)]);
         let old = edited(&DOSE, &[(0, 0x00), (1, 0x00), (2, 0x00), (16, cleaned[0]), (17, cleaned[1])]);
         let copy = edited(&DOSE, &[(0, 0x00), (16, data[0]), (17, data[1])]);
@@ -241,10 +252,10 @@ fn names_and_empty_content() {
     assert_eq!(img, before);
     assert_eq!(put(&mut img, b"e", b"", ALL), Reply { steps: 1 + 10, ..Reply::default() });
     // the first at 16, with 8 + 64 + 8 bytes; the second at 96
-    assert_eq!(get(&img, &[b'x'; 63]), Reply { first: 88, second: 1, ..Reply::default() });
-    assert_eq!(get(&img, b"e"), Reply { first: 112, second: 0, ..Reply::default() });
-    assert_eq!(list(&img, 0), Reply { first: 24, second: 63, third: 1, ..Reply::default() });
-    assert_eq!(list(&img, 1), Reply { first: 104, second: 1, third: 0, ..Reply::default() });
+    gives(&img, &[b'x'; 63], 88, 1);
+    gives(&img, b"e", 112, 0);
+    lists(&img, 0, 24, 63, 1);
+    lists(&img, 1, 104, 1, 0);
     assert_eq!(list(&img, 2), Reply::refusal(2));
     // "Remove: status 00, one step"
     assert_eq!(remove(&mut img, b"e", 0), Reply::refusal(4));

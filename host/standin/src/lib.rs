@@ -70,9 +70,9 @@ pub unsafe extern "C" fn lilota_mount(
     steps: *mut usize,
 ) -> u32 {
     let reply = run(|| model::mount(slice_mut(image, length), allowance as u64));
-    *head = reply.first as usize;
-    *tail = reply.second as usize;
-    *files = reply.third as usize;
+    *head = reply.report.head as usize;
+    *tail = reply.report.tail as usize;
+    *files = reply.report.files as usize;
     *steps = reply.steps as usize;
     reply.answer
 }
@@ -108,8 +108,8 @@ pub unsafe extern "C" fn lilota_get(
     size: *mut usize,
 ) -> u32 {
     let reply = run(|| model::get(slice(image, length), slice(name, name_length)));
-    *offset = reply.first as usize;
-    *size = reply.second as usize;
+    *offset = reply.extent.offset as usize;
+    *size = reply.extent.length as usize;
     reply.answer
 }
 
@@ -125,9 +125,9 @@ pub unsafe extern "C" fn lilota_list(
     size: *mut usize,
 ) -> u32 {
     let reply = run(|| model::list(slice(image, length), index as u64));
-    *name_offset = reply.first as usize;
-    *name_length = reply.second as usize;
-    *size = reply.third as usize;
+    *name_offset = reply.extent.offset as usize;
+    *name_length = reply.extent.length as usize;
+    *size = reply.size as usize;
     reply.answer
 }
 
@@ -158,7 +158,7 @@ pub unsafe extern "C" fn lilota_sweep(
     steps: *mut usize,
 ) -> u32 {
     let reply = run(|| model::sweep(slice_mut(image, length), allowance as u64));
-    *moves = reply.first as usize;
+    *moves = reply.moves as usize;
     *steps = reply.steps as usize;
     reply.answer
 }

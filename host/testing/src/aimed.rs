@@ -35,6 +35,36 @@ pub fn write_record(img: &mut [u8], at: u64, first: [u8; 3], name: &[u8], data: 
     end as u64
 }
 
+/// A chain of these files, names and statuses, with dead records of their names between; from 0 or across the turn. Gives
+/// the image, or none if it is too short.
+pub fn chain_of(r: &mut Rng, n: usize, files: &[(Vec<u8>, u8)]) -> Option<Vec<u8>> {
+    let mut records: Vec<(&[u8], u8)> = Vec::new();
+    for (name, status) in files {
+        let dead = r.chance(10).then_some(DELETED);
+        records.extend(dead.into_iter().chain([*status]).map(|status| (&name[..], status)));
+    }
+    let mut img = vec![0xFF; n];
+    let head = r.of(&[0, 16, floor(n as u64 / 2), floor(n as u64 / 2) + 40, n as u64 - SECTOR]);
+    let mut at = write_record(&mut img, head, [0x00, 0x5A, 0x00], b"", b"");
+    let mut end = n as u64;
+    for (name, status) in records {
+        let data = vec![0x11; r.below(20) as usize];
+        let size = size_of(name.len() as u64, data.len() as u64);
+        if at + size > end {
+            if end < n as u64 || size > floor(head) {
+                return None;
+            }
+            // a marker, unless the chain is at N
+            if let Some(marker) = img.get_mut(at as usize..at as usize + 3) {
+                marker.copy_from_slice(&[0xFA, 0x5A, 0xF0]);
+            }
+            (at, end) = (0, floor(head));
+        }
+        at = write_record(&mut img, at, [0xA5, 0x5A, status], name, &data);
+    }
+    Some(img)
+}
+
 /// A record that ends at `end` or a few bytes before it.
 fn fill_up(r: &mut Rng, img: &mut [u8], at: u64, end: u64, name: &[u8]) -> u64 {
     let gap = r.of(&[0, 8, 16, 24, 32, 40, 64]);

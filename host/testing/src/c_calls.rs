@@ -1,7 +1,7 @@
 //! The seven calls as C functions: the signatures of include/lilota.h, and a
 //! store that calls them.
 use crate::call::{Call, Store};
-use model::Reply;
+use model::{Extent, Reply, Report};
 use std::cell::Cell;
 use std::ptr;
 
@@ -52,38 +52,30 @@ impl Library {
         }
     }
 
-    /// The library's answer with the numbers that it gave back, in the order of
-    /// `Reply`.
+    /// The library's answer with the numbers that it gave back.
     pub fn lend(&self, img: &mut [u8], call: &Call) -> Reply {
         let f = &self.functions;
         let at = if self.goes_as_null(img) { ptr::null_mut() } else { img.as_mut_ptr() };
         let n = img.len();
-        let mut out = [UNWRITTEN; 4];
-        let [a, b, c, steps] = &mut out;
+        let mut out = Numbers::UNWRITTEN;
+        let Numbers { head, tail, files, moves, offset, length, size, steps } = &mut out;
         // Safety: each pointer comes with the length of the slice that it is of,
-        // or is null with length 0; the numbers are four different ones.
+        // or is null with length 0; the numbers are different ones.
         let answer = unsafe {
             match call {
                 Call::Format(k) => (f.format)(at, n, *k as usize, steps),
-                Call::Mount(k) => (f.mount)(at, n, *k as usize, a, b, c, steps),
+                Call::Mount(k) => (f.mount)(at, n, *k as usize, head, tail, files, steps),
                 Call::Put(name, data, k) => {
                     let (name_at, data_at) = (self.pointer(name), self.pointer(data));
                     (f.put)(at, n, name_at, name.len(), data_at, data.len(), *k as usize, steps)
                 }
-                Call::Get(name) => (f.get)(at, n, self.pointer(name), name.len(), a, b),
-                Call::List(index) => (f.list)(at, n, *index as usize, a, b, c),
+                Call::Get(name) => (f.get)(at, n, self.pointer(name), name.len(), offset, length),
+                Call::List(index) => (f.list)(at, n, *index as usize, offset, length, size),
                 Call::Remove(name, k) => (f.remove)(at, n, self.pointer(name), name.len(), *k as usize, steps),
-                Call::Sweep(k) => (f.sweep)(at, n, *k as usize, a, steps),
+                Call::Sweep(k) => (f.sweep)(at, n, *k as usize, moves, steps),
             }
         };
-        // the numbers that this call doesn't take stay; in a reply they are 0
-        for (value, given) in out.iter_mut().zip(given(call)) {
-            if !given {
-                *value = 0;
-            }
-        }
-        let [first, second, third, steps] = out.map(|x| x as u64);
-        Reply { answer, first, second, third, steps }
+        out.reply(call, answer)
     }
 
     /// `lend`, with guards around the image.
@@ -99,14 +91,43 @@ impl Library {
     }
 }
 
-/// Which of a reply's numbers the call gives back.
-fn given(call: &Call) -> [bool; 4] {
-    match call {
-        Call::Format(_) | Call::Put(..) | Call::Remove(..) => [false, false, false, true],
-        Call::Mount(_) => [true; 4],
-        Call::Get(_) => [true, true, false, false],
-        Call::List(_) => [true, true, true, false],
-        Call::Sweep(_) => [true, false, false, true],
+/// The numbers that the calls give back, each call its own.
+struct Numbers {
+    head: usize,
+    tail: usize,
+    files: usize,
+    moves: usize,
+    offset: usize,
+    length: usize,
+    size: usize,
+    steps: usize,
+}
+
+impl Numbers {
+    const UNWRITTEN: Numbers = Numbers {
+        head: UNWRITTEN,
+        tail: UNWRITTEN,
+        files: UNWRITTEN,
+        moves: UNWRITTEN,
+        offset: UNWRITTEN,
+        length: UNWRITTEN,
+        size: UNWRITTEN,
+        steps: UNWRITTEN,
+    };
+
+    /// Those that this call gives back; the others are 0.
+    fn reply(&self, call: &Call, answer: u32) -> Reply {
+        let report = Report { head: self.head as u64, tail: self.tail as u64, files: self.files as u64 };
+        let extent = Extent { offset: self.offset as u64, length: self.length as u64 };
+        let (moves, size, steps) = (self.moves as u64, self.size as u64, self.steps as u64);
+        let zeros = Reply::refusal(answer);
+        match call {
+            Call::Format(_) | Call::Put(..) | Call::Remove(..) => Reply { steps, ..zeros },
+            Call::Mount(_) => Reply { report, steps, ..zeros },
+            Call::Get(_) => Reply { extent, ..zeros },
+            Call::List(_) => Reply { extent, size, ..zeros },
+            Call::Sweep(_) => Reply { moves, steps, ..zeros },
+        }
     }
 }
 

@@ -1,5 +1,6 @@
 //! Random histories, checked after every call.
 use crate::call::{allowances, few_allowances, Call, Store};
+use crate::colliding::Collisions;
 use crate::cut::{self, Made};
 use crate::facts::Facts;
 use crate::ledger::{replay, shrink, World};
@@ -7,7 +8,7 @@ use crate::maker::Maker;
 use crate::progress::Progress;
 use crate::rng::Rng;
 use crate::tags;
-use model::{blank, floor, read_image, SECTOR};
+use model::{bits, blank, floor, read_image, SECTOR};
 use std::collections::BTreeMap;
 
 /// A history with its first violation.
@@ -50,6 +51,8 @@ pub struct Seen {
     pub inside: BTreeMap<&'static str, u64>,
     /// images by the bytes that such a cut leaves (testing::tags)
     pub bytes: BTreeMap<&'static str, u64>,
+    /// images by how many of their names collide
+    pub collisions: Collisions,
     pub facts: Facts,
     /// puts, each followed by its sweeps
     pub progress: Progress,
@@ -60,6 +63,7 @@ impl Seen {
         self.checked += 1;
         self.facts.look(img);
         let Ok(c) = read_image(img) else { return };
+        self.collisions.note(bits::colliding(c.live().map(|x| x.name(img))));
         for tag in tags::of_bytes(img, &c) {
             *self.bytes.entry(tag).or_default() += 1;
         }

@@ -146,10 +146,11 @@ impl World {
             return Err(format!("mount answers {}", reply.answer));
         }
         bounds::check(&self.img, &Call::Mount(ALL), None, &reply)?;
-        if reply.third != self.ledger.files.len() as u64 {
-            return Err(format!("mount counts {} files, the ledger {}", reply.third, self.ledger.files.len()));
+        let count = reply.report.files;
+        if count != self.ledger.files.len() as u64 {
+            return Err(format!("mount counts {count} files, the ledger {}", self.ledger.files.len()));
         }
-        self.check_list(store, &mut m, reply.third)?;
+        self.check_list(store, &mut m, count)?;
         self.check_get(store, &mut m)?;
         // a second mount has nothing to do and answers alike
         let again = store.call(&mut m.clone(), &Call::Mount(0))?;
@@ -168,9 +169,9 @@ impl World {
             if l.answer != 0 {
                 return Err(format!("list {i} answers {}", l.answer));
             }
-            let name = m[l.first as usize..(l.first + l.second) as usize].to_vec();
-            if self.ledger.content(&name).map(|c| c.len() as u64) != Some(l.third) {
-                return Err(format!("list {i}: {name:?} of length {}", l.third));
+            let name = l.extent.of(m).to_vec();
+            if self.ledger.content(&name).map(|c| c.len() as u64) != Some(l.size) {
+                return Err(format!("list {i}: {name:?} of length {}", l.size));
             }
             if !seen.insert(name) {
                 return Err(format!("list {i}: a name again"));
@@ -187,7 +188,7 @@ impl World {
     fn check_get(&self, store: &impl Store, m: &mut [u8]) -> Result<(), String> {
         for (name, content) in &self.ledger.files {
             let g = store.call(m, &Call::Get(name.clone()))?;
-            if g.answer != 0 || &m[g.first as usize..(g.first + g.second) as usize] != content.as_slice() {
+            if g.answer != 0 || g.extent.of(m) != content.as_slice() {
                 return Err(format!("get {name:?} is wrong (answer {})", g.answer));
             }
         }

@@ -7,6 +7,7 @@ pub mod bounds;
 pub mod c_calls;
 pub mod call;
 pub mod cc;
+pub mod colliding;
 pub mod compare;
 pub mod cut;
 pub mod facts;

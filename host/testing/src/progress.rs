@@ -68,7 +68,7 @@ pub fn gets_past(store: &impl Store, img: &[u8]) -> Result<(u64, u64), String> {
         if reply.answer != 0 {
             return Err(format!("{r} records to pass: sweep {i} answers {}", reply.answer));
         }
-        moves += reply.first;
+        moves += reply.moves;
     }
     if moves < r {
         return Err(format!("{r} records to pass: {sweeps} sweeps make {moves} moves"));

@@ -57,6 +57,7 @@ fn of_image(img: &[u8], t: &mut Vec<&'static str>) {
         ("live head", first.live),
         ("wear record", c.records.iter().any(|r| r.status == WEAR)),
         ("reserved after the turn", last.status == RESERVED && last.turned),
+        ("colliding names", bits::colliding(c.live().map(|x| x.name(img))) > 0),
     ];
     add(t, &found);
     t.extend(of_bytes(img, &c));
@@ -176,8 +177,8 @@ pub fn of(img: &[u8], call: &Call, reply: &Reply, after: &[u8]) -> Vec<&'static 
             let sectors = img.chunks(SECTOR as usize).zip(after.chunks(SECTOR as usize));
             let erased: Vec<bool> = sectors.map(|(before, after)| !all_ff(before) && all_ff(after)).collect();
             let found = [
-                ("several moves", reply.first >= 2),
-                ("five moves", reply.first == 5),
+                ("several moves", reply.moves >= 2),
+                ("five moves", reply.moves == 5),
                 ("sweep erases", erased.contains(&true)),
                 ("sweep erases several", erased.iter().filter(|&&e| e).count() >= 2),
                 ("sweep erases to N", erased.last() == Some(&true)),

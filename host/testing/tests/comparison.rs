@@ -13,7 +13,7 @@ fn compared(store: &impl Store, images: u64) -> Tally {
 }
 
 /// Places that random images come to seldom (testing::tags).
-const PLACES: [&str; 21] = [
+const PLACES: [&str; 22] = [
     "T = N",
     "T = 0 after the turn",
     "T = floor(h)",
@@ -35,6 +35,7 @@ const PLACES: [&str; 21] = [
     "put replaces F8",
     "sweep erases several",
     "sweep erases to N",
+    "colliding names",
 ];
 
 #[test]
@@ -74,7 +75,7 @@ fn wrong_step_count(_: &Call, reply: &mut Reply, _: &mut [u8]) {
 }
 
 fn number_after_refusal(_: &Call, reply: &mut Reply, _: &mut [u8]) {
-    reply.second = if reply.answer == 6 { 1 } else { reply.second };
+    reply.report.tail += (reply.answer == 6) as u64;
 }
 
 fn byte_after_refusal(_: &Call, reply: &mut Reply, img: &mut [u8]) {
@@ -85,8 +86,8 @@ fn byte_after_refusal(_: &Call, reply: &mut Reply, img: &mut [u8]) {
 
 fn tail_of_the_image_before(call: &Call, reply: &mut Reply, img: &mut [u8]) {
     // N where the chain has turned at N (decision 6)
-    if matches!(call, Call::Mount(_)) && reply.answer == 0 && reply.second == 0 {
-        reply.second = img.len() as u64;
+    if matches!(call, Call::Mount(_)) && reply.answer == 0 && reply.report.tail == 0 {
+        reply.report.tail = img.len() as u64;
     }
 }
 

@@ -3,6 +3,7 @@ use model::faults::{self, Fault};
 use model::{Step, COMMITTED};
 use std::panic::{catch_unwind, AssertUnwindSafe};
 use testing::call::{formatted, Call, Model};
+use testing::colliding::Kind;
 use testing::history::{Seen, Tester, LONGEST};
 use testing::ledger::commit_place;
 use testing::maker::{Contents, Lengths, Maker};
@@ -53,6 +54,11 @@ fn mixed(r: &mut Rng) -> Maker {
     }
 }
 
+/// Names that collide in the library's table.
+fn colliding_names(r: &mut Rng) -> Maker {
+    Maker { names: Kind::Covered.names(r, 5), ..any_maker(r) }
+}
+
 /// The histories that come soonest to the place where this fault matters. Records in old
 /// data matter at the first turn of the store, before records begin where sectors do.
 fn histories_for(fault: Fault) -> (fn(&mut Rng) -> Maker, u64) {
@@ -61,6 +67,7 @@ fn histories_for(fault: Fault) -> (fn(&mut Rng) -> Maker, u64) {
         Fault::NameEndAtOnce | Fault::NameEndsAtFfOnly => (long_names, LONGEST),
         Fault::MarkerOpenAtFfOnly => (markers, LONGEST),
         Fault::CutPastErase => (erases, LONGEST),
+        Fault::BitsTakenForName => (colliding_names, LONGEST),
         _ => (any_maker, LONGEST),
     }
 }

@@ -1,7 +1,7 @@
 //! K6 on the model: the store that got stuck under 01's rule, the promise under K6's,
 //! and wrong rules that the promise must notice.
 use model::faults::{self, Fault};
-use model::{mount, put, remove, sweep, Reply};
+use model::{mount, put, remove, sweep, Reply, Report};
 use testing::call::{formatted, Call, Model};
 use testing::maker::Maker;
 use testing::progress::{gets_past, Progress};
@@ -61,12 +61,13 @@ fn cut_sweeps_can_fill_a_store() {
     // copy's header takes 7
     for (allowance, tail) in [(12, 4096), (7, 6136), (7, 8176)] {
         assert_eq!(sweep(&mut img, allowance).answer, 4);
-        assert_eq!(mount(&mut img, ALL), Reply { answer: 0, first: 16, second: tail, third: 1, steps: 4 });
+        let report = Report { head: 16, tail, files: 1 };
+        assert_eq!(mount(&mut img, ALL), Reply { report, steps: 4, ..Reply::default() });
     }
     is_stuck(&mut img);
     assert_eq!(put(&mut img, b"x", b"", ALL), Reply::refusal(28));
     assert_eq!(remove(&mut img, b"dose", ALL).answer, 0);
-    assert_eq!(sweep(&mut img, ALL), Reply { first: 3, steps: 12, ..Reply::default() });
+    assert_eq!(sweep(&mut img, ALL), Reply { moves: 3, steps: 12, ..Reply::default() });
     // a small file, whose move takes the head to 0, and all room is back
     assert_eq!(put(&mut img, b"x", b"", ALL).answer, 0);
     assert_eq!(sweep(&mut img, ALL).answer, 0);

@@ -18,7 +18,7 @@ fn longest(n: usize) -> u64 {
         assert_eq!(check_each(n, &Call::Mount(ALL), &plan.steps), Ok(()));
         let reply = Model.call(&mut img, &Call::Mount(ALL)).expect("steps as reported");
         assert_eq!(reply.answer, 0);
-        assert_eq!(reply.third, 1, "the file is there");
+        assert_eq!(reply.report.files, 1, "the file is there");
         assert!(reply.steps <= mount_by_head(n as u64, data as u64));
         let erases = plan.steps.iter().filter(|s| matches!(s, Step::Erase(_))).count();
         println!(

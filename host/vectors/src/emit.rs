@@ -1,5 +1,5 @@
 //! Vectors as antt text.
-use model::{put_room, Chain, Place, Record, Reply};
+use model::{put_room, Chain, Extent, Place, Record, Reply, Report};
 use std::fmt::Write as _;
 use testing::call::Call;
 
@@ -88,14 +88,22 @@ pub fn allowance(call: &Call) -> u64 {
     call.allowance().min(1_000_000)
 }
 
+fn report(r: &Report) -> String {
+    format!("(report {} {} {})", r.head, r.tail, r.files)
+}
+
+fn extent(x: &Extent) -> String {
+    format!("(extent {} {})", x.offset, x.length)
+}
+
 /// The numbers of a reply, each under its name.
 fn numbers(call: &Call, r: &Reply) -> String {
     let (answer, steps) = (r.answer, r.steps);
     match call {
-        Call::Mount(_) => format!("(of-mount {answer} (report {} {} {}) {steps})", r.first, r.second, r.third),
-        Call::Sweep(_) => format!("(of-sweep {answer} {} {steps})", r.first),
-        Call::Get(_) => format!("(of-get {answer} (extent {} {}))", r.first, r.second),
-        Call::List(_) => format!("(of-list {answer} (extent {} {}) {})", r.first, r.second, r.third),
+        Call::Mount(_) => format!("(of-mount {answer} {} {steps})", report(&r.report)),
+        Call::Sweep(_) => format!("(of-sweep {answer} {} {steps})", r.moves),
+        Call::Get(_) => format!("(of-get {answer} {})", extent(&r.extent)),
+        Call::List(_) => format!("(of-list {answer} {} {})", extent(&r.extent), r.size),
         Call::Format(_) | Call::Put(..) | Call::Remove(..) => format!("(of-write {answer} {steps})"),
     }
 }
@@ -108,8 +116,8 @@ pub fn equation(before: &[u8], call: &Call, told: u64, reply: &Reply, after: &[u
     match call {
         Call::Format(_) => ("check-format", format!("check-format {b} {k} {n} {a}")),
         Call::Get(_) | Call::List(_) => {
-            let part = &before[reply.first as usize..(reply.first + reply.second) as usize];
-            ("check-part", format!("check-part {b} {} {n} {}", request(call), pieces(part)))
+            let part = pieces(reply.extent.of(before));
+            ("check-part", format!("check-part {b} {} {n} {part}", request(call)))
         }
         _ => ("check", format!("check {b} {k} {told} {} {n} {a}", request(call))),
     }

@@ -65,14 +65,14 @@ drop-superseded-requires : tie.Need-drop-superseded-requires
 drop-superseded-requires c κs =
     let c5 = c .before .before .before .before .before in let c12 = c5 .before .before .before .before .before .before .before in let c18 = c12 .before .before .before .before .before .before in
     let c21 = c18 .before .before .before in (
-      (omega (arith, c12 .finish-move .ensures .1 .1), omega (arith, c21 .pre .0 .1), omega (arith, c21 .pre .0 .2)),
+      (omega (arith, c12 .finish-move .ensures .1 .1), (omega (arith, c21 .pre .0 .1 .0), omega (arith, c21 .pre .0 .1 .1))),
       omega (
         arith,
         c5 .void-last .ensures .1,
         c12 .finish-move .ensures .1 .0,
         c18 .erase-free .ensures .1,
         c21 .pre .1 .0,
-        c21 .pre .0 .2,
+        c21 .pre .0 .1 .1,
       ),
     )
 

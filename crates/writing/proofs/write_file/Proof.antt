@@ -1,7 +1,7 @@
 -- A size that fits is placed, so that the other answer can't come; then the phases one after another.
 use Rattle.writing.specs.Put.{never-full, spot, marker-spot, prepare-few, put-phases}
 use Rattle.writing.specs.Old.{old-entry, lies-same}
-use Rattle.writing.specs.Steps.{record-count}
+use Rattle.writing.specs.WriteSteps.{record-count}
 use lib.ListN.{length}
 use mathlib.Core.Path.{sym, _∙_}
 use native.Mathlib.Omega.{arith}

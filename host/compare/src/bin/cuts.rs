@@ -8,7 +8,8 @@
 //! all. A library can't be cut inside a byte: the test writes that byte, behind the
 //! call, by the list of steps.
 //! After every put with answer 0, on a copy, the sweeps that K6 promises to get past all
-//! records of the head's sector; in histories of many tiny files too.
+//! records of the head's sector; in histories of many tiny files too. In one history of
+//! five, and in half of those, the names collide in the library's table.
 use testing::argument;
 use testing::c_calls::Library;
 use testing::history::{Seen, Tester, Violation, LONGEST};
@@ -39,15 +40,17 @@ const AIMED: [&str; 11] = [
 /// The calls that have to be cut inside a byte.
 const INSIDE: [&str; 4] = ["put", "remove", "sweep", "mount"];
 
+/// Some histories are of names that collide in the library's table.
 fn maker(r: &mut Rng) -> Maker {
-    match r.below(7) {
+    let maker = match r.below(7) {
         0 => Maker::full_sectors(r),
         1 | 2 => Maker::cut_sweeps(r),
         3 => Maker { cut: 30, ..Maker::full_sectors(r) },
         4 => Maker::long_records(r),
         5 => Maker::with_markers(r),
         _ => Maker::rich(r),
-    }
+    };
+    maker.sometimes_colliding(r, 20)
 }
 
 /// How often each aimed image was seen, and each aimed cut. Gives how many never were.
@@ -58,7 +61,8 @@ fn aimed(seen: &Seen) -> usize {
     let inside = INSIDE
         .iter()
         .map(|kind| (format!("times {kind}, cut inside a byte"), seen.inside.get(kind).copied().unwrap_or(0)));
-    let counts: Vec<(String, u64)> = images.chain(bytes).chain(inside).collect();
+    let colliding = ("images with colliding names".to_string(), seen.collisions.images());
+    let counts: Vec<(String, u64)> = images.chain(bytes).chain([colliding]).chain(inside).collect();
     for (what, count) in &counts {
         println!("{count:>9} {what}");
     }
@@ -74,7 +78,7 @@ fn histories(tester: &mut Tester<Library>, r: &mut Rng, calls: u64) -> Result<u6
     tester.until(r, tester.seen.checked + calls / 8, &SHORT, Maker::cut_sweeps)?;
     let checked = tester.seen.checked;
     (tester.longest, tester.one_of) = (600, 50);
-    tester.until(r, checked + calls / 16, &SHORT, Maker::tiny_files)?;
+    tester.until(r, checked + calls / 16, &SHORT, |r| Maker::tiny_files(r).sometimes_colliding(r, 50))?;
     Ok(checked)
 }
 
@@ -90,6 +94,7 @@ fn main() {
     for (answer, times) in &tester.seen.answers {
         println!("{times:>9} {answer}");
     }
+    print!("{}", tester.seen.collisions);
     let missing = aimed(&tester.seen);
     println!("{missing} kinds of image or cut not seen{}", if missing > 0 { ": more calls are needed" } else { "" });
     let progress = &tester.seen.progress;

@@ -52,7 +52,7 @@ fn mounted(img: &[u8], k: u64, count: &mut Count) -> Option<Vec<u8>> {
     }
     let again = mount(&mut left.clone(), ALL);
     if again != (Reply { steps: 0, ..reply }) {
-        note(count, format!("a second mount: {}, {}", again.answer, why(img, &left, reply.first)));
+        note(count, format!("a second mount: {}, {}", again.answer, why(img, &left, reply.report.head)));
         return None;
     }
     Some(left)

@@ -1,24 +1,25 @@
 //! Histories, and images that no history need make.
-use super::writing::name_for;
-use super::Comparison;
+use super::writing::{name_for, name_from};
+use super::{colliding, Comparison};
 use crate::aimed::*;
 use crate::call::{formatted, Call, Store};
 use crate::images::{built, damage, of_history};
-use crate::maker::{bad_names, Maker};
+use crate::maker::{bad_names, good_names, Maker};
 use crate::odd;
 use crate::rng::Rng;
 use crate::ALL;
 use model::mount;
 
 fn any_maker(r: &mut Rng) -> Maker {
-    match r.below(3) {
+    let maker = match r.below(3) {
         0 => Maker::rich(r),
         1 => Maker::full_sectors(r),
         _ => Maker::short(30),
-    }
+    };
+    maker.sometimes_colliding(r, 20)
 }
 
-fn any_length(r: &mut Rng) -> usize {
+pub fn any_length(r: &mut Rng) -> usize {
     r.of(&[8192, 8192, 8192, 8192, 12288, 12288, 12288, 16384, 16384, 20480, 65536])
 }
 
@@ -43,6 +44,9 @@ pub fn history<S: Store>(c: &mut Comparison<S>, r: &mut Rng, calls: u64) {
 
 /// One image of any source, with every call.
 pub fn any<S: Store>(c: &mut Comparison<S>, r: &mut Rng) {
+    if r.chance(10) {
+        return colliding::any(c, r);
+    }
     let n = any_length(r);
     let (source, img) = match r.below(9) {
         0 => ("damaged", damaged(r, n)),
@@ -55,7 +59,7 @@ pub fn any<S: Store>(c: &mut Comparison<S>, r: &mut Rng) {
         _ => ("marks at the head", superseded_or_marked(r, n)),
     };
     c.image(source);
-    every_call(c, r, &img);
+    every_call(c, r, &img, &good_names());
 }
 
 fn damaged(r: &mut Rng, n: usize) -> Vec<u8> {
@@ -107,21 +111,21 @@ fn superseded_or_marked(r: &mut Rng, n: usize) -> Vec<u8> {
 }
 
 /// Mount whole, cut and not at all; then the others, on the image and on what a
-/// whole mount left.
-fn every_call<S: Store>(c: &mut Comparison<S>, r: &mut Rng, img: &[u8]) {
+/// whole mount left. Files are called by names that are there and by these.
+pub fn every_call<S: Store>(c: &mut Comparison<S>, r: &mut Rng, img: &[u8], names: &[Vec<u8>]) {
     let (reply, mounted) = c.call(img, &Call::Mount(ALL));
     c.call(img, &Call::Mount(r.below(12)));
-    others(c, r, img);
+    others(c, r, img, names);
     if reply.answer == 0 && reply.steps > 0 {
         // decision 18: such an image may be refused again
         c.call(img, &Call::Mount(reply.steps - 1));
         c.call(&mounted, &Call::Mount(0));
-        others(c, r, &mounted);
+        others(c, r, &mounted, names);
     }
 }
 
-fn others<S: Store>(c: &mut Comparison<S>, r: &mut Rng, img: &[u8]) {
-    let name = if r.chance(5) { r.of(&bad_names()) } else { name_for(r, img) };
+fn others<S: Store>(c: &mut Comparison<S>, r: &mut Rng, img: &[u8], names: &[Vec<u8>]) {
+    let name = if r.chance(5) { r.of(&bad_names()) } else { name_from(r, img, names) };
     let allowance = if r.chance(50) { ALL } else { r.below(60) };
     let length = r.of(&[0, 1, 8, 31, 500]);
     let content = Maker::short(20).content(r, length);

@@ -1,5 +1,6 @@
 //! A store against the model: answers, numbers and all bytes of the image.
 mod arbitrary;
+mod colliding;
 mod fixed;
 mod mounting;
 mod tally;

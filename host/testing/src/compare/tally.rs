@@ -1,5 +1,6 @@
 //! What a comparison did, and what differed.
 use crate::call::Call;
+use crate::colliding::Collisions;
 use crate::tags;
 use model::Reply;
 use std::collections::BTreeMap;
@@ -12,6 +13,8 @@ pub struct Tally {
     pub differ: u64,
     /// the images of each source
     pub sources: BTreeMap<&'static str, u64>,
+    /// the images that were made of colliding names
+    pub collisions: Collisions,
     answers: BTreeMap<(&'static str, u32), u64>,
     /// calls by what they show
     tags: BTreeMap<&'static str, u64>,
@@ -56,7 +59,7 @@ impl Tally {
         }
     }
 
-    /// The differences, the calls by answer, the images by source, and the sum.
+    /// The differences, the calls by answer, the images by source and by colliding names, and the sum.
     pub fn report(&self) -> String {
         let mut s = String::new();
         for shown in &self.shown {
@@ -79,6 +82,7 @@ impl Tally {
         for (source, images) in &self.sources {
             writeln!(s, "{images:>9} images: {source}").unwrap();
         }
+        write!(s, "{}", self.collisions).unwrap();
         write!(s, "{} images, {} calls, {} differ", self.images, self.calls, self.differ).unwrap();
         s
     }

@@ -48,9 +48,14 @@ pub fn settled<S: Store>(c: &mut Comparison<S>, r: &mut Rng) {
 
 /// The name of a file there, or any.
 pub fn name_for(r: &mut Rng, img: &[u8]) -> Vec<u8> {
+    name_from(r, img, &good_names())
+}
+
+/// The name of a file there, or one of these.
+pub fn name_from(r: &mut Rng, img: &[u8], names: &[Vec<u8>]) -> Vec<u8> {
     let live: Vec<Vec<u8>> = read_image(img).map_or(vec![], |c| c.live().map(|x| x.name(img).to_vec()).collect());
     if live.is_empty() || r.chance(40) {
-        r.of(&good_names())
+        r.of(names)
     } else {
         r.of(&live)
     }

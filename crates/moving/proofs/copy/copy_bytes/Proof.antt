@@ -1,5 +1,5 @@
 -- The invariant: the steps of the first i bytes are done; the next byte to read is still as it was at entry.
-use Rattle.moving.specs.Kept.{length-part}
+use Rattle.moving.specs.Untouched.{length-part}
 use Rattle.moving.specs.Copied.{copy-more}
 use Prim.Native.Nat.{_-_, _≤_}
 use mathlib.Core.Path.{_≡_, refl}

@@ -2,7 +2,7 @@
 use Rattle.spec.specs.Record.{size-of}
 use Prim.Native.Nat.{_+_}
 use Rattle.moving.specs.Copied.{copied-data}
-use Rattle.moving.specs.Kept.{off-part}
+use Rattle.moving.specs.Untouched.{off-part}
 use native.Mathlib.Omega.{arith}
 use borrow.Author.Needs.{needs}
 use Rattle.moving.proofs.copy.copy_data.Statement.{statement}

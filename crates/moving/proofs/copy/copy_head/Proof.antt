@@ -1,7 +1,7 @@
 -- As write_file; what is done before the copy leaves the head's name and data as they were.
 use Rattle.moving.specs.Copy.{copy-apart, copy-count, copy-phases}
 use Rattle.writing.specs.Put.{never-full, spot, marker-spot, prepare-few}
-use Rattle.writing.specs.Room.{placed-parts}
+use Rattle.writing.specs.Placing.{placed-parts}
 use Rattle.writing.specs.declared.Old.the-variants.{At}
 use Rattle.spec.specs.Record.{size-of}
 use mathlib.Core.Path.{sym, _∙_}

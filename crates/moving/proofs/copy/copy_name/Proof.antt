@@ -2,7 +2,7 @@
 use lib.ListN.{take, drop}
 use Prim.Native.Nat.{_+_}
 use Rattle.moving.specs.Copied.{copied-name}
-use Rattle.moving.specs.Kept.{length-part}
+use Rattle.moving.specs.Untouched.{length-part}
 use Rattle.laws.specs.Steps.{length-bytes}
 use Rattle.flash.specs.Did.{did-both}
 use native.Mathlib.Omega.{arith}

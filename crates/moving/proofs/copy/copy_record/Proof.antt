@@ -1,7 +1,7 @@
 -- Each phase leaves the record that is copied as it was.
 use Rattle.spec.specs.Record.{size-of}
 use Prim.Native.Nat.{_+_}
-use Rattle.moving.specs.Kept.{off-part}
+use Rattle.moving.specs.Untouched.{off-part}
 use Rattle.moving.specs.Copied.{name-count, data-count, copied-record}
 use native.Mathlib.Omega.{arith}
 use borrow.Author.Needs.{needs}

@@ -1,6 +1,6 @@
--- Word and bits are those of the name's hash.
-use native.Mathlib.Omega.{arith}
-use Rattle.reading.specs.Filter.{signature-of}
+-- signature: by the name's hash.
+use mathlib.Core.Path.{ap, _∙_}
+use Rattle.reading.specs.Filter.{signature-by}
 use borrow.Author.Needs.{needs}
 use Rattle.reading.proofs.filter.signature.Statement.{statement}
 use Rattle.reading.proofs.filter.signature.Tie as tie
@@ -8,19 +8,11 @@ use Rattle.reading.proofs.filter.signature.Tie as tie
 hash-requires : tie.Need-hash-requires
 hash-requires c κs = search needs
 
-mul-word : tie.Need-mul-word
-mul-word c = search needs
-
-mul-four-bits : tie.Need-mul-four-bits
-mul-four-bits c = search needs
-
-four-bits-requires : tie.Need-four-bits-requires
-four-bits-requires c κs = search needs
+signature-by-requires : tie.Need-signature-by-requires
+signature-by-requires c κs = search needs
 
 returns : tie.Need-returns
-unfolding signature-of
-returns c = (rw (c .four-bits .ensures, c .before .hash .ensures .0), omega arith)
+returns c = (c .signature-by .ensures .0 ∙ ap signature-by (c .before .hash .ensures .0), c .signature-by .ensures .1)
 
 pub signature-spec : {M : Type 1} → statement M
-signature-spec =
-    tie.close (tie.spec hash-requires mul-word mul-four-bits four-bits-requires returns)
+signature-spec = tie.close (tie.spec hash-requires signature-by-requires returns)

@@ -2,7 +2,9 @@
 use Prim.Native.Nat.{_+_, _-_}
 use lib.ListN.{length}
 use Rattle.laws.specs.Flag.{flag}
-use Rattle.reading.specs.HeadLaws.{Sought, sought-start, sought-hit, sought-end, sought-step}
+use Rattle.reading.specs.HeadLaws.{Sought, sought-start, sought-hit, sought-end}
+use Rattle.reading.specs.HeadSkip.{sought-skip}
+use borrow.Author.Needs.{needs}
 use native.Mathlib.Omega.{arith}
 use Rattle.reading.proofs.head.search.Statement.{statement}
 use Rattle.reading.proofs.head.search.Tie as tie
@@ -19,15 +21,18 @@ loop-holds c = sought-start _ _ (c .before .pre .1)
 mark-here-requires : tie.Need-mark-here-requires Inv-loop μ-loop
 mark-here-requires c κs = omega arith
 
-add-at : tie.Need-add-at Inv-loop μ-loop
-add-at c = omega arith
+past-blank-requires : tie.Need-past-blank-requires Inv-loop μ-loop
+past-blank-requires c κs = search needs
 
 loop-less : tie.Need-loop-less Inv-loop μ-loop
-loop-less c = omega arith
+loop-less c = omega (arith, c .past-blank .ensures .far, c .past-blank .ensures .inside)
 
 loop-again : tie.Need-loop-again Inv-loop μ-loop
 loop-again c =
-    sought-step _ _ _ (c .before .before .before .loop .inv) (flag (c .before .before .mark-here .ensures) (c .before .if1 .left)) (c .if2 .left)
+    let c1 = c .before in
+    sought-skip _ _ _ _ (c1 .before .before .before .loop .inv) (flag (c1 .before .before .mark-here .ensures) (c1 .before .if1 .left))
+    (c1 .if2 .left)
+    (c .past-blank .ensures)
 
 returns : tie.Need-returns Inv-loop μ-loop
 returns c = (sought-hit _ _ _ (c .before .before .loop .inv) (flag (c .before .mark-here .ensures) (c .if1 .taken)), omega arith)
@@ -46,7 +51,7 @@ search-spec =
     μ-loop
     loop-holds
     mark-here-requires
-    add-at
+    past-blank-requires
     loop-less
     loop-again
     returns

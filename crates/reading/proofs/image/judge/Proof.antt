@@ -14,25 +14,27 @@ enum-known-x c = search needs
 
 judge-from-requires : tie.Need-judge-from-requires
 judge-from-requires c κs =
-    let p = c .before .before .before .before .before .pre in
-    (rw (c .before .x .given .1) at (c .before .before .before .head .ensures .1), p .0, p .1)
+    let p = c .before .before .before .before .before .before .pre in
+    let e = c .before .before .before .before .head .ensures in
+    (rw (c .before .x .given .1) at (e .1), p, e .2)
 
 enum-known-x-2 : tie.Need-enum-known-x-2
 enum-known-x-2 c = search needs
 
 returns : tie.Need-returns
 returns c =
-    let c2 = c .before .before in let c4 = c2 .before .before in let c6 = c4 .before .before in (
+    let c2 = c .before .before in let c5 = c2 .before .before .before in (
       c .judge-from .ensures .0
-          ∙ reading-by (c6 .args .image .now) (c2 .x .given .0 .0) (sym (ap headed (c2 .x .given .1)) ∙ c4 .head .ensures .0),
+          ∙ reading-by (c5 .before .before .args .image .now) (c2 .x .given .0 .0)
+          (sym (ap headed (c2 .x .given .1)) ∙ c5 .head .ensures .0),
       c .judge-from .ensures .1,
     )
 
 returns-2 : tie.Need-returns-2
 returns-2 c =
-    let c5 = c .before .before .before .before .before in (
-      reading-refused (c5 .args .image .now) (c .before .x2 .given .0 .0)
-          (sym (ap headed (c .before .x2 .given .1)) ∙ c .before .before .before .head .ensures .0),
+    let c4 = c .before .before .before .before in (
+      reading-refused (c4 .before .before .args .image .now) (c .before .x2 .given .0 .0)
+          (sym (ap headed (c .before .x2 .given .1)) ∙ c4 .head .ensures .0),
       tt,
     )
 

@@ -10,8 +10,8 @@ first-cursor-requires c κs = search needs
 pass-requires : tie.Need-pass-requires
 pass-requires c κs =
     let a = c .before .before .args in (
-      rw (c .first-cursor .ensures) (first-sound (a .image .now) (a .h) (c .before .before .pre .0) (c .before .before .pre .2)),
-      c .before .before .pre .1,
+      rw (c .first-cursor .ensures) (first-sound (a .image .now) (a .h) (c .before .before .pre .0) (c .before .before .pre .1 .1)),
+      c .before .before .pre .1 .0,
     )
 
 survey-of-requires : tie.Need-survey-of-requires
@@ -22,7 +22,7 @@ returns c =
     let c2 = c .before .before in let c5 = c2 .before .before .before in
     let a = c5 .args in
     rw (c .survey-of .ensures)
-    (seen (a .image .now) (a .h) (c5 .pre .0) (c5 .pre .2) (c2 .pass .result) (rw (c2 .before .first-cursor .ensures) at (c2 .pass .ensures .0))
+    (seen (a .image .now) (a .h) (c5 .pre .0) (c5 .pre .1 .1) (c2 .pass .result) (rw (c2 .before .first-cursor .ensures) at (c2 .pass .ensures .0))
     (c2 .pass .ensures .1) (c2 .pass .ensures .2))
 
 pub survey-spec : {M : Type 1} → statement M

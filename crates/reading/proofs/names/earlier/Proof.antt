@@ -5,6 +5,7 @@ use mathlib.Core.Path.{refl}
 use Rattle.reading.specs.Cursor.{left as left-of}
 use Rattle.reading.specs.Rest.{entry-of}
 use Rattle.reading.specs.Fold.{passes, Folded, fold-start}
+use Rattle.reading.specs.Skip.{earlier-beyond}
 use Rattle.reading.specs.Prefix.{earlier-in, earlier-over, earlier-out, earlier-next}
 use Rattle.reading.proofs.Others.{other-step}
 use borrow.Author.Needs.{needs}
@@ -21,44 +22,53 @@ abbrev μ-loop : tie.MeasureT-loop
 loop-holds : tie.Need-loop-holds Inv-loop μ-loop
 loop-holds c = fold-start _ _ _ _ (c .before .pre .0)
 
+skip-other-names-requires : tie.Need-skip-other-names-requires Inv-loop μ-loop
+skip-other-names-requires c κs = (c .loop .inv .sound, c .before .before .pre .1)
+
 returns : tie.Need-returns Inv-loop μ-loop
 returns c =
-    let a = c .before .before .before .args in
-    earlier-out (entry-of (a .image .now) (a .e)) (c .before .loop .inv) (c .if1 .taken)
+    let c1 = c .before .before in
+    let a = c1 .before .before .before .args in
+    let e = entry-of (a .image .now) (a .e) in
+    earlier-out e (earlier-beyond e (c1 .before .loop .inv) (c1 .skip-other-names .ensures)) (c .if1 .taken)
 
 advance-requires : tie.Need-advance-requires Inv-loop μ-loop
-advance-requires c κs = c .before .loop .inv .sound
+advance-requires c κs = c .before .before .before .skip-other-names .ensures .gone .sound
 
 enum-known-s : tie.Need-enum-known-s Inv-loop μ-loop
 enum-known-s c = c .match .keys1
 
 returns-2 : tie.Need-returns-2 Inv-loop μ-loop
 returns-2 c =
-    let a = c .before .before .before .before .before .args in
+    let c5 = c .before .before .before .before .before in
+    let a = c5 .before .before .before .args in
+    let e = entry-of (a .image .now) (a .e) in
     let adv = c .before .advance in
-    earlier-over (entry-of (a .image .now) (a .e)) (c .before .before .before .loop .inv) (adv .result) (adv .ensures .0)
+    earlier-over e (earlier-beyond e (c5 .before .loop .inv) (c5 .skip-other-names .ensures)) (adv .result) (adv .ensures .0)
     (other-step (adv .result) (c .match .keys2))
 
 earlier-with-requires : tie.Need-earlier-with-requires Inv-loop μ-loop
 earlier-with-requires c κs =
     let c3 = c .before .before .before in
-    (c3 .before .before .before .before .pre .1, passes (c3 .advance .ensures) (c .before .s .given .1) .whole)
+    (c3 .before .before .before .before .before .before .before .pre .1, passes (c3 .advance .ensures) (c .before .s .given .1) .whole)
 
 sub-left : tie.Need-sub-left Inv-loop μ-loop
 sub-left c = search needs
 
 loop-less : tie.Need-loop-less Inv-loop μ-loop
 loop-less c =
-    passes (c .before .before .before .before .advance .ensures) (c .before .before .s .given .1) .onward .less
+    let c3 = c .before .before .before in let c5 = c3 .before .before in let c9 = c5 .before .before .before .before in
+    omega (arith, passes (c5 .advance .ensures) (c3 .s .given .1) .onward .less, c9 .skip-other-names .ensures .gone .few)
 
 loop-again : tie.Need-loop-again Inv-loop μ-loop
 loop-again c =
-    let c2 = c .before .before in let c4 = c2 .before .before in let c6 = c4 .before .before in
-    let a = c6 .before .before .args in
-    let t = passes (c4 .advance .ensures) (c2 .s .given .1) in
-    let l = c6 .loop in
-    rw (c .earlier-with .ensures)
-    (earlier-next (entry-of (a .image .now) (a .e)) (l .inv) t (l .left - 1) (omega (arith, c4 .before .if1 .left)))
+    let c3 = c .before .before .before in let c5 = c3 .before .before in let c7 = c5 .before .before in let c9 = c7 .before .before in
+    let a = c9 .before .before .before .args in
+    let e = entry-of (a .image .now) (a .e) in
+    let t = passes (c5 .advance .ensures) (c3 .s .given .1) in
+    let o = c9 .skip-other-names in
+    rw (c .before .earlier-with .ensures)
+    (earlier-next e (earlier-beyond e (c9 .before .loop .inv) (o .ensures)) t (o .result .left - 1) (omega (arith, c7 .if1 .left)))
 
 pub earlier-spec : {M : Type 1} → statement M
 earlier-spec =
@@ -67,6 +77,7 @@ earlier-spec =
     Inv-loop
     μ-loop
     loop-holds
+    skip-other-names-requires
     returns
     advance-requires
     enum-known-s

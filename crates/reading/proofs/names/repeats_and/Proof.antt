@@ -1,4 +1,5 @@
 -- repeats_and: no file adds nothing; a name whose bits were not all set stands nowhere before; else the records before it tell.
+use mathlib.Core.Path.{refl}
 use Rattle.laws.specs.Flag.{flag, flag-not}
 use Rattle.reading.specs.Rest.{entry-of}
 use Rattle.reading.specs.Held.{carried-same, carried-new, carried-more}
@@ -21,25 +22,18 @@ signed-requires c κs = search needs
 add-requires : tie.Need-add-requires
 add-requires c κs = search needs
 
-earlier-requires : tie.Need-earlier-requires
-earlier-requires c κs = search needs
-
-named-requires : tie.Need-named-requires
-named-requires c κs = search needs
-
-repeats-with-requires : tie.Need-repeats-with-requires
-repeats-with-requires c κs = search needs
+repeats-by-requires : tie.Need-repeats-by-requires
+repeats-by-requires c κs = search needs
 
 returns-2 : tie.Need-returns-2
 returns-2 c =
-    let c3 = c .before .before .before in let c4 = c3 .before in let c7 = c4 .before .before .before in
-    let start = c7 .before .before .before in
+    let c2 = c .before .before in let c5 = c2 .before .before .before in
+    let start = c5 .before .before .before in
     let e = entry-of (start .args .image .now) (start .args .e) in
-    let bits = c4 .before .signed in
-    let yes = flag-not (c7 .before .is-file .ensures) (c7 .if1 .left) in
-    rw (c4 .add .ensures .1)
-    (carried-more e (start .pre .2) (bits .result) (bits .ensures .1) (bits .ensures .0) yes _ (c .before .named .result)
-    (c .before .before .earlier .result) (c .repeats-with .ensures) (c .before .named .ensures) (c .before .before .earlier .ensures))
+    let bits = c2 .before .signed in
+    let yes = flag-not (c5 .before .is-file .ensures) (c5 .if1 .left) in
+    rw (c2 .add .ensures .1)
+    (carried-more e (start .pre .2) (bits .result) (bits .ensures .1) (bits .ensures .0) yes _ _ _ (c .repeats-by .ensures) refl refl)
 
 returns-3 : tie.Need-returns-3
 returns-3 c =
@@ -59,8 +53,6 @@ repeats-and-spec =
     returns
     signed-requires
     add-requires
-    earlier-requires
-    named-requires
-    repeats-with-requires
+    repeats-by-requires
     returns-2
     returns-3)

@@ -20,7 +20,7 @@ returns-2 : tie.Need-returns-2
 returns-2 c =
     let c1 = c .before in let c2 = c1 .before in
     let start = c2 .before .before .before .before .before in
-    let p = start .pre in
+    let p = start .pre .0 in
     let a = start .args in
     legal-single (a .image .now) (reading-of (a .image .now) (a .s)) (flag-not (c2 .before .whole .ensures) (c2 .if1 .left))
     (flag (fine-is (p .surveyed .tallied)) (c1 .if2 .taken))
@@ -28,12 +28,12 @@ returns-2 c =
 
 marks-ok-requires : tie.Need-marks-ok-requires
 marks-ok-requires c κs =
-    let p = c .before .before .before .before .before .before .before .pre in
+    let p = c .before .before .before .before .before .before .before .pre .0 in
     rw (p .at-head) (p .surveyed .tallied)
 
 head-clean-requires : tie.Need-head-clean-requires
 head-clean-requires c κs =
-    let p = c .before .before .before .before .before .before .before .before .before .pre in
+    let p = c .before .before .before .before .before .before .before .before .before .pre .0 in
     rw (p .at-head) (p .surveyed .tallied)
 
 free-ok-requires : tie.Need-free-ok-requires
@@ -43,7 +43,7 @@ returns-3 : tie.Need-returns-3
 returns-3 c =
     let c2 = c .before .before in let c4 = c2 .before .before in let c5 = c4 .before in let c6 = c5 .before in
     let start = c6 .before .before .before .before .before in
-    let p = start .pre in
+    let p = start .pre .0 in
     let a = start .args in
     legal-free (a .image .now) (reading-of (a .image .now) (a .s)) (flag-not (c6 .before .whole .ensures) (c6 .if1 .left))
     (c .before .head-clean .result) _ (flag (fine-is (p .surveyed .tallied)) (c5 .if2 .taken))
@@ -55,7 +55,7 @@ returns-4 : tie.Need-returns-4
 returns-4 c =
     let c2 = c .before .before in let c3 = c2 .before in let c4 = c3 .before in
     let start = c4 .before .before .before .before .before in
-    let p = start .pre in
+    let p = start .pre .0 in
     let a = start .args in
     legal-marks (a .image .now) (reading-of (a .image .now) (a .s)) (flag-not (c4 .before .whole .ensures) (c4 .if1 .left))
     (flag (fine-is (p .surveyed .tallied)) (c3 .if2 .taken))
@@ -68,7 +68,7 @@ returns-5 c =
     let start = c1 .before .before .before .before .before in
     let a = start .args in
     legal-names (a .image .now) (reading-of (a .image .now) (a .s)) (flag-not (c1 .before .whole .ensures) (c1 .if1 .left))
-    (flag (fine-is (start .pre .surveyed .tallied)) (c .if2 .left))
+    (flag (fine-is (start .pre .0 .surveyed .tallied)) (c .if2 .left))
 
 pub legal-spec : {M : Type 1} → statement M
 legal-spec =

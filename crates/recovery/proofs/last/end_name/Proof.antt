@@ -1,7 +1,7 @@
 -- The 00 is there or not.
 use native.Mathlib.Omega.{arith}
 use Rattle.flash.specs.Did.{did-none}
-use Rattle.recovery.specs.Last.{name-ended, name-open}
+use Rattle.laws.specs.Steps.{name-ended, name-open}
 use borrow.Author.Needs.{needs}
 use Rattle.recovery.proofs.last.end_name.Statement.{statement}
 use Rattle.recovery.proofs.last.end_name.Tie as tie

@@ -11,8 +11,8 @@ use Rattle.spec.specs.Step.{erase}
 use Rattle.spec.specs.Geometry.{sectors}
 use Rattle.flash.specs.Toward.{Toward, toward-more, toward-end}
 use Rattle.laws.specs.Sectors.{sectors-none}
-use Rattle.moving.specs.Kept.{later-on}
-use Rattle.recovery.specs.Sectors.{dirty-more}
+use Rattle.moving.specs.Untouched.{later-on}
+use Rattle.recovery.specs.DirtySectors.{dirty-more}
 use Rattle.recovery.proofs.sectors.erase_dirty.Statement.{statement}
 use Rattle.recovery.proofs.sectors.erase_dirty.Tie as tie
 

@@ -2,7 +2,7 @@
 use mathlib.Core.Path.{refl}
 use native.Mathlib.Omega.{arith}
 use Rattle.flash.specs.Did.{did-none}
-use Rattle.recovery.specs.Sectors.{dirty-is, erase-kept, erased-behind}
+use Rattle.recovery.specs.DirtySectors.{dirty-is, erase-kept, erased-behind}
 use borrow.Author.Needs.{needs}
 use Rattle.recovery.proofs.sectors.erase_if_dirty.Statement.{statement}
 use Rattle.recovery.proofs.sectors.erase_if_dirty.Tie as tie

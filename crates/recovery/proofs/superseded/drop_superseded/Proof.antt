@@ -10,7 +10,8 @@ use Rattle.reading.specs.Fold.{passes}
 use Rattle.reading.specs.Read.{first-cursor}
 use Rattle.reading.specs.Survey.{first-sound}
 use Rattle.reading.proofs.Others.{other-step}
-use Rattle.recovery.specs.Drop.{Dropping, dropping-start, dropping-more, dropping-end, tidy-first, sound-same, entries-of}
+use Rattle.recovery.specs.Drop.{Dropping, dropping-start, dropping-more, dropping-end, tidy-first, sound-same}
+use Rattle.reading.specs.Standing.{entries-from}
 use Rattle.recovery.proofs.superseded.drop_superseded.Statement.{statement}
 use Rattle.recovery.proofs.superseded.drop_superseded.Tie as tie
 
@@ -28,7 +29,7 @@ loop-holds : tie.Need-loop-holds Inv-loop μ-loop
 loop-holds c =
     let a = c .before .before .before .args in (
       refl,
-      rw (c .first-cursor .ensures) (first-sound (a .image .now) (a .h) (omega arith) (c .before .before .before .pre .0 .2)),
+      rw (c .first-cursor .ensures) (first-sound (a .image .now) (a .h) (omega arith) (c .before .before .before .pre .0 .1 .1)),
       omega arith,
       dropping-start (a .image .now) (c .first-cursor .result) (a .m),
     )
@@ -46,7 +47,7 @@ returns : tie.Need-returns Inv-loop μ-loop
 returns c =
     let c4 = c .before .before .before .before in
     let a = c4 .before .before .before .args in
-    rw (ap (λ k. rest (a .image .now) k .entries) (c4 .first-cursor .ensures) ∙ entries-of (a .image .now) (a .h) (omega arith)) at
+    rw (ap (λ k. rest (a .image .now) k .entries) (c4 .first-cursor .ensures) ∙ sym (entries-from (a .image .now) (a .h) (omega arith))) at
     (dropping-end (c .before .before .before .loop .inv .3) (c .before .advance .result) (c .before .advance .ensures .0)
     (other-step (c .before .advance .result) (c .match .keys2)))
 
@@ -57,7 +58,7 @@ drop-one-requires c κs =
     let t = passes (c4 .advance .ensures) (c2 .s .given .1) in
     let a = c10 .args in (
       sound-same (a .image .now) (c6 .loop .image) (c7 .first-cursor .result)
-          (rw (c7 .first-cursor .ensures) (first-sound (a .image .now) (a .h) (omega (arith, c10 .pre .0 .0)) (c10 .pre .0 .2))) (c6 .loop .inv .0),
+          (rw (c7 .first-cursor .ensures) (first-sound (a .image .now) (a .h) (omega (arith, c10 .pre .0 .0)) (c10 .pre .0 .1 .1))) (c6 .loop .inv .0),
       (t .whole, omega (arith, c6 .loop .inv .2, ap left (c7 .first-cursor .ensures), t .onward .less, c10 .pre .1)),
     )
 

@@ -13,7 +13,7 @@ copy-head-requires : tie.Need-copy-head-requires
 copy-head-requires c κs =
     let c5 = c .before .before .before .before .before in
     let g = subst (Going (c5 .args .image .now) (c5 .args .place)) (c .before .before .plan .given .1) (c5 .pre .1 .0) in
-    (ready (c5 .pre .0) (c5 .args .m .asked) g (c5 .pre .1 .1), g .ends)
+    (ready (c5 .pre .0) (c5 .args .m) g (c5 .pre .1 .1), g .ends)
 
 same-length : tie.Need-same-length
 same-length c = search needs

@@ -46,7 +46,7 @@ returns-2 c =
 survey-requires : tie.Need-survey-requires
 survey-requires c κs =
     let l = c .before .before .before .before .before .before .move-head .ensures .left (c .before .if1 .left) .led in
-    (omega (arith, l .inside), l .long, l .small)
+    (omega (arith, l .inside), (l .long, l .small))
 
 same-length-3 : tie.Need-same-length-3
 same-length-3 c = search needs

@@ -3,7 +3,7 @@ use lib.ListN.{length}
 use Prim.Native.Nat.{_+_}
 use Rattle.spec.specs.Geometry.{up8}
 use Rattle.laws.specs.Steps.{length-bytes}
-use Rattle.writing.specs.Steps.{length-name}
+use Rattle.writing.specs.WriteSteps.{length-name}
 use Rattle.flash.specs.Did.{did-both}
 use native.Mathlib.Omega.{arith}
 use borrow.Author.Needs.{needs}

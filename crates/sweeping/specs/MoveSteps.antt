@@ -6,7 +6,6 @@ use Rattle.spec.specs.Step.{Image, Step, run}
 use Rattle.spec.specs.Record.{Entry}
 use Rattle.spec.specs.Chain.{Reading, reading-from}
 use Rattle.spec.specs.Move.{Work, begin, reread, after, copy-steps, to-clean-step, close-steps, hand-over, moved-on, move}
-use Rattle.spec.specs.Sweep.{moves}
 
 -- (b) to (f), of the records of a chain; with no second record there is nothing to do
 abbrev pub hand-steps : ℕ → List Entry → List Step

@@ -9,7 +9,7 @@ use lib.Seq.{length-take-le, drop-drop}
 use Rattle.spec.specs.Step.{Image, Step, program, erase, run, bytes-at, shifted}
 use Rattle.flash.specs.Did.{Did}
 use Rattle.flash.specs.declared.Meter.{Meter}
-use Rattle.laws.specs.Parts.{part-set}
+use Rattle.laws.specs.Parts.{Outside, part-set}
 
 -- ---- stretches
 
@@ -39,7 +39,7 @@ later-on a k s t h e =
 
 abbrev pub Avoids : ℕ → ℕ → List Step → Type 0
 Avoids i n [] = Unit {0}
-Avoids i n (program k x ∷ ss) = ((k < i) ⊎ (i + n ≤ k)) × Avoids i n ss
+Avoids i n (program k x ∷ ss) = Outside k i n × Avoids i n ss
 Avoids i n (erase k ∷ ss) = ⊥
 
 pub avoids-append : (i n : ℕ) (s t : List Step) → Avoids i n s → Avoids i n t → Avoids i n (s ++ t)
@@ -66,27 +66,27 @@ kept {s} {t} {m} {r} {ss} i n d p =
 
 -- ---- steps that program from a on, below b
 
-abbrev pub Inside : ℕ → ℕ → List Step → Type 0
-Inside a b [] = Unit {0}
-Inside a b (program i x ∷ ss) = (a ≤ i) × (i < b) × Inside a b ss
-Inside a b (erase i ∷ ss) = ⊥
+abbrev pub Writes-in : ℕ → ℕ → List Step → Type 0
+Writes-in a b [] = Unit {0}
+Writes-in a b (program i x ∷ ss) = (a ≤ i) × (i < b) × Writes-in a b ss
+Writes-in a b (erase i ∷ ss) = ⊥
 
-pub inside-bytes : (a b i : ℕ) (w : List ℕ) → a ≤ i → i + length w ≤ b → Inside a b (bytes-at i w)
-inside-bytes a b i [] h l = tt
-inside-bytes a b i (x ∷ w) h l = (h, omega arith, inside-bytes a b (i + 1) w (omega arith) (omega arith))
+pub writes-bytes : (a b i : ℕ) (w : List ℕ) → a ≤ i → i + length w ≤ b → Writes-in a b (bytes-at i w)
+writes-bytes a b i [] h l = tt
+writes-bytes a b i (x ∷ w) h l = (h, omega arith, writes-bytes a b (i + 1) w (omega arith) (omega arith))
 
-pub inside-append : (a b : ℕ) (s t : List Step) → Inside a b s → Inside a b t → Inside a b (s ++ t)
-inside-append a b [] t p q = q
-inside-append a b (program i x ∷ s) t p q = (p .0, p .1, inside-append a b s t (p .2) q)
-inside-append a b (erase i ∷ s) t p q = absurd p
+pub writes-append : (a b : ℕ) (s t : List Step) → Writes-in a b s → Writes-in a b t → Writes-in a b (s ++ t)
+writes-append a b [] t p q = q
+writes-append a b (program i x ∷ s) t p q = (p .0, p .1, writes-append a b s t (p .2) q)
+writes-append a b (erase i ∷ s) t p q = absurd p
 
-pub inside-shifted : (k a b : ℕ) (ss : List Step) → Inside a b ss → Inside (k + a) (k + b) (shifted k ss)
-inside-shifted k a b [] p = tt
-inside-shifted k a b (program i x ∷ ss) p = (omega arith, omega arith, inside-shifted k a b ss (p .2))
-inside-shifted k a b (erase i ∷ ss) p = absurd p
+pub writes-shifted : (k a b : ℕ) (ss : List Step) → Writes-in a b ss → Writes-in (k + a) (k + b) (shifted k ss)
+writes-shifted k a b [] p = tt
+writes-shifted k a b (program i x ∷ ss) p = (omega arith, omega arith, writes-shifted k a b ss (p .2))
+writes-shifted k a b (erase i ∷ ss) p = absurd p
 
-pub inside-avoids : (a b i n : ℕ) (ss : List Step) → Off a b i n → Inside a b ss → Avoids i n ss
-inside-avoids a b i n [] o p = tt
-inside-avoids a b i n (program k x ∷ ss) o p =
-    (⊎-elim (λ (q : i + n ≤ a). inr (omega arith)) (λ (q : b ≤ i). inl (omega arith)) o, inside-avoids a b i n ss o (p .2))
-inside-avoids a b i n (erase k ∷ ss) o p = absurd p
+pub writes-avoids : (a b i n : ℕ) (ss : List Step) → Off a b i n → Writes-in a b ss → Avoids i n ss
+writes-avoids a b i n [] o p = tt
+writes-avoids a b i n (program k x ∷ ss) o p =
+    (⊎-elim (λ (q : i + n ≤ a). inr (omega arith)) (λ (q : b ≤ i). inl (omega arith)) o, writes-avoids a b i n ss o (p .2))
+writes-avoids a b i n (erase k ∷ ss) o p = absurd p

@@ -1,0 +1,41 @@
+-- gather_file: the name is noted by its marks, the record as one behind the second.
+use mathlib.Core.Path.{refl}
+use Rattle.reading.specs.Gather.{gathering-file}
+use borrow.Author.Needs.{needs}
+use Rattle.reading.proofs.gather.gather_file.Statement.{statement}
+use Rattle.reading.proofs.gather.gather_file.Tie as tie
+
+marks-of-requires : tie.Need-marks-of-requires
+marks-of-requires c κs = search needs
+
+repeats-signed-requires : tie.Need-repeats-signed-requires
+repeats-signed-requires c κs = search needs
+
+add-noted-plain : tie.Need-add-noted-plain
+add-noted-plain c = search needs
+
+both-requires : tie.Need-both-requires
+both-requires c κs = search needs
+
+noted-plain-requires : tie.Need-noted-plain-requires
+noted-plain-requires c κs = search needs
+
+returns : tie.Need-returns
+returns c =
+    let c3 = c .before .before .before in let c5 = c3 .before .before in
+    let p = c5 .before .before .before .before .before .pre in
+    let g =
+    gathering-file (p .1) (p .2 .two) (p .2 .unmarked) (p .2 .file) (c .noted-plain .ensures) (c .before .both .ensures)
+    (c5 .before .marks-of .ensures .fine) (c3 .repeats-signed .ensures) in
+    (g .0, refl, g .1)
+
+pub gather-file-spec : {M : Type 1} → statement M
+gather-file-spec =
+    tie.close
+    (tie.spec
+    marks-of-requires
+    repeats-signed-requires
+    add-noted-plain
+    both-requires
+    noted-plain-requires
+    returns)

@@ -1,0 +1,149 @@
+// The one pass of a judgement: the tally of all records, and what their names tell. Plain records are gone over by themselves, so that the
+// compiler keeps all that is carried along in registers.
+use crate::Cursor;
+use crate::FullPass;
+use crate::Gathered;
+use crate::Item;
+use crate::Nearby;
+use crate::Pass;
+use crate::Repeats;
+use crate::Spot;
+use crate::chain::advance;
+use crate::files::is_file;
+use crate::filter::WORDS;
+use crate::marks::both;
+use crate::marks::marks_of;
+use crate::names::repeats_and;
+use crate::names::repeats_signed;
+use crate::plain::near;
+use crate::scan::none_yet;
+use crate::scan::noted;
+use crate::scan::noted_plain;
+ghost use mathlib.Core.Path.{_≡_};
+ghost use Prim.Native.Nat.{_≤_};
+ghost use lib.ListN.{length};
+ghost use Rattle.reading.specs.Cursor.{Cursor-sound, left};
+ghost use Rattle.reading.specs.Rest.{rest};
+ghost use Rattle.reading.specs.Tally.{none-yet, passed, Spots, End-inside};
+ghost use Rattle.reading.specs.Repeats.{repeats-of};
+ghost use Rattle.reading.specs.Gather.{nothing-yet, Gathering, Noting, Plain-file};
+
+// What is gathered, with one record more, which stands before next.
+fn gather_one(
+    image: &[u8],
+    start: Cursor,
+    table: &mut [u64; WORDS],
+    g: Gathered,
+    e: Spot,
+    next: Cursor,
+) -> Gathered
+    requires { ⌜ Cursor-sound (now image) start × Noting (now image) start e next (g .tally) (g .repeats) (now table) ⌝ }
+    ensures { λ r. ⌜ Gathering (now (image .entry)) start (r .cursor) (r .tally) (r .repeats) (now (table .exit)) × (r .cursor ≡ next) ⌝ }
+{
+    let t = g.tally;
+    let n = g.repeats;
+    let m = repeats_and(image, start, t.records, table, n, e);
+    let u = noted(image, t, e, next.pending);
+    Gathered {
+        cursor: next,
+        tally: u,
+        repeats: m,
+    }
+}
+
+// The same for a plain one that is a file.
+fn gather_file(
+    image: &[u8],
+    start: Cursor,
+    table: &mut [u64; WORDS],
+    g: Gathered,
+    e: Spot,
+    next: Cursor,
+) -> Gathered
+    requires { ⌜ Cursor-sound (now image) start × Noting (now image) start e next (g .tally) (g .repeats) (now table)
+        × Plain-file (now image) e (g .tally) ⌝ }
+    ensures { λ r. ⌜ Gathering (now (image .entry)) start (r .cursor) (r .tally) (r .repeats) (now (table .exit)) × (r .cursor ≡ next)
+        × (2 ≤ r .tally .records) ⌝ }
+{
+    let t = g.tally;
+    let n = g.repeats;
+    let name = marks_of(image, e);
+    let s = name.signature;
+    let m = repeats_signed(image, start, t.records, table, n, e, s);
+    let u = noted_plain(t, e, t.files + 1, both(t.fine, name.fine), next.pending);
+    Gathered {
+        cursor: next,
+        tally: u,
+        repeats: m,
+    }
+}
+
+// With all plain records from the cursor on.
+fn gather_plain(image: &[u8], start: Cursor, table: &mut [u64; WORDS], first: Gathered) -> Gathered
+    requires { ⌜ Cursor-sound (now image) start
+        × Gathering (now image) start (first .cursor) (first .tally) (first .repeats) (now table) × (2 ≤ first .tally .records) ⌝ }
+    ensures { λ r. ⌜ Gathering (now (image .entry)) start (r .cursor) (r .tally) (r .repeats) (now (table .exit))
+        × (left (r .cursor) ≤ left (first .cursor)) ⌝ }
+{
+    let mut g = first;
+    loop {
+        let c = g.cursor;
+        let s = near(image, c);
+        let Nearby::Record { spot: e, next } = s else {
+            return g;
+        };
+        if is_file(image, e) {
+            g = gather_file(image, start, table, g, e, next);
+        } else {
+            let t = g.tally;
+            let n = g.repeats;
+            let u = noted_plain(t, e, t.files, t.fine, next.pending);
+            g = Gathered {
+                cursor: next,
+                tally: u,
+                repeats: n,
+            };
+        }
+    }
+}
+
+fn nothing_yet(start: Cursor) -> Gathered
+    ensures { λ r. ⌜ r ≡ nothing-yet start ⌝ }
+{
+    let t = none_yet();
+    Gathered {
+        cursor: start,
+        tally: t,
+        repeats: Repeats {
+            doubled: false,
+            superseded: false,
+        },
+    }
+}
+
+// All records from the cursor on.
+pub fn gather(image: &[u8], start: Cursor) -> FullPass
+    requires { ⌜ Cursor-sound (now image) start × (16 ≤ length (now image)) ⌝ }
+    ensures { λ r. ⌜ (r .pass ≡ passed none-yet (rest (now (image .entry)) start)) × Spots (now (image .entry)) (r .pass .tally)
+        × End-inside (now (image .entry)) (r .pass .end) × (r .repeats ≡ repeats-of (rest (now (image .entry)) start .entries)) ⌝ }
+{
+    let mut table = [0u64; WORDS];
+    let mut g = nothing_yet(start);
+    loop {
+        let c = g.cursor;
+        let s = advance(image, c);
+        let Item::Record { spot: e, next } = s else {
+            let t = g.tally;
+            let n = g.repeats;
+            return FullPass {
+                pass: Pass { tally: t, end: s },
+                repeats: n,
+            };
+        };
+        g = gather_one(image, start, &mut table, g, e, next);
+        let t = g.tally;
+        if 2 <= t.records {
+            g = gather_plain(image, start, &mut table, g);
+        }
+    }
+}

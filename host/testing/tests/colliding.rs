@@ -1,0 +1,97 @@
+//! The names that are made to collide do, by the formula of docs/requests/K2.md; and the library's source has its numbers.
+use model::bits::{colliding, hash, Signature};
+use model::good_name;
+use std::collections::BTreeSet;
+use testing::colliding::Kind;
+use testing::rng::Rng;
+
+fn names_of(kind: Kind, seed: u64) -> Vec<Vec<u8>> {
+    kind.names(&mut Rng::new(seed), 12)
+}
+
+#[test]
+fn names_are_good_and_different() {
+    let mut lengths = BTreeSet::new();
+    for (kind, seed) in Kind::ALL.into_iter().flat_map(|kind| (0..40).map(move |seed| (kind, seed))) {
+        let names = names_of(kind, seed);
+        assert_eq!(names.len(), if kind == Kind::Short { 3 } else { 12 });
+        assert!(names.iter().all(|name| good_name(name)), "{kind:?}: {names:02x?}");
+        assert_eq!(names.iter().collect::<BTreeSet<_>>().len(), names.len(), "{kind:?}: {names:02x?}");
+        lengths.extend(names.iter().map(Vec::len));
+    }
+    assert!([3, 6, 7, 8, 9, 16, 31, 60].iter().all(|length| lengths.contains(length)), "{lengths:?}");
+}
+
+fn count(names: &[Vec<u8>]) -> usize {
+    colliding(names.iter().map(|name| &name[..]))
+}
+
+#[test]
+fn names_of_one_hash() {
+    for seed in 0..40 {
+        let names = names_of(Kind::Hash, seed);
+        assert!(names.iter().all(|name| hash(name) == hash(&names[0])), "{names:02x?}");
+        assert_eq!(count(&names), names.len() - 1);
+    }
+}
+
+/// All bits of a name are set by two others, neither of which does it alone.
+#[test]
+fn names_covered_by_two() {
+    for seed in 0..40 {
+        let names = names_of(Kind::Covered, seed);
+        let signed: Vec<Signature> = names.iter().map(|name| Signature::of(name)).collect();
+        for i in (2..names.len()).step_by(2) {
+            assert!(signed[i].is_set_by(&[signed[0], signed[i - 1]]), "{names:02x?}");
+            assert!(!signed[i].is_set_by(&signed[..1]) && !signed[i].is_set_by(&signed[i - 1..i]), "{names:02x?}");
+        }
+        assert!(count(&names) >= (names.len() - 1) / 2);
+    }
+}
+
+#[test]
+fn short_names() {
+    for seed in 0..40 {
+        let names = names_of(Kind::Short, seed);
+        let signed: Vec<Signature> = names.iter().map(|name| Signature::of(name)).collect();
+        assert!(signed[2].is_set_by(&signed[..2]), "{names:02x?}");
+        assert!(count(&names) >= 1);
+    }
+}
+
+/// 64 bits in each word, up to four and two to a name: of 200 names many come to bits that are set.
+#[test]
+fn words_fill_up() {
+    let names = Kind::Words.names(&mut Rng::new(1), 200);
+    let words = |name: &[u8]| (Signature::of(name).word, Signature::of(name).other);
+    assert!(names.iter().all(|name| words(name) == words(&names[0])));
+    assert!(count(&names) > 80, "{}", count(&names));
+}
+
+/// Other names hardly ever do.
+#[test]
+fn other_names_do_not_collide() {
+    let names: Vec<String> = (0..256).map(|i| format!("/f{i}")).collect();
+    assert_eq!(colliding(names.iter().map(|name| name.as_bytes())), 0);
+    // the same name again is no collision
+    assert_eq!(colliding([&b"a"[..], b"a", b"b"].into_iter()), 0);
+}
+
+#[test]
+fn the_library_has_this_table() {
+    let path = concat!(env!("CARGO_MANIFEST_DIR"), "/../../crates/reading/src/filter.rt");
+    let text = std::fs::read_to_string(path).expect("the library's table");
+    for part in [
+        "const WORDS: usize = 512;",
+        "const HASH_LIMIT: u64 = 0x1_0000_0000;",
+        "(h * 0x9E37_79B1 + byte) % HASH_LIMIT",
+        "let word = h * 0x85EB_CA77 % HASH_LIMIT / 0x80_0000;",
+        "let bits = four_bits(h * 0xC2B2_AE3D % HASH_LIMIT);",
+        "let other = h * 0x85EB_CA77 % HASH_LIMIT / 0x4000 % 512;",
+        "let more = two_bits(h * 0x85EB_CA77 % HASH_LIMIT);",
+        "bit(x / 0x400_0000) | bit(x / 0x10_0000 % 64) | bit(x / 0x4000 % 64) | bit(x / 0x100 % 64)",
+        "bit(x / 0x100 % 64) | bit(x / 4 % 64)",
+    ] {
+        assert!(text.contains(part), "no {part} in crates/reading/src/filter.rt");
+    }
+}
