@@ -24,7 +24,7 @@ use Rattle.reading.specs.Read.{first-cursor}
 use Rattle.reading.specs.Survey.{Seen}
 use Rattle.moving.specs.Kept.{later-on}
 use Rattle.recovery.specs.Sectors.{dirty-erased, dirty-same}
-use Rattle.recovery.specs.Repairs.{steps-1}
+use Rattle.planning.specs.Repairs.{steps-1}
 
 -- ---- the sectors behind those that were erased are judged as before
 

@@ -23,7 +23,7 @@ use Rattle.reading.specs.TallyLaws.{first-is, second-is}
 use Rattle.reading.specs.RuleLaws.{count-is}
 use Rattle.reading.specs.Read.{first-cursor}
 use Rattle.reading.specs.Survey.{Seen}
-use Rattle.recovery.specs.Repairs.{pair-steps, pair-head, steps-2, head-2}
+use Rattle.planning.specs.Repairs.{pair-steps, pair-head, steps-2, head-2}
 
 -- what repair 2 did, and the head that it left
 pub record Move-finished (s : Image) (h : ℕ) (m : Meter) (t : Image) (head : ℕ) (r : Meter) : Type 0 where

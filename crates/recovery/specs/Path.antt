@@ -17,7 +17,8 @@ use Rattle.reading.specs.Cursor.{look, goes-on, turn, past, settle, advance, le
 use Rattle.reading.specs.CursorLaws.{advance-on, advance-here}
 use Rattle.reading.specs.Fits.{look-inside}
 use Rattle.reading.specs.Rest.{Run, Less, advance-less, entry-of, ahead, followed, rest, rest-step}
-use Rattle.recovery.specs.Trail.{Stood, way, stood-fits, Tidy, Ahead, Off, tidy-next, ahead-back, window-kept, entry-kept, unfinished-kept, look-kept, here-again, there-again}
+use Rattle.planning.specs.Effect.{Off}
+use Rattle.recovery.specs.Trail.{Stood, way, stood-fits, Tidy, Ahead, tidy-next, ahead-back, window-kept, entry-kept, unfinished-kept, look-kept, here-again, there-again}
 
 -- ---- the records from c up to d
 

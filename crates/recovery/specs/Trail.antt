@@ -23,6 +23,7 @@ use Rattle.reading.specs.CursorLaws.{advance-on, advance-here}
 use Rattle.reading.specs.Fits.{look-inside}
 use Rattle.reading.specs.Rest.{entry-of}
 use Rattle.reading.specs.Bridge.{rec-part}
+use Rattle.planning.specs.Effect.{Off}
 use Rattle.recovery.specs.Kept.{next-kept, kind-dropped}
 
 -- ---- a step onto a record
@@ -81,10 +82,6 @@ pub record Tidy (c : Cursor) : Type 0 where
 -- address a is still to be read from c on
 abbrev pub Ahead : Cursor → ℕ → Type 0
 Ahead c a = ((c .at ≤ a) × (a < c .end)) ⊎ (a < c .room)
-
--- address a is off the n bytes from i on
-abbrev pub Off : ℕ → ℕ → ℕ → Type 0
-Off a i n = (a < i) ⊎ (i + n ≤ a)
 
 module _ (image : Image) (c : Cursor) (e : Spot) (behind : Cursor) (tidy : Tidy c) (h : advance image c ≡ Item.Record e behind) where
   pub tidy-next : Tidy behind

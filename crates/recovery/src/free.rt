@@ -19,7 +19,7 @@ ghost use Rattle.flash.specs.Did.{Did};
 ghost use Rattle.reading.specs.FreeLaws.{In-image};
 ghost use Rattle.writing.specs.Counts.{Counts};
 ghost use Rattle.recovery.specs.Readable.{Readable};
-ghost use Rattle.recovery.specs.Repairs.{steps-1};
+ghost use Rattle.planning.specs.Repairs.{steps-1};
 
 // The first start of a sector that is not below a.
 fn ceiling(a: usize) -> usize

@@ -1,4 +1,4 @@
-//! Document 01 with requests K14 and K6 of document 02, read literally, as a program:
+//! Document 01 with requests K14, K6 and K3 of document 02, read literally, as a program:
 //! what each call answers and leaves.
 //!
 //! One module for each section of 01; quoted text is the documents' own, a request's
@@ -22,6 +22,7 @@ pub mod place;
 pub mod plan;
 pub mod repair;
 pub mod rules;
+pub mod space;
 pub mod sweep;
 pub mod torn;
 pub mod write;
@@ -34,3 +35,4 @@ pub use head::{find_head, walk};
 pub use place::{put_room, sizes_behind, Place, Placed};
 pub use plan::{planned, Ask, Plan};
 pub use rules::{read_image, settled};
+pub use space::{space, space_told, Space};

@@ -5,6 +5,7 @@ use crate::histories;
 use crate::orders::{self, ORDERS};
 use crate::required::{REQUIRED, SOURCES};
 use crate::rooms::{self, ROOM_STATES};
+use crate::spaces;
 use model::*;
 use std::collections::BTreeMap;
 use std::fmt::Write as _;
@@ -93,7 +94,8 @@ impl Collection {
         let tags = REQUIRED.iter().chain(&BYTE_TAGS).chain(&ROOM_TAGS).chain(&ROOM_STATES).chain(&ORDERS);
         let tags = tags.map(|t| format!("tag {t}"));
         let sources = SOURCES.iter().map(|s| format!("source {s}"));
-        answers.chain(tags).chain(sources).filter(|w| self.count(w) < EACH).collect()
+        let lacking = answers.chain(tags).chain(sources).filter(|w| self.count(w) < EACH);
+        lacking.chain(spaces::lacking(self)).collect()
     }
 
     /// The coverage: calls by answers, then tags, sources and histories.
@@ -282,6 +284,7 @@ pub fn collect() -> Collection {
     rooms::add(&mut r, &mut c);
     histories::add(&mut r, &mut c, HISTORIES);
     orders::add(&mut c);
+    spaces::add(&mut c);
     c
 }
 

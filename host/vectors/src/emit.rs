@@ -143,7 +143,9 @@ pub fn file(vectors: &[(usize, &Vector)]) -> String {
          use Rattle.spec.specs.History.{Request, put, remove, sweep, mount, get, list}\n\
          use Rattle.spec.specs.Numbers.{of-write, of-mount, of-sweep, of-get, of-list}\n\
          use Rattle.spec.specs.Run.{fill, lit, build, call, file, entry, report, extent}\n\
-         use Rattle.spec.specs.Run.{check, check-format, check-part, check-place, check-room, check-history}\n",
+         use Rattle.spec.specs.Run.{check, check-format, check-part, check-place, check-room, check-history}\n\
+         use Rattle.spec.specs.Space as Space\n\
+         use Rattle.spec.specs.Run.{check-space}\n",
     );
     for (i, v) in vectors {
         write!(s, "\nv{i} : {} ≡ true\nunfolding {}\nv{i} = refl\n", v.text, v.function).unwrap();

@@ -3,6 +3,7 @@ use crate::computed::{check_edited, shared, Edit};
 use crate::emit::Vector;
 use crate::inside_faults::INSIDE_FAULTS;
 use crate::room_faults::ROOM_FAULTS;
+use crate::space_faults::SPACE_FAULTS;
 use std::path::Path;
 
 pub struct Fault {
@@ -239,6 +240,7 @@ pub fn run(spec: &Path, vectors: &[Vector], jobs: usize, only: Option<&str>) -> 
         .iter()
         .chain(INSIDE_FAULTS)
         .chain(ROOM_FAULTS)
+        .chain(SPACE_FAULTS)
         .filter(|f| only.is_none_or(|what| f.what == what))
         .collect();
     let results = shared(&faults, jobs, |job, fault| {

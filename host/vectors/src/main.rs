@@ -16,6 +16,8 @@ mod orders;
 mod required;
 mod room_faults;
 mod rooms;
+mod space_faults;
+mod spaces;
 
 use collect::Collection;
 use emit::Vector;
