@@ -38,7 +38,8 @@ fn gather_one(
     next: Cursor,
 ) -> Gathered
     requires { ⌜ Cursor-sound (now image) start × Noting (now image) start e next (g .tally) (g .repeats) (now table) ⌝ }
-    ensures { λ r. ⌜ Gathering (now (image .entry)) start (r .cursor) (r .tally) (r .repeats) (now (table .exit)) × (r .cursor ≡ next) ⌝ }
+    ensures { λ r. ⌜ Gathering (now (image .entry)) start (r .cursor) (r .tally) (r .repeats) (now (table .exit))
+        × (r .cursor ≡ next) ⌝ }
 {
     let t = g.tally;
     let n = g.repeats;
