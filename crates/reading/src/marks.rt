@@ -1,4 +1,4 @@
-// A file's name in one pass over its bytes: whether it is a good one, and its bits in the table.
+// A file's name in one pass over its bytes: whether it is a good one, its bits in the table, and its hash.
 use crate::NameMarks;
 use crate::Spot;
 use crate::filter::mixed;
@@ -52,6 +52,7 @@ fn marks(name: &[u8]) -> NameMarks
     NameMarks {
         fine: good,
         signature: s,
+        hash: h,
     }
 }
 

@@ -82,6 +82,7 @@ returns c =
       fine = c .before .both2 .ensures ∙ name-ok-by s (l .fine) (good .result) (start .pre) a (good .ensures);
       bits = c .signature-by .ensures .0 ∙ ap signature-by h;
       inside = c .signature-by .ensures .1;
+      hash = h;
     }
 
 pub marks-spec : {M : Type 1} → statement M
