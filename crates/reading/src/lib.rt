@@ -128,12 +128,18 @@ pub struct Pass {
     pub end: Item,
 }
 
+// Whether a file was found, and where. A loop carries this and not Found, which the compiler would copy at each turn.
+pub struct Sight {
+    pub seen: bool,
+    pub spot: Spot,
+}
+
 // What is gathered at a cursor: the tally of the records before it, what their names tell, and the first file of the hash that is wanted.
 pub struct Gathered {
     pub cursor: Cursor,
     pub tally: Tally,
     pub repeats: Repeats,
-    pub found: Found,
+    pub sight: Sight,
 }
 
 // The same of a whole chain, and how the chain ends.

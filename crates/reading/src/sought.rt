@@ -1,6 +1,7 @@
 // The file of a name, found in the pass of a judgement: the pass keeps the first file whose name has the same hash.
 use crate::Cursor;
 use crate::Found;
+use crate::Sight;
 use crate::Spot;
 use crate::files::file_named;
 use crate::files::has_name;
@@ -16,17 +17,38 @@ ghost use Rattle.reading.specs.Fold.{Whole};
 ghost use Rattle.reading.specs.FileLaws.{is-file};
 ghost use Rattle.reading.specs.Seek.{found-in, Found-whole};
 ghost use Rattle.reading.specs.Filter.{hash-from};
-ghost use Rattle.reading.specs.Sought.{hash-of, has-hash, found-or, Sought};
+ghost use Rattle.reading.specs.Sought.{hash-of, has-hash, not-seen, found-of, seen-or, Sought};
 
-// What is found; or e, where it is the first that fits.
-pub fn found_or(fits: bool, f: Found, e: Spot) -> Found
-    ensures { λ r. ⌜ r ≡ found-or fits f e ⌝ }
+pub fn not_seen() -> Sight
+    ensures { λ r. ⌜ r ≡ not-seen ⌝ }
+{
+    Sight {
+        seen: false,
+        spot: Spot { at: 0, n: 0, d: 0 },
+    }
+}
+
+pub fn found_of(f: Sight) -> Found
+    ensures { λ r. ⌜ r ≡ found-of f ⌝ }
+{
+    let e = f.spot;
+    if f.seen {
+        return Found::At(e);
+    }
+    Found::Nothing
+}
+
+// What was seen; or e, where it is the first that fits.
+pub fn seen_or(fits: bool, f: Sight, e: Spot) -> Sight
+    ensures { λ r. ⌜ r ≡ seen-or fits f e ⌝ }
 {
     if fits {
-        return match f {
-            Found::At(x) => Found::At(x),
-            Found::Nothing => Found::At(e),
-        };
+        if !f.seen {
+            return Sight {
+                seen: true,
+                spot: e,
+            };
+        }
     }
     f
 }
@@ -52,13 +74,13 @@ fn fits(image: &[u8], wanted: u64, e: Spot) -> bool
     false
 }
 
-// What is found, with one record more.
-pub fn found_with(image: &[u8], wanted: u64, f: Found, e: Spot) -> Found
+// What was seen, with one record more.
+pub fn seen_with(image: &[u8], wanted: u64, f: Sight, e: Spot) -> Sight
     requires { ⌜ Whole (now image) e ⌝ }
     ensures { λ r. ⌜ r
-        ≡ found-or (is-file (entry-of (now (image .entry)) e) && has-hash wanted (entry-of (now (image .entry)) e)) f e ⌝ }
+        ≡ seen-or (is-file (entry-of (now (image .entry)) e) && has-hash wanted (entry-of (now (image .entry)) e)) f e ⌝ }
 {
-    found_or(fits(image, wanted, e), f, e)
+    seen_or(fits(image, wanted, e), f, e)
 }
 
 // The file of this name: f, which has the name's hash, unless the two names only share it.

@@ -1,0 +1,12 @@
+-- found_of: by its flag.
+use Rattle.reading.proofs.sought.found_of.Statement.{statement}
+use Rattle.reading.proofs.sought.found_of.Tie as tie
+
+returns : tie.Need-returns
+returns c = rw (c .if1 .taken)
+
+returns-2 : tie.Need-returns-2
+returns-2 c = rw (c .if1 .left)
+
+pub found-of-spec : {M : Type 1} → statement M
+found-of-spec = tie.close (tie.spec returns returns-2)
