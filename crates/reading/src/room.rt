@@ -103,16 +103,16 @@ fn stow_record(image: &[u8], place: Place, e: Spot, name: &[u8], stowed: Stowed)
 }
 
 // The largest size, with that of a record: it counts if the record is a file of another name. Only a larger one is looked at.
-fn larger(image: &[u8], e: Spot, name: &[u8], size: usize, largest: usize) -> usize
-    requires { ⌜ Whole (now image) e ⌝ }
+fn larger(image: &[u8], x: Spot, name: &[u8], size: usize, largest: usize) -> usize
+    requires { ⌜ Whole (now image) x ⌝ }
     ensures { λ r. ⌜ r
-        ≡ larger (is-file (entry-of (now (image .entry)) e)) (has-name (now (name .entry)) (entry-of (now (image .entry)) e)) size largest ⌝ }
+        ≡ larger (is-file (entry-of (now (image .entry)) x)) (has-name (now (name .entry)) (entry-of (now (image .entry)) x)) size largest ⌝ }
 {
     if size <= largest {
         return largest;
     }
-    if is_file(image, e) {
-        if has_name(image, e, name) {
+    if is_file(image, x) {
+        if has_name(image, x, name) {
             return largest;
         }
         return size;

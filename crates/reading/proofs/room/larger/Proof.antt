@@ -12,7 +12,7 @@ use Rattle.reading.proofs.room.larger.Tie as tie
 returns : tie.Need-returns
 returns c =
     let a = c .before .before .before .args in
-    let x = entry-of (a .image .now) (a .e) in
+    let x = entry-of (a .image .now) (a .x) in
     larger-not (is-file x) (has-name (a .name .now) x) (a .size) (a .largest) (c .if1 .taken)
 
 is-file-requires : tie.Need-is-file-requires
