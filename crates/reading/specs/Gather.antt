@@ -81,7 +81,9 @@ module _ {image : List ℕ} {start : Cursor} {wanted : ℕ} where
           passing = passing-step (w .state .passing) (w .passes) q;
           gone = subst (λ (i : ℕ). Gone image start c i) k (gone-more (w .state .gone) (w .passes));
           carried = subst (λ (i : ℕ). Carried (front image start i) m after) k (rw l h);
-          sought = subst (λ (i : ℕ). Sought image wanted (front image start i) (found-of f)) k (rw (l, o) (sought-more e (w .passes .whole) (g .sight) (w .state .sought)));
+          sought =
+              subst (λ (i : ℕ). Sought image wanted (front image start i) (found-of f)) k
+              (rw (l, o) (sought-more e (w .passes .whole) (g .sight) (w .state .sought)));
         }
 
     -- a plain one behind the second, a file or not

@@ -144,4 +144,5 @@ module _ {image : List ℕ} (name : List ℕ) {es : List Entry} where
   pub named-some : {e : Spot} → Sought image (hash-from 0 name) es (Found.At e) → has-name name (entry-of image e) ≡ true
       → some (entry-of image e) ≡ first-such (has-name name) (keep is-file es)
   named-some {e} h k =
-      sym (some-narrow (has-hash (hash-from 0 name)) (has-name name) (same-hash name) (entry-of image e) k (keep is-file es) (sym (h .first)))
+      let p = has-hash (hash-from 0 name) in
+      sym (some-narrow p (has-name name) (same-hash name) (entry-of image e) k (keep is-file es) (sym (h .first)))

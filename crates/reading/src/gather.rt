@@ -1,5 +1,5 @@
-// The one pass of a judgement: the tally of all records, what their names tell, and the first file of a hash. Plain records are gone over by themselves, so that the
-// compiler keeps all that is carried along in registers.
+// The one pass of a judgement: the tally of all records, what their names tell, and the first file of a hash. Plain records are gone over
+// by themselves, so that the compiler keeps most of what is carried along in registers.
 use crate::Cursor;
 use crate::FullPass;
 use crate::Gathered;
@@ -101,7 +101,8 @@ fn gather_plain(
 ) -> Gathered
     requires { ⌜ Cursor-sound (now image) start × Gathering (now image) start wanted first (now table)
         × (2 ≤ first .tally .records) ⌝ }
-    ensures { λ r. ⌜ Gathering (now (image .entry)) start wanted r (now (table .exit)) × (left (r .cursor) ≤ left (first .cursor)) ⌝ }
+    ensures { λ r. ⌜ Gathering (now (image .entry)) start wanted r (now (table .exit))
+        × (left (r .cursor) ≤ left (first .cursor)) ⌝ }
 {
     let mut g = first;
     loop {

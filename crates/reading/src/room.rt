@@ -106,7 +106,8 @@ fn stow_record(image: &[u8], place: Place, e: Spot, name: &[u8], stowed: Stowed)
 fn larger(image: &[u8], x: Spot, name: &[u8], size: usize, largest: usize) -> usize
     requires { ⌜ Whole (now image) x ⌝ }
     ensures { λ r. ⌜ r
-        ≡ larger (is-file (entry-of (now (image .entry)) x)) (has-name (now (name .entry)) (entry-of (now (image .entry)) x)) size largest ⌝ }
+        ≡ larger (is-file (entry-of (now (image .entry)) x)) (has-name (now (name .entry)) (entry-of (now (image .entry)) x))
+        size largest ⌝ }
 {
     if size <= largest {
         return largest;

@@ -22,10 +22,14 @@ has-name-requires : tie.Need-has-name-requires
 has-name-requires c κs = search needs
 
 returns-2 : tie.Need-returns-2
-returns-2 c = rw (flag (c .before .before .before .is-file .ensures) (c .before .before .if2 .taken), flag (c .before .has-name .ensures) (c .if3 .taken))
+returns-2 c =
+    let c2 = c .before .before in
+    rw (flag (c2 .before .is-file .ensures) (c2 .if2 .taken), flag (c .before .has-name .ensures) (c .if3 .taken))
 
 returns-3 : tie.Need-returns-3
-returns-3 c = rw (flag (c .before .before .before .is-file .ensures) (c .before .before .if2 .taken), flag (c .before .has-name .ensures) (c .if3 .left)) (omega arith)
+returns-3 c =
+    let c2 = c .before .before in
+    rw (flag (c2 .before .is-file .ensures) (c2 .if2 .taken), flag (c .before .has-name .ensures) (c .if3 .left)) (omega arith)
 
 returns-4 : tie.Need-returns-4
 returns-4 c = rw (flag (c .before .is-file .ensures) (c .if2 .left))

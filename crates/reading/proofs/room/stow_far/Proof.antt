@@ -50,10 +50,14 @@ size-requires c κs =
     (omega (arith, w .0 .onward .name), w .0 .onward .data-len)
 
 larger-requires : tie.Need-larger-requires Inv-loop μ-loop
-larger-requires c κs = (rw (c .before .before .before .before .s .given .1) at (c .before .before .before .before .before .before .near .ensures)) .0 .whole
+larger-requires c κs =
+    let c4 = c .before .before .before .before in
+    (rw (c4 .s .given .1) at (c4 .before .before .near .ensures)) .0 .whole
 
 loop-less : tie.Need-loop-less Inv-loop μ-loop
-loop-less c = (rw (c .before .before .before .before .before .s .given .1) at (c .before .before .before .before .before .before .before .near .ensures)) .0 .onward .less
+loop-less c =
+    let c5 = c .before .before .before .before .before in
+    (rw (c5 .s .given .1) at (c5 .before .before .near .ensures)) .0 .onward .less
 
 loop-again : tie.Need-loop-again Inv-loop μ-loop
 loop-again c =
