@@ -1,7 +1,7 @@
 -- The first file whose name has a hash: what the pass of a judgement keeps for a call that asks for a name, and what it tells of the name.
 use Prim.Native.Nat.{ℕ}
-use mathlib.Core.Path.{_≡_, refl, sym, ap, _∙_}
-use mathlib.Core.Bool.{Bool, true, false, _&&_, not}
+use mathlib.Core.Path.{_≡_, refl, sym, ap, subst, _∙_}
+use mathlib.Core.Bool.{Bool, true, false, _&&_}
 use mathlib.Core.Option.{Option, none, some}
 use mathlib.Core.List.{List, [], _∷_, _++_}
 use lib.Dec.{eqb}
@@ -27,18 +27,22 @@ abbrev pub has-hash : ℕ → Entry → Bool
 has-hash h e = eqb (hash-of e) h
 
 abbrev pub not-seen : Sight
-not-seen = record { seen = false; spot = record { at = 0; n = 0; d = 0 } }
+not-seen = record { seen = 0; spot = record { at = 0; n = 0; d = 0 } }
 
 abbrev pub found-at : Bool → Spot → Found
-found-at true e = Found.At e
-found-at false e = Found.Nothing
+found-at true e = Found.Nothing
+found-at false e = Found.At e
 
 abbrev pub found-of : Sight → Found
-found-of f = found-at (f .seen) (f .spot)
+found-of f = found-at (eqb (f .seen) 0) (f .spot)
+
+abbrev pub seen-by : Bool → Sight → Spot → Sight
+seen-by true f e = record { seen = 1; spot = e }
+seen-by false f e = f
 
 -- what was seen; or e, where it is the first that fits
 abbrev pub seen-or : Bool → Sight → Spot → Sight
-seen-or fits f e = elim (fits && not (f .seen)) [ true ↦ record { seen = true; spot = e } | false ↦ f ]
+seen-or fits f e = seen-by (fits && eqb (f .seen) 0) f e
 
 -- f is the first file among es whose name has this hash
 pub record Sought (image : List ℕ) (wanted : ℕ) (es : List Entry) (f : Found) : Type 0 where
@@ -79,15 +83,20 @@ module _ (p q : Entry → Bool) (e : Entry) where
         ∙ sym (ap (λ (o : Option Entry). or-else (q e && p e) o e) (ap (first-such p) (keep-no q x es g)))
 
 module _ {image : List ℕ} (e : Spot) (w : Whole image e) where
-  found-is : (t s : Bool) (f : Sight) → f .seen ≡ s
+  found-is : (t s : Bool) (f : Sight) → eqb (f .seen) 0 ≡ s
       → found-in image (found-of (seen-or t f e)) ≡ or-else t (found-in image (found-of f)) (entry-of image e)
-  found-is true true f h = rw h
-  found-is true false f h = rw h
+  found-is true true f h =
+      ap (λ (b : Bool). found-in image (found-of (seen-by b f e))) h
+      ∙ sym (ap (λ (b : Bool). or-else true (found-in image (found-at b (f .spot))) (entry-of image e)) h)
+  found-is true false f h =
+      ap (λ (b : Bool). found-in image (found-of (seen-by b f e))) h ∙ ap (λ (b : Bool). found-in image (found-at b (f .spot))) h
+      ∙ sym (ap (λ (b : Bool). or-else true (found-in image (found-at b (f .spot))) (entry-of image e)) h)
   found-is false s f h = refl
 
-  found-whole : (t s : Bool) (f : Sight) → f .seen ≡ s → Found-whole image (found-of f) → Found-whole image (found-of (seen-or t f e))
-  found-whole true true f h g = rw h (rw h at g)
-  found-whole true false f h g = rw h w
+  found-whole : (t s : Bool) (f : Sight) → eqb (f .seen) 0 ≡ s → Found-whole image (found-of f)
+      → Found-whole image (found-of (seen-or t f e))
+  found-whole true true f h g = subst (λ (b : Bool). Found-whole image (found-of (seen-by b f e))) (sym h) w
+  found-whole true false f h g = subst (λ (b : Bool). Found-whole image (found-of (seen-by b f e))) (sym h) g
   found-whole false s f h g = g
 
   pub sought-more : {wanted : ℕ} {es : List Entry} (f : Sight) → Sought image wanted es (found-of f)

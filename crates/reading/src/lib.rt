@@ -128,9 +128,10 @@ pub struct Pass {
     pub end: Item,
 }
 
-// Whether a file was found, and where. A loop carries this and not Found, which the compiler would copy at each turn.
+// Where a file was found; seen is 0 where none was. A loop carries this and not Found, for the compiler copies an enum, and the bytes
+// beside a bool, at each turn.
 pub struct Sight {
-    pub seen: bool,
+    pub seen: usize,
     pub spot: Spot,
 }
 

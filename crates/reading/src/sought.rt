@@ -23,7 +23,7 @@ pub fn not_seen() -> Sight
     ensures { λ r. ⌜ r ≡ not-seen ⌝ }
 {
     Sight {
-        seen: false,
+        seen: 0,
         spot: Spot { at: 0, n: 0, d: 0 },
     }
 }
@@ -32,10 +32,10 @@ pub fn found_of(f: Sight) -> Found
     ensures { λ r. ⌜ r ≡ found-of f ⌝ }
 {
     let e = f.spot;
-    if f.seen {
-        return Found::At(e);
+    if f.seen == 0 {
+        return Found::Nothing;
     }
-    Found::Nothing
+    Found::At(e)
 }
 
 // What was seen; or e, where it is the first that fits.
@@ -43,11 +43,8 @@ pub fn seen_or(fits: bool, f: Sight, e: Spot) -> Sight
     ensures { λ r. ⌜ r ≡ seen-or fits f e ⌝ }
 {
     if fits {
-        if !f.seen {
-            return Sight {
-                seen: true,
-                spot: e,
-            };
+        if f.seen == 0 {
+            return Sight { seen: 1, spot: e };
         }
     }
     f
