@@ -7,6 +7,7 @@ use crate::files::file_named;
 use crate::files::has_name;
 use crate::files::is_file;
 use crate::filter::hash;
+use crate::marks::both;
 ghost use mathlib.Core.Path.{_≡_};
 ghost use mathlib.Core.Bool.{_&&_};
 ghost use Rattle.spec.specs.Basics.{keep, first-such};
@@ -38,16 +39,29 @@ pub fn found_of(f: Sight) -> Found
     Found::At(e)
 }
 
-// What was seen; or e, where it is the first that fits.
+// What was seen; or e, where it is the first that fits. Field by field, so that the compiler keeps them apart.
 pub fn seen_or(fits: bool, f: Sight, e: Spot) -> Sight
     ensures { λ r. ⌜ r ≡ seen-or fits f e ⌝ }
 {
-    if fits {
-        if f.seen == 0 {
-            return Sight { seen: 1, spot: e };
-        }
+    if both(fits, f.seen == 0) {
+        return Sight {
+            seen: 1,
+            spot: Spot {
+                at: e.at,
+                n: e.n,
+                d: e.d,
+            },
+        };
     }
-    f
+    let x = f.spot;
+    Sight {
+        seen: f.seen,
+        spot: Spot {
+            at: x.at,
+            n: x.n,
+            d: x.d,
+        },
+    }
 }
 
 // The hash of the record's name.
