@@ -3,12 +3,9 @@ use crate::Written;
 use crate::carry::ended;
 use crate::door::admitted_named;
 use flash::Meter;
-use reading::Cursor;
 use reading::Found;
 use reading::Read;
 use reading::Survey;
-use reading::files::file_named;
-use reading::image::first_cursor;
 use reading::room::has_room;
 use spec::Refusal;
 use spec::Status;
@@ -17,30 +14,26 @@ use writing::write_file;
 ghost use mathlib.Core.Path.{_≡_};
 ghost use mathlib.Core.Bool.{true};
 ghost use lib.ListN.{length};
-ghost use Rattle.spec.specs.Basics.{keep, first-such};
 ghost use Rattle.spec.specs.Record.{size-of};
-ghost use Rattle.spec.specs.Files.{has-name, file-named};
+ghost use Rattle.spec.specs.Files.{file-named};
 ghost use Rattle.spec.specs.Place.{fits};
 ghost use Rattle.spec.specs.Write.{put-steps};
 ghost use Rattle.spec.specs.Numbers.{outcome-of};
 ghost use Rattle.spec.specs.Answers.{carry-out, put-into, put};
+ghost use Rattle.laws.specs.Length.{In-range};
 ghost use Rattle.flash.specs.Did.{Did};
 ghost use Rattle.record.specs.Within.{Name-length};
-ghost use Rattle.reading.specs.Cursor.{Cursor-sound};
-ghost use Rattle.reading.specs.Rest.{rest};
-ghost use Rattle.reading.specs.FileLaws.{is-file};
-ghost use Rattle.reading.specs.Read.{reading-of};
+ghost use Rattle.reading.specs.Seek.{found-in, Found-whole};
+ghost use Rattle.reading.specs.Read.{reading-of, File-told};
 ghost use Rattle.reading.specs.Accepted.{Settled};
 ghost use Rattle.writing.specs.Old.{old-of, Lies};
 ghost use Rattle.lilota.specs.Numbers.{written, Written-told};
 
-// The file that a put of this name replaces.
-fn old_file(image: &[u8], start: Cursor, name: &[u8]) -> Old
-    requires { ⌜ Cursor-sound (now image) start ⌝ }
-    ensures { λ r. ⌜ (r ≡ old-of (first-such (has-name (now (name .entry))) (keep is-file (rest (now (image .entry)) start .entries))))
-        × Lies r (length (now (image .entry))) ⌝ }
+// The file that a put replaces: the one that was found.
+fn old_file(image: &[u8], f: Found) -> Old
+    requires { ⌜ Found-whole (now image) f × In-range (length (now image)) ⌝ }
+    ensures { λ r. ⌜ (r ≡ old-of (found-in (now (image .entry)) f)) × Lies r (length (now (image .entry))) ⌝ }
 {
-    let f = file_named(image, start, name);
     let Found::At(e) = f else {
         return Old::None;
     };
@@ -52,22 +45,30 @@ fn old_file(image: &[u8], start: Cursor, name: &[u8]) -> Old
 }
 
 // Put's steps, where there is room.
-fn replace(image: &mut [u8], s: Survey, name: &[u8], content: &[u8], m: Meter) -> Meter
+fn replace(image: &mut [u8], s: Survey, f: Found, name: &[u8], content: &[u8], m: Meter) -> Meter
     requires { ⌜ Settled (now image) s × Name-length (length (now name))
-        × (fits (s .place) (size-of (length (now name)) (length (now content))) ≡ true) × (m .asked ≡ 0) ⌝ }
+        × (fits (s .place) (size-of (length (now name)) (length (now content))) ≡ true) × (m .asked ≡ 0)
+        × File-told (now image) (now name) s f ⌝ }
     ensures { λ r. ⌜ Did (now (image .entry)) m
         (put-steps (s .place) (file-named (now (name .entry)) (reading-of (now (image .entry)) s .entries))
         (now (name .entry)) (now (content .entry)))
         (now (image .exit)) r ⌝ }
 {
     let place = s.place;
-    let old = old_file(image, first_cursor(image, place.head), name);
+    let old = old_file(image, f);
     write_file(image, place, old, name, content, m)
 }
 
 // The put on an image that was read: no room, or the steps.
-fn put_from(image: &mut [u8], s: Survey, name: &[u8], content: &[u8], allowance: usize) -> Written
-    requires { ⌜ Settled (now image) s × Name-length (length (now name)) ⌝ }
+fn put_from(
+    image: &mut [u8],
+    s: Survey,
+    f: Found,
+    name: &[u8],
+    content: &[u8],
+    allowance: usize,
+) -> Written
+    requires { ⌜ Settled (now image) s × Name-length (length (now name)) × File-told (now image) (now name) s f ⌝ }
     ensures { λ r. ⌜ (outcome-of (written r) (now (image .exit))
         ≡ carry-out (now (image .entry)) allowance
         (put-into (now (name .entry)) (now (content .entry)) (reading-of (now (image .entry)) s)))
@@ -78,7 +79,7 @@ fn put_from(image: &mut [u8], s: Survey, name: &[u8], content: &[u8], allowance:
             allowance: allowance,
             asked: 0,
         };
-        return ended(replace(image, s, name, content, m));
+        return ended(replace(image, s, f, name, content, m));
     }
     Written::Refused(Refusal { number: 28 })
 }
@@ -89,9 +90,11 @@ pub fn put(image: &mut [u8], name: &[u8], content: &[u8], allowance: usize) -> W
         ≡ put (now (image .entry)) (now (name .entry)) (now (content .entry)) allowance)
         × Written-told r ⌝ }
 {
-    let x = admitted_named(image, name);
+    let d = admitted_named(image, name);
+    let x = d.read;
+    let f = d.file;
     match x {
-        Read::Good(s) => put_from(image, s, name, content, allowance),
+        Read::Good(s) => put_from(image, s, f, name, content, allowance),
         Read::Refused(y) => Written::Refused(y),
     }
 }
