@@ -8,3 +8,6 @@ pub mod Put
 pub mod Remove
 pub mod Mount
 pub mod Sweep
+pub mod Planned
+pub mod PlanMount
+pub mod PlanSweep

@@ -17,8 +17,11 @@ use Rattle.lilota.specs.Look.{named-file}
 use Rattle.reading.specs.Accepted.{Settled}
 
 -- what is done with the file that was found
-module _ (image : Image) (k : ℕ) (s : Survey) (name : List ℕ) (w : Settled image s) (f : Found)
+module _ (image : Image) (s : Survey) (name : List ℕ) (w : Settled image s) (f : Found)
     (q : found-in image f ≡ first-such (has-name name) (keep is-file (reading-of image s .entries))) where
-  pub found-file : (o : Option Entry) → found-in image f ≡ o
+  pub found-plan : (o : Option Entry) → found-in image f ≡ o → found removing o ≡ file-of name removing (reading-of image s)
+  found-plan o e = ap (found removing) (sym e ∙ named-file image s w f name q)
+
+  pub found-file : (k : ℕ) (o : Option Entry) → found-in image f ≡ o
       → carry-out image k (found removing o) ≡ carry-out image k (file-of name removing (reading-of image s))
-  found-file o e = ap (λ (x : Option Entry). carry-out image k (found removing x)) (sym e ∙ named-file image s w f name q)
+  found-file k o e = ap (carry-out image k) (found-plan o e)

@@ -6,6 +6,11 @@ mod door;
 pub mod get;
 pub mod list;
 pub mod mount;
+pub mod plan_mount;
+pub mod plan_put;
+pub mod plan_remove;
+pub mod plan_sweep;
+mod planned;
 pub mod put;
 pub mod remove;
 pub mod sweep;
@@ -41,6 +46,24 @@ pub enum Swept {
     Done { moves: usize, steps: usize },
     Cut { moves: usize, steps: usize },
     Refused(Refusal),
+}
+
+// What a planned put or remove answers: as the call itself does with enough allowance; and how many steps it handed out.
+pub struct PlannedWrite {
+    pub answer: Written,
+    pub handed: usize,
+}
+
+// What a planned mount answers: as the call itself does with enough allowance; and how many steps it handed out.
+pub struct PlannedMount {
+    pub answer: Mounted,
+    pub handed: usize,
+}
+
+// What a planned sweep answers, and how many steps it handed out.
+pub struct PlannedSweep {
+    pub answer: Swept,
+    pub handed: usize,
 }
 
 // Where a file's bytes stand. The answer is 0 for a file that is there.

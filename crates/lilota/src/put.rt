@@ -35,7 +35,7 @@ ghost use Rattle.writing.specs.Old.{old-of, Lies};
 ghost use Rattle.lilota.specs.Numbers.{written, Written-told};
 
 // The file that a put of this name replaces.
-fn old_file(image: &[u8], start: Cursor, name: &[u8]) -> Old
+pub fn old_file(image: &[u8], start: Cursor, name: &[u8]) -> Old
     requires { ⌜ Cursor-sound (now image) start ⌝ }
     ensures { λ r. ⌜ (r ≡ old-of (first-such (has-name (now (name .entry))) (keep is-file (rest (now (image .entry)) start .entries))))
         × Lies r (length (now (image .entry))) ⌝ }

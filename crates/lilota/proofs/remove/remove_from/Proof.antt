@@ -33,7 +33,7 @@ returns c =
     let a = c8 .args in
     let q = rw (c2 .before .first-cursor .ensures) at (c2 .file-named .ensures .0) in (
       refused (a .image .now) (a .allowance) (numbered 2)
-          ∙ found-file (a .image .now) (a .allowance) (a .s) (a .name .now) (c8 .pre) (c2 .file-named .result) q none
+          ∙ found-file (a .image .now) (a .s) (a .name .now) (c8 .pre) (c2 .file-named .result) q (a .allowance) none
           (ap (found-in (a .image .now)) (c .enum-told .given .1)),
       no-file,
     )
@@ -58,7 +58,7 @@ returns-2 c =
     let q = rw (c9 .first-cursor .ensures) at (c8 .file-named .ensures .0) in
     rw (c .ended .ensures) (
       carried (a .allowance) refl refl (c .before .before .before .set-status .ensures)
-          ∙ found-file (a .image .now) (a .allowance) (a .s) (a .name .now) (c14 .pre) (c8 .file-named .result) q
+          ∙ found-file (a .image .now) (a .s) (a .name .now) (c14 .pre) (c8 .file-named .result) q (a .allowance)
           (some (entry-of (a .image .now) (f .0 .0))) (ap (found-in (a .image .now)) (f .1)),
       spent-told (c .before .before .before .set-status .result),
     )

@@ -1,0 +1,14 @@
+pub mod Handed
+pub mod Bytes
+pub mod Build
+pub mod File
+pub mod Close
+pub mod Place
+pub mod Walk
+pub mod Copy
+pub mod Moves
+pub mod Sweep
+pub mod Repairs
+pub mod Superseded
+pub mod Mount
+pub mod Windows
