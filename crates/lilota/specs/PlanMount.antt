@@ -23,8 +23,8 @@ use Rattle.reading.specs.declared.Judged.{Judged}
 use Rattle.reading.specs.declared.Survey.{Survey}
 use Rattle.reading.specs.declared.Judgement.{Judgement}
 use Rattle.reading.specs.Read.{reading-of, judged-as}
-use Rattle.planner.specs.declared.Window.{Window}
-use Rattle.planner.specs.Handed.{Handed}
+use Rattle.window.specs.declared.Window.{Window}
+use Rattle.window.specs.Handed.{Handed}
 use Rattle.lilota.specs.Planned.{handing, planned-out}
 
 -- the survey is the reading of an image of a good length

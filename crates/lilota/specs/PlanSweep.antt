@@ -25,7 +25,7 @@ use Rattle.reading.specs.Read.{first-cursor, reading-of}
 use Rattle.reading.specs.RuleLaws.{count-is}
 use Rattle.reading.specs.Standing.{stands}
 use Rattle.reading.specs.Accepted.{Accepted, place-sound}
-use Rattle.planner.specs.declared.Window.{Window}
+use Rattle.window.specs.declared.Window.{Window}
 use Rattle.planner.specs.Moves.{Walkable}
 use Rattle.planner.specs.Sweep.{Moves-handed}
 use Rattle.lilota.specs.Planned.{handing, planned-out}

@@ -14,9 +14,9 @@ use Rattle.spec.specs.Numbers.{Numbers, of-write, of-mount, of-sweep, refusal}
 use Rattle.spec.specs.Door.{accepted, admitted, admitted-named}
 use Rattle.spec.specs.Answers.{Plan, doing, put-into, put-plan, file-of, file-plan, removing, remove-plan, sweep-of, sweep-plan, mount-of, mount-plan}
 use Rattle.spec.specs.Planner.{Slices, shortest, window, filled-with, Handing, hand-out, Writing, planned}
-use Rattle.planner.specs.declared.Window.{Window}
-use Rattle.planner.specs.Handed.{hand-all, Handed}
-use Rattle.planner.specs.Windows.{window-handed, window-length}
+use Rattle.window.specs.declared.Window.{Window}
+use Rattle.window.specs.Handed.{hand-all, Handed}
+use Rattle.window.specs.Windows.{window-handed, window-length}
 use Rattle.lilota.specs.declared.Written.{Written}
 use Rattle.lilota.specs.declared.Mounted.{Mounted}
 use Rattle.lilota.specs.declared.Swept.{Swept}

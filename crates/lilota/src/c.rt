@@ -14,7 +14,7 @@ ghost use mathlib.Core.Path.{_≡_};
 ghost use Rattle.spec.specs.Numbers.{outcome-of, of-write, of-mount, of-sweep, of-get, of-list};
 ghost use Rattle.spec.specs.Answers.{format, mount, put, get, list, remove, sweep};
 ghost use Rattle.spec.specs.Planner.{Writing, planned};
-ghost use Rattle.planner.specs.Handed.{slices};
+ghost use Rattle.window.specs.Handed.{slices};
 ghost use Rattle.lilota.specs.Numbers.{report, extent};
 ghost use Rattle.lilota.specs.Planned.{handing};
 

@@ -16,8 +16,8 @@ use Rattle.spec.specs.Planner.{Slices}
 use Rattle.spec.specs.Move.{mark-steps, clean-steps, vacated-end, vacated, vacated-steps, start-steps, forget-steps, vacate-steps, close-steps}
 use Rattle.laws.specs.Sectors.{sectors-none, sectors-more}
 use Rattle.moving.specs.Clean.{cleaning, clean-next, clean-none, mark-as-was, data-from, cleaned-steps}
-use Rattle.planner.specs.declared.Window.{Window}
-use Rattle.planner.specs.Handed.{Handed, Leads, leads-all, leads-more, leads-end}
+use Rattle.window.specs.declared.Window.{Window}
+use Rattle.window.specs.Handed.{Handed, Leads, leads-all, leads-more, leads-end}
 
 -- a record at this address: steps (d) to (f) ask no more of it
 abbrev pub standing : ℕ → Entry

@@ -1,6 +1,3 @@
-pub mod Handed
-pub mod Bytes
-pub mod Build
 pub mod File
 pub mod Close
 pub mod Place
@@ -11,4 +8,3 @@ pub mod Sweep
 pub mod Repairs
 pub mod Superseded
 pub mod Mount
-pub mod Windows

@@ -34,8 +34,8 @@ use Rattle.reading.specs.Read.{first-cursor, reading-of, Surveyed}
 use Rattle.reading.specs.Survey.{Torn-inside}
 use Rattle.reading.specs.Accepted.{Accepted}
 use Rattle.recovery.specs.Drop.{dropped}
-use Rattle.planner.specs.declared.Window.{Window}
-use Rattle.planner.specs.Handed.{Handed}
+use Rattle.window.specs.declared.Window.{Window}
+use Rattle.window.specs.Handed.{Handed}
 use Rattle.planner.specs.Superseded.{without-first, behind-is}
 
 -- ---- repair 4, with the cursors that the code has

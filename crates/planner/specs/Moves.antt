@@ -24,11 +24,11 @@ use Rattle.reading.specs.Rest.{entry-of, rest}
 use Rattle.reading.specs.Fold.{Whole, name-length-is, content-length-is}
 use Rattle.writing.specs.Placing.{placed-inside}
 use Rattle.writing.specs.Put.{Ready}
-use Rattle.planner.specs.declared.Window.{Window}
+use Rattle.window.specs.declared.Window.{Window}
 use Rattle.planner.specs.declared.Copied.{Copied}
 use Rattle.planner.specs.declared.Walk.{Walk}
 use Rattle.planner.specs.declared.Moved.{Moved}
-use Rattle.planner.specs.Handed.{Handed, handed-both}
+use Rattle.window.specs.Handed.{Handed, handed-both}
 use Rattle.planner.specs.Walk.{copy-entry, first-of, going-on, over-steps, walked-full, walked-live, walked-dead, walked-end}
 
 -- ---- what a move goes by

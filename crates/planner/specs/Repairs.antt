@@ -26,8 +26,8 @@ use Rattle.reading.specs.Read.{first-cursor, reading-of, Surveyed}
 use Rattle.recovery.specs.DirtySectors.{dirty-erased, dirty-more}
 use Rattle.recovery.specs.Free.{keep-both, run-turned, run-both}
 use Rattle.recovery.specs.Pair.{pair-by, few, two}
-use Rattle.planner.specs.declared.Window.{Window}
-use Rattle.planner.specs.Handed.{Handed, handed-both}
+use Rattle.window.specs.declared.Window.{Window}
+use Rattle.window.specs.Handed.{Handed, handed-both}
 
 -- ---- 1: the sectors of the free run
 

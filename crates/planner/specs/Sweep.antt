@@ -11,10 +11,10 @@ use Rattle.spec.specs.Record.{Entry}
 use Rattle.spec.specs.Planner.{Slices}
 use Rattle.planning.specs.Planned.{walked}
 use Rattle.reading.specs.Rest.{rest}
-use Rattle.planner.specs.declared.Window.{Window}
+use Rattle.window.specs.declared.Window.{Window}
 use Rattle.planner.specs.declared.Walk.{Walk}
 use Rattle.planner.specs.declared.Moved.{Moved}
-use Rattle.planner.specs.Handed.{Handed, Leads, leads-all, leads-more, leads-end}
+use Rattle.window.specs.Handed.{Handed, Leads, leads-all, leads-more, leads-end}
 use Rattle.planner.specs.Moves.{Known, moves-left, Went, Move-handed}
 
 -- all moves were handed out: so many

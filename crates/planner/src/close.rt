@@ -1,9 +1,5 @@
 // Steps (c) to (f) of a move, handed out: X's data cleaned, its sectors erased, Y made START.
 // Y is told by its address: it may be a copy that stands in no image yet.
-use crate::Window;
-use crate::hand_erases;
-use crate::hand_program;
-use crate::hand_two;
 use moving::clean::is_mark;
 use moving::vacated_end;
 use reading::Spot;
@@ -12,6 +8,10 @@ use spec::CLEAN;
 use spec::SECTOR;
 use spec::START;
 use spec::floor;
+use window::Window;
+use window::hand_erases;
+use window::hand_program;
+use window::hand_two;
 ghost use mathlib.Core.Path.{_≡_};
 ghost use mathlib.Core.List.{_++_};
 ghost use Prim.Native.Nat.{_+_, _*_, _<_, _≤_, _^_};
@@ -21,7 +21,7 @@ ghost use Rattle.spec.specs.Move.{mark-steps, clean-steps, start-steps, forget-
 ghost use Rattle.reading.specs.Rest.{entry-of};
 ghost use Rattle.reading.specs.Fold.{Whole};
 ghost use Rattle.moving.specs.Clean.{cleaned-steps};
-ghost use Rattle.planner.specs.Handed.{slices, Handed, Counts};
+ghost use Rattle.window.specs.Handed.{slices, Handed, Counts};
 ghost use Rattle.planner.specs.Close.{standing};
 
 // The pair at this address, if it could be taken for a head's magic or a record's: its second byte 00.

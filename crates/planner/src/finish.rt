@@ -1,16 +1,16 @@
 // Repair 2 handed out: a move that was cut is brought to its end, with the second record as the head.
-use crate::Window;
 use crate::close::hand_close;
-use crate::hand_program;
 use reading::Survey;
 use reading::scan::low_of;
 use record::bytes::is_clean;
 use spec::START;
+use window::Window;
+use window::hand_program;
 ghost use Prim.Native.Nat.{_+_, _*_, _≤_};
 ghost use lib.ListN.{length};
 ghost use Rattle.planning.specs.Repairs.{steps-2};
 ghost use Rattle.reading.specs.Read.{reading-of, Surveyed};
-ghost use Rattle.planner.specs.Handed.{slices, Handed, Counts};
+ghost use Rattle.window.specs.Handed.{slices, Handed, Counts};
 
 // By the second record: CLEAN, START, or neither.
 pub fn hand_finish(

@@ -1,7 +1,5 @@
 // Repair 1 handed out: behind a CLEAN head the sectors of the free run that are not all FF, then the head's low byte.
-use crate::Window;
 use crate::close::hand_start;
-use crate::hand_erase;
 use flash::is_blank;
 use reading::Survey;
 use reading::scan::low_of;
@@ -10,6 +8,8 @@ use recovery::free::ceiling;
 use spec::Place;
 use spec::SECTOR;
 use spec::floor;
+use window::Window;
+use window::hand_erase;
 ghost use mathlib.Core.List.{[], _∷_};
 ghost use Prim.Native.Nat.{_+_, _*_, _≤_, _^_};
 ghost use lib.ListN.{length};
@@ -19,7 +19,7 @@ ghost use Rattle.planning.specs.Repairs.{steps-1};
 ghost use Rattle.reading.specs.FreeLaws.{In-image};
 ghost use Rattle.reading.specs.Read.{reading-of, Surveyed};
 ghost use Rattle.recovery.specs.DirtySectors.{dirty-erased};
-ghost use Rattle.planner.specs.Handed.{slices, Handed, Counts};
+ghost use Rattle.window.specs.Handed.{slices, Handed, Counts};
 
 // The sector at this address, unless it is all FF already.
 fn hand_if_dirty(

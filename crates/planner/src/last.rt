@@ -1,15 +1,15 @@
 // Repair 3 handed out: the last thing of the chain, which is torn, reserved or a torn wrap.
-use crate::Window;
-use crate::build::hand_end;
-use crate::build::hand_marker;
-use crate::build::hand_status;
-use crate::hand_bytes;
 use reading::Spot;
 use reading::Survey;
 use spec::Ending;
 use spec::HIGH;
 use spec::RECORD;
 use spec::Status;
+use window::Window;
+use window::build::hand_end;
+use window::build::hand_marker;
+use window::build::hand_status;
+use window::hand_bytes;
 ghost use Prim.Native.Nat.{_+_, _≤_, _<_, _^_};
 ghost use lib.ListN.{length};
 ghost use Rattle.spec.specs.Step.{shifted};
@@ -19,7 +19,7 @@ ghost use Rattle.reading.specs.Rest.{entry-of};
 ghost use Rattle.reading.specs.Fold.{Whole};
 ghost use Rattle.reading.specs.Read.{reading-of, Surveyed};
 ghost use Rattle.reading.specs.Survey.{Torn-inside};
-ghost use Rattle.planner.specs.Handed.{slices, Handed, Counts};
+ghost use Rattle.window.specs.Handed.{slices, Handed, Counts};
 
 // The status FF or FE of the record at this address becomes 00, by way of the same byte without its top bit.
 fn hand_void_status(

@@ -1,5 +1,4 @@
 // Mount planned: its four repairs handed out, and its report, from the first reading and the unchanged image.
-use crate::Window;
 use crate::finish::hand_finish;
 use crate::free::hand_free;
 use crate::last::hand_last;
@@ -11,6 +10,7 @@ use reading::files::count_files;
 use reading::image::first_cursor;
 use spec::Place;
 use spec::Report;
+use window::Window;
 ghost use mathlib.Core.Path.{_≡_};
 ghost use mathlib.Core.Bool.{true};
 ghost use mathlib.Core.List.{_++_};
@@ -24,7 +24,7 @@ ghost use Rattle.planning.specs.Told.{behind, behind-place};
 ghost use Rattle.reading.specs.Read.{reading-of, Surveyed};
 ghost use Rattle.reading.specs.Survey.{Torn-inside};
 ghost use Rattle.recovery.specs.Drop.{dropped};
-ghost use Rattle.planner.specs.Handed.{slices, Handed, Counts};
+ghost use Rattle.window.specs.Handed.{slices, Handed, Counts};
 
 // Repairs 1 and 2.
 fn hand_head(

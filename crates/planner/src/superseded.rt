@@ -1,6 +1,4 @@
 // Repair 4 handed out: each F8 record that has an FC record of its name is deleted, in chain order, of the records that repair 2 leaves.
-use crate::Window;
-use crate::build::hand_status;
 use reading::Cursor;
 use reading::Item;
 use reading::Spot;
@@ -10,6 +8,8 @@ use reading::files::is_superseded;
 use reading::image::first_cursor;
 use reading::scan::marked;
 use spec::Status;
+use window::Window;
+use window::build::hand_status;
 ghost use mathlib.Core.Path.{_≡_};
 ghost use mathlib.Core.List.{[], _∷_};
 ghost use Prim.Native.Nat.{_+_, _*_, _≤_};
@@ -21,7 +21,7 @@ ghost use Rattle.reading.specs.Rest.{entry-of, rest};
 ghost use Rattle.reading.specs.Fold.{Whole};
 ghost use Rattle.reading.specs.Read.{reading-of, Surveyed};
 ghost use Rattle.recovery.specs.Drop.{dropped};
-ghost use Rattle.planner.specs.Handed.{slices, Handed, Counts};
+ghost use Rattle.window.specs.Handed.{slices, Handed, Counts};
 ghost use Rattle.planner.specs.Superseded.{without-first};
 
 // The record at e, if it is such a one of the chain from start on.

@@ -3,10 +3,8 @@ use crate::Copied;
 use crate::Moved;
 use crate::Moves;
 use crate::Walk;
-use crate::Window;
 use crate::close::hand_close;
 use crate::file::hand_file;
-use crate::hand_program;
 use crate::place::come_round;
 use crate::place::led;
 use reading::Cursor;
@@ -20,6 +18,8 @@ use spec::CLEAN;
 use spec::Place;
 use spec::Placed;
 use spec::Status;
+use window::Window;
+use window::hand_program;
 use writing::Old;
 ghost use mathlib.Core.Path.{_≡_};
 ghost use mathlib.Core.Bool.{true};
@@ -33,7 +33,7 @@ ghost use Rattle.planning.specs.Planned.{next-of, walked};
 ghost use Rattle.reading.specs.Cursor.{Cursor-sound};
 ghost use Rattle.reading.specs.Rest.{entry-of, rest};
 ghost use Rattle.reading.specs.Fold.{Whole};
-ghost use Rattle.planner.specs.Handed.{slices, Handed, Counts};
+ghost use Rattle.window.specs.Handed.{slices, Handed, Counts};
 ghost use Rattle.planner.specs.Walk.{copy-entry, address-of, first-of, over-steps};
 ghost use Rattle.planner.specs.Moves.{Below, Walkable, Known, Over-handed, Live-handed, Move-handed};
 ghost use Rattle.planner.specs.Sweep.{Moves-handed};
@@ -168,7 +168,12 @@ fn hand_live(
     ensures { λ r. ⌜ Live-handed (now (image .entry)) x past place copy (slices (now (kinds .entry)) (now (addresses .entry)) (now (bytes .entry))) w
         (slices (now (kinds .exit)) (now (addresses .exit)) (now (bytes .exit))) r ⌝ }
 {
-    let Placed::At { at, place: next, .. } = place.after(size(x.n, x.d)) else {
+    let Placed::At {
+        at,
+        place: next,
+        ..
+    } = place.after(size(x.n, x.d))
+    else {
         return Moved::Stop;
     };
     let a = hand_copy(image, kinds, addresses, bytes, x, place, w);
@@ -203,7 +208,11 @@ fn hand_move(
     let cursor = v.cursor;
     let place = v.place;
     let copy = v.copy;
-    let Item::Record { spot: x, next: past } = advance(image, cursor) else {
+    let Item::Record {
+        spot: x,
+        next: past,
+    } = advance(image, cursor)
+    else {
         return Moved::Stop;
     };
     if is_live(image, start, x) {

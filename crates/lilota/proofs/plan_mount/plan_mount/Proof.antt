@@ -2,7 +2,7 @@
 use mathlib.Core.Path.{refl, sym, ap, _∙_}
 use Rattle.spec.specs.Answers.{mount-of}
 use Rattle.reading.specs.Read.{judged-as, reading-of}
-use Rattle.planner.specs.Handed.{slices}
+use Rattle.window.specs.Handed.{slices}
 use Rattle.lilota.specs.Planned.{shut-out, let-out, mount-planned}
 use Rattle.lilota.specs.PlanMount.{legal-given}
 use borrow.Author.Needs.{needs}

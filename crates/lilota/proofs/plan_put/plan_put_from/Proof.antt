@@ -7,7 +7,7 @@ use Rattle.spec.specs.Answers.{Plan}
 use Rattle.spec.specs.Planner.{hand-out}
 use Rattle.laws.specs.Flag.{flag}
 use Rattle.reading.specs.Read.{reading-of}
-use Rattle.planner.specs.Handed.{slices}
+use Rattle.window.specs.Handed.{slices}
 use Rattle.lilota.specs.Numbers.{no-room}
 use Rattle.lilota.specs.Put.{room-fits, room-plan}
 use Rattle.lilota.specs.Planned.{written-out, refused-out}

@@ -9,7 +9,7 @@ use mathlib.Core.List.{[], _∷_}
 use Rattle.spec.specs.Planner.{hand-out}
 use Rattle.reading.specs.Rest.{entry-of}
 use Rattle.reading.specs.Seek.{found-in}
-use Rattle.planner.specs.Handed.{slices}
+use Rattle.window.specs.Handed.{slices}
 use Rattle.lilota.specs.Numbers.{no-file}
 use Rattle.lilota.specs.Remove.{found-plan}
 use Rattle.lilota.specs.Planned.{written-out, refused-out}

@@ -2,7 +2,7 @@
 use mathlib.Core.Path.{refl, sym, ap, _∙_}
 use Rattle.spec.specs.Answers.{sweep-of}
 use Rattle.reading.specs.Read.{answered, reading-of}
-use Rattle.planner.specs.Handed.{slices}
+use Rattle.window.specs.Handed.{slices}
 use Rattle.lilota.specs.Planned.{shut-out, let-out, sweep-planned}
 use borrow.Author.Needs.{needs}
 use Rattle.lilota.proofs.plan_sweep.plan_sweep.Statement.{statement}

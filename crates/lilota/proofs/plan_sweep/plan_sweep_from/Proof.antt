@@ -7,7 +7,7 @@ use Rattle.spec.specs.Basics.{Answer, numbered}
 use Rattle.spec.specs.Answers.{Plan}
 use Rattle.spec.specs.Planner.{hand-out}
 use Rattle.reading.specs.Standing.{start-sound}
-use Rattle.planner.specs.Handed.{slices}
+use Rattle.window.specs.Handed.{slices}
 use Rattle.lilota.specs.Numbers.{no-room}
 use Rattle.lilota.specs.Sweep.{headed}
 use Rattle.lilota.specs.Planned.{refused-out}

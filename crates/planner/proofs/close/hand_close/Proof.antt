@@ -4,7 +4,7 @@ use mathlib.Core.Path.{_∙_}
 use Rattle.moving.specs.Close.{end-is}
 use native.Mathlib.Omega.{arith}
 use Rattle.reading.specs.Rest.{entry-of}
-use Rattle.planner.specs.Handed.{handed-both}
+use Rattle.window.specs.Handed.{handed-both}
 use Rattle.planner.specs.Close.{standing, close-at}
 use borrow.Author.Needs.{needs}
 use Rattle.planner.proofs.close.hand_close.Statement.{statement}

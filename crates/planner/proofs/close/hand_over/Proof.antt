@@ -2,7 +2,7 @@
 use mathlib.Core.List.{append-nil}
 use native.Mathlib.Omega.{arith}
 use Rattle.spec.specs.Move.{start-steps}
-use Rattle.planner.specs.Handed.{handed-both}
+use Rattle.window.specs.Handed.{handed-both}
 use Rattle.planner.specs.Close.{standing, forget-none, forget-this}
 use borrow.Author.Needs.{needs}
 use Rattle.planner.proofs.close.hand_over.Statement.{statement}

@@ -3,7 +3,7 @@ use mathlib.Core.Path.{sym, _∙_}
 use native.Mathlib.Omega.{arith}
 use Rattle.laws.specs.Flag.{flag}
 use Rattle.moving.specs.Clean.{mark-at, marked, unmarked}
-use Rattle.planner.specs.Handed.{slices, handed-none}
+use Rattle.window.specs.Handed.{slices, handed-none}
 use borrow.Author.Needs.{needs}
 use Rattle.planner.proofs.close.hand_pair.Statement.{statement}
 use Rattle.planner.proofs.close.hand_pair.Tie as tie

@@ -4,7 +4,7 @@ use Prim.Native.Nat.{_+_, _-_, _≤_}
 use lib.ListN.{length}
 use native.Mathlib.Omega.{arith}
 use borrow.Author.Needs.{needs}
-use Rattle.planner.specs.Handed.{slices}
+use Rattle.window.specs.Handed.{slices}
 use Rattle.planner.specs.Close.{Pairs, pairs-start, pairs-more, pairs-end}
 use Rattle.planner.proofs.close.hand_pairs.Statement.{statement}
 use Rattle.planner.proofs.close.hand_pairs.Tie as tie

@@ -1,6 +1,6 @@
 -- The sectors from the start of X's, then the rest.
 use native.Mathlib.Omega.{arith}
-use Rattle.planner.specs.Handed.{handed-both}
+use Rattle.window.specs.Handed.{handed-both}
 use borrow.Author.Needs.{needs}
 use Rattle.planner.proofs.close.hand_vacated.Statement.{statement}
 use Rattle.planner.proofs.close.hand_vacated.Tie as tie

@@ -1,6 +1,6 @@
 -- By the old file, if there is one.
 use native.Mathlib.Omega.{arith}
-use Rattle.planner.specs.Handed.{slices, handed-none}
+use Rattle.window.specs.Handed.{slices, handed-none}
 use borrow.Author.Needs.{needs}
 use Rattle.planner.proofs.file.hand_delete.Statement.{statement}
 use Rattle.planner.proofs.file.hand_delete.Tie as tie

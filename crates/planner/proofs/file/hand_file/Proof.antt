@@ -4,7 +4,7 @@ use Prim.Native.Nat.{_^_}
 use native.Mathlib.Omega.{arith}
 use Rattle.writing.specs.Put.{never-full, spot, marker-spot, prepare-few, put-split}
 use Rattle.writing.specs.Old.{old-entry}
-use Rattle.planner.specs.Handed.{handed-both}
+use Rattle.window.specs.Handed.{handed-both}
 use Rattle.planner.specs.File.{lies-below}
 use borrow.Author.Needs.{needs}
 use Rattle.planner.proofs.file.hand_file.Statement.{statement}

@@ -2,7 +2,7 @@
 use borrow.Author.Tests.{eq-eqb, ne-eqb}
 use Rattle.spec.specs.Bytes.{is-committed}
 use native.Mathlib.Omega.{arith}
-use Rattle.planner.specs.Handed.{slices, handed-none}
+use Rattle.window.specs.Handed.{slices, handed-none}
 use borrow.Author.Needs.{needs}
 use Rattle.planner.proofs.file.hand_migrate.Statement.{statement}
 use Rattle.planner.proofs.file.hand_migrate.Tie as tie

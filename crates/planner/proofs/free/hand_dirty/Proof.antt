@@ -7,7 +7,7 @@ use borrow.Author.Needs.{needs}
 use Rattle.spec.specs.Geometry.{sectors}
 use Rattle.laws.specs.Sectors.{sectors-none}
 use Rattle.recovery.specs.DirtySectors.{dirty-erased}
-use Rattle.planner.specs.Handed.{slices, Leads, leads-more, leads-end}
+use Rattle.window.specs.Handed.{slices, Leads, leads-more, leads-end}
 use Rattle.planner.specs.Repairs.{dirty-next}
 use Rattle.planner.proofs.free.hand_dirty.Statement.{statement}
 use Rattle.planner.proofs.free.hand_dirty.Tie as tie

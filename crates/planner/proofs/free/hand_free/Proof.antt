@@ -1,7 +1,7 @@
 -- By the first record: none, a CLEAN one, another.
 use native.Mathlib.Omega.{arith}
 use Rattle.recovery.specs.Readable.{clean-told}
-use Rattle.planner.specs.Handed.{slices, handed-none, handed-both}
+use Rattle.window.specs.Handed.{slices, handed-none, handed-both}
 use Rattle.planner.specs.Repairs.{first-missing, first-other, first-cleaned}
 use borrow.Author.Needs.{needs}
 use Rattle.planner.proofs.free.hand_free.Statement.{statement}

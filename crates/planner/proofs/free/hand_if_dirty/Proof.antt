@@ -1,7 +1,7 @@
 -- A sector that is all FF has no step.
 use native.Mathlib.Omega.{arith}
 use Rattle.recovery.specs.DirtySectors.{dirty-is, erase-kept}
-use Rattle.planner.specs.Handed.{slices, handed-none}
+use Rattle.window.specs.Handed.{slices, handed-none}
 use borrow.Author.Needs.{needs}
 use Rattle.planner.proofs.free.hand_if_dirty.Statement.{statement}
 use Rattle.planner.proofs.free.hand_if_dirty.Tie as tie

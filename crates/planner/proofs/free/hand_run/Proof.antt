@@ -1,6 +1,6 @@
 -- Before the turn two stretches, after it one.
 use native.Mathlib.Omega.{arith}
-use Rattle.planner.specs.Handed.{handed-both}
+use Rattle.window.specs.Handed.{handed-both}
 use Rattle.planner.specs.Repairs.{run-one, run-two}
 use borrow.Author.Needs.{needs}
 use Rattle.planner.proofs.free.hand_run.Statement.{statement}

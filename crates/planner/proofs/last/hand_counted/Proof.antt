@@ -1,7 +1,7 @@
 -- The last record is the one that the tally names.
 use native.Mathlib.Omega.{arith}
 use Rattle.recovery.specs.Last.{none-counted, last-counted}
-use Rattle.planner.specs.Handed.{slices, handed-none}
+use Rattle.window.specs.Handed.{slices, handed-none}
 use borrow.Author.Needs.{needs}
 use Rattle.planner.proofs.last.hand_counted.Statement.{statement}
 use Rattle.planner.proofs.last.hand_counted.Tie as tie

@@ -1,6 +1,6 @@
 -- The last record, then the torn wrap.
 use native.Mathlib.Omega.{arith}
-use Rattle.planner.specs.Handed.{handed-both}
+use Rattle.window.specs.Handed.{handed-both}
 use borrow.Author.Needs.{needs}
 use Rattle.planner.proofs.last.hand_last.Statement.{statement}
 use Rattle.planner.proofs.last.hand_last.Tie as tie

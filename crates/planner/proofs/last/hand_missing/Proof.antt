@@ -1,7 +1,7 @@
 -- The 00 is there or not.
 use native.Mathlib.Omega.{arith}
 use Rattle.laws.specs.Steps.{name-ended, name-open}
-use Rattle.planner.specs.Handed.{slices, handed-none}
+use Rattle.window.specs.Handed.{slices, handed-none}
 use borrow.Author.Needs.{needs}
 use Rattle.planner.proofs.last.hand_missing.Statement.{statement}
 use Rattle.planner.proofs.last.hand_missing.Tie as tie

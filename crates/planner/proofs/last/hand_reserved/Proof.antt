@@ -1,7 +1,7 @@
 -- The name's end, then the status.
 use native.Mathlib.Omega.{arith}
 use Rattle.recovery.specs.Last.{reserved-is}
-use Rattle.planner.specs.Handed.{handed-both}
+use Rattle.window.specs.Handed.{handed-both}
 use borrow.Author.Needs.{needs}
 use Rattle.planner.proofs.last.hand_reserved.Statement.{statement}
 use Rattle.planner.proofs.last.hand_reserved.Tie as tie

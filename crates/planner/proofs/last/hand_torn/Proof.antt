@@ -1,5 +1,5 @@
 -- The magic, the lengths and the first byte of the name, the status.
-use Rattle.planner.specs.Handed.{handed-both}
+use Rattle.window.specs.Handed.{handed-both}
 use Rattle.planner.specs.Repairs.{torn-at}
 use borrow.Author.Needs.{needs}
 use Rattle.planner.proofs.last.hand_torn.Statement.{statement}

@@ -1,7 +1,7 @@
 -- By its status.
 use native.Mathlib.Omega.{arith}
 use Rattle.recovery.specs.Last.{void-torn, void-reserved, void-finished}
-use Rattle.planner.specs.Handed.{slices, handed-none}
+use Rattle.window.specs.Handed.{slices, handed-none}
 use borrow.Author.Needs.{needs}
 use Rattle.planner.proofs.last.hand_void.Statement.{statement}
 use Rattle.planner.proofs.last.hand_void.Tie as tie

@@ -1,7 +1,7 @@
 -- By how the chain ends.
 use native.Mathlib.Omega.{arith}
 use Rattle.recovery.proofs.Others.{no-torn-wrap}
-use Rattle.planner.specs.Handed.{slices, handed-none}
+use Rattle.window.specs.Handed.{slices, handed-none}
 use borrow.Author.Needs.{needs}
 use Rattle.planner.proofs.last.hand_wrap.Statement.{statement}
 use Rattle.planner.proofs.last.hand_wrap.Tie as tie

@@ -1,7 +1,7 @@
 -- One repair after the other.
 use native.Mathlib.Omega.{arith}
 use borrow.Author.Needs.{needs}
-use Rattle.planner.specs.Handed.{handed-both}
+use Rattle.window.specs.Handed.{handed-both}
 use Rattle.planner.proofs.mount.hand_head.Statement.{statement}
 use Rattle.planner.proofs.mount.hand_head.Tie as tie
 

@@ -1,7 +1,7 @@
 -- The repairs in their order, as the first reading plans them.
 use native.Mathlib.Omega.{arith}
 use borrow.Author.Needs.{needs}
-use Rattle.planner.specs.Handed.{handed-both}
+use Rattle.window.specs.Handed.{handed-both}
 use Rattle.planner.specs.Mount.{mend-is}
 use Rattle.planner.proofs.mount.hand_mend.Statement.{statement}
 use Rattle.planner.proofs.mount.hand_mend.Tie as tie

@@ -1,5 +1,5 @@
 -- One repair after the other.
-use Rattle.planner.specs.Handed.{handed-both}
+use Rattle.window.specs.Handed.{handed-both}
 use borrow.Author.Needs.{needs}
 use Rattle.planner.proofs.mount.hand_rest.Statement.{statement}
 use Rattle.planner.proofs.mount.hand_rest.Tie as tie

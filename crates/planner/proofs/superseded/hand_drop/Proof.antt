@@ -3,7 +3,7 @@ use native.Mathlib.Omega.{arith}
 use Rattle.laws.specs.Flag.{flag}
 use Rattle.reading.specs.Rest.{rest, entry-of}
 use Rattle.recovery.specs.Drop.{drop-this, drop-none}
-use Rattle.planner.specs.Handed.{slices, handed-none}
+use Rattle.window.specs.Handed.{slices, handed-none}
 use borrow.Author.Needs.{needs}
 use Rattle.planner.proofs.superseded.hand_drop.Statement.{statement}
 use Rattle.planner.proofs.superseded.hand_drop.Tie as tie

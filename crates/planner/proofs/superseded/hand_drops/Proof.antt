@@ -9,7 +9,7 @@ use Rattle.reading.specs.Rest.{entry-of, rest}
 use Rattle.reading.specs.Fold.{passes}
 use Rattle.reading.proofs.Others.{other-step}
 use Rattle.recovery.specs.Drop.{dropped}
-use Rattle.planner.specs.Handed.{slices, Leads, leads-more, leads-end}
+use Rattle.window.specs.Handed.{slices, Leads, leads-more, leads-end}
 use Rattle.planner.specs.Superseded.{entries-on, entries-end, drops-on, drops-end}
 use Rattle.planner.proofs.superseded.hand_drops.Statement.{statement}
 use Rattle.planner.proofs.superseded.hand_drops.Tie as tie

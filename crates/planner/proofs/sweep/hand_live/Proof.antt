@@ -4,7 +4,7 @@ use lib.ListN.{length}
 use native.Mathlib.Omega.{arith}
 use Rattle.spec.specs.Record.{size-of}
 use Rattle.writing.specs.Placing.{placed-parts, placed-full}
-use Rattle.planner.specs.Handed.{slices}
+use Rattle.window.specs.Handed.{slices}
 use Rattle.planner.specs.Moves.{first-below, live-full, copy-inside, copy-walkable, live-over}
 use borrow.Author.Needs.{needs}
 use Rattle.planner.proofs.sweep.hand_live.Statement.{statement}

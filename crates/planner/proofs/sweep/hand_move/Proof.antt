@@ -5,7 +5,7 @@ use Rattle.laws.specs.Flag.{flag}
 use Rattle.reading.specs.Rest.{Run, rest}
 use Rattle.reading.specs.Fold.{passes, rest-done}
 use Rattle.reading.proofs.Others.{other-step}
-use Rattle.planner.specs.Handed.{slices}
+use Rattle.window.specs.Handed.{slices}
 use Rattle.planner.specs.Moves.{move-none, move-live, move-dead}
 use borrow.Author.Needs.{needs}
 use Rattle.planner.proofs.sweep.hand_move.Statement.{statement}

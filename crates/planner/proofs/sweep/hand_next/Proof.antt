@@ -1,7 +1,7 @@
 -- Y's low byte, then the rest.
 use mathlib.Core.List.{[], _∷_}
 use native.Mathlib.Omega.{arith}
-use Rattle.planner.specs.Handed.{handed-both}
+use Rattle.window.specs.Handed.{handed-both}
 use borrow.Author.Needs.{needs}
 use Rattle.planner.proofs.sweep.hand_next.Statement.{statement}
 use Rattle.planner.proofs.sweep.hand_next.Tie as tie

@@ -5,7 +5,7 @@ use lib.ListN.{length}
 use native.Mathlib.Omega.{arith}
 use borrow.Author.Needs.{needs}
 use Rattle.reading.specs.Rest.{rest}
-use Rattle.planner.specs.Handed.{slices}
+use Rattle.window.specs.Handed.{slices}
 use Rattle.planner.specs.Moves.{moves-left, Move-handed}
 use Rattle.planner.specs.Sweep.{Walking, walking-start, walking-end, walking-stop, walking-more}
 use Rattle.planner.proofs.sweep.hand_sweep.Statement.{statement}

@@ -1,0 +1,4 @@
+pub mod Handed
+pub mod Bytes
+pub mod Build
+pub mod Windows
