@@ -17,7 +17,7 @@ use Rattle.spec.specs.Planner.{Slices, shortest, hand-out}
 use Rattle.spec.specs.Door.{accepted}
 use Rattle.laws.specs.Door.{accepted-gives}
 use Rattle.planning.specs.Planned.{planned-mend, mended-reading}
-use Rattle.planning.specs.Accepted as planning
+use Rattle.planning.specs.Known.{accepted-known}
 use Rattle.planning.specs.Mends.{mount-as-planned}
 use Rattle.reading.specs.declared.Judged.{Judged}
 use Rattle.reading.specs.declared.Survey.{Survey}
@@ -43,7 +43,7 @@ module _ {image : Image} {v : Survey} (l : Legal image v) where
   r = reading-of image v
 
   pub marks-are : marks-ok (r .entries) ≡ true
-  marks-are = planning.accepted image r (l .read) .marks
+  marks-are = accepted-known image r (l .read) .marks
 
   pub mount-out : {s t : Slices} {w q : Window} {report : Report} (first : ℕ) → report ≡ report-of (mended-reading r)
       → w .first ≡ first → w .passed ≡ 0 → Handed s w (planned-mend image r) t q

@@ -1,4 +1,3 @@
-pub mod File
 pub mod Close
 pub mod Place
 pub mod Walk

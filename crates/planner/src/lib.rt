@@ -1,7 +1,6 @@
 // The step list of each call handed out and not done: an emitter for each, over the image as it was before the first step.
 // Nothing here writes an image.
 pub mod close;
-pub mod file;
 mod finish;
 mod free;
 mod last;

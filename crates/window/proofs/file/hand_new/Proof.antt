@@ -1,10 +1,10 @@
 -- The record, then the status of the old one.
 use native.Mathlib.Omega.{arith}
 use Rattle.writing.specs.WriteSteps.{record-count}
 use Rattle.window.specs.Handed.{handed-both}
 use borrow.Author.Needs.{needs}
-use Rattle.planner.proofs.file.hand_new.Statement.{statement}
-use Rattle.planner.proofs.file.hand_new.Tie as tie
+use Rattle.window.proofs.file.hand_new.Statement.{statement}
+use Rattle.window.proofs.file.hand_new.Tie as tie
 
 hand-record-requires : tie.Need-hand-record-requires
 hand-record-requires c κs = search needs

@@ -1,9 +1,9 @@
 -- By the old file, if there is one.
 use native.Mathlib.Omega.{arith}
 use Rattle.window.specs.Handed.{slices, handed-none}
 use borrow.Author.Needs.{needs}
-use Rattle.planner.proofs.file.hand_delete.Statement.{statement}
-use Rattle.planner.proofs.file.hand_delete.Tie as tie
+use Rattle.window.proofs.file.hand_delete.Statement.{statement}
+use Rattle.window.proofs.file.hand_delete.Tie as tie
 
 enum-known-old : tie.Need-enum-known-old
 enum-known-old c = search needs

@@ -1,12 +1,12 @@
 // A file in the place of an old one, handed out: a put's steps, and those of the copy in a move.
+use crate::Window;
+use crate::build::hand_marker;
+use crate::build::hand_record;
+use crate::build::hand_status;
 use record::size;
 use spec::Place;
 use spec::Placed;
 use spec::Status;
-use window::Window;
-use window::build::hand_marker;
-use window::build::hand_record;
-use window::build::hand_status;
 use writing::Old;
 ghost use mathlib.Core.Path.{_≡_};
 ghost use mathlib.Core.Bool.{true};

@@ -3,10 +3,10 @@ use mathlib.Core.List.{append-nil}
 use native.Mathlib.Omega.{arith}
 use Rattle.spec.specs.Write.{migrate-steps}
 use Rattle.writing.specs.Old.{old-entry, migrate-few}
 use Rattle.window.specs.Handed.{handed-both}
 use borrow.Author.Needs.{needs}
-use Rattle.planner.proofs.file.hand_before.Statement.{statement}
-use Rattle.planner.proofs.file.hand_before.Tie as tie
+use Rattle.window.proofs.file.hand_before.Statement.{statement}
+use Rattle.window.proofs.file.hand_before.Tie as tie
 
 hand-migrate-requires : tie.Need-hand-migrate-requires
 hand-migrate-requires c κs = search needs

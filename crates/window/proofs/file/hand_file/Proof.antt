@@ -4,11 +4,11 @@ use Prim.Native.Nat.{_^_}
 use native.Mathlib.Omega.{arith}
 use Rattle.writing.specs.Put.{never-full, spot, marker-spot, prepare-few, put-split}
 use Rattle.writing.specs.Old.{old-entry}
 use Rattle.window.specs.Handed.{handed-both}
-use Rattle.planner.specs.File.{lies-below}
+use Rattle.window.specs.File.{lies-below}
 use borrow.Author.Needs.{needs}
-use Rattle.planner.proofs.file.hand_file.Statement.{statement}
-use Rattle.planner.proofs.file.hand_file.Tie as tie
+use Rattle.window.proofs.file.hand_file.Statement.{statement}
+use Rattle.window.proofs.file.hand_file.Tie as tie
 
 size-requires : tie.Need-size-requires
 size-requires c κs = search needs

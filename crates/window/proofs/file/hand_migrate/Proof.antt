@@ -2,10 +2,10 @@
 use borrow.Author.Tests.{eq-eqb, ne-eqb}
 use Rattle.spec.specs.Bytes.{is-committed}
 use native.Mathlib.Omega.{arith}
 use Rattle.window.specs.Handed.{slices, handed-none}
 use borrow.Author.Needs.{needs}
-use Rattle.planner.proofs.file.hand_migrate.Statement.{statement}
-use Rattle.planner.proofs.file.hand_migrate.Tie as tie
+use Rattle.window.proofs.file.hand_migrate.Statement.{statement}
+use Rattle.window.proofs.file.hand_migrate.Tie as tie
 
 enum-known-old : tie.Need-enum-known-old
 enum-known-old c = search needs
