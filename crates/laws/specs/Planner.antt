@@ -13,7 +13,8 @@ use Rattle.spec.specs.Basics.{Answer, refuse, give}
 use Rattle.spec.specs.Numbers.{Numbers}
 use Rattle.spec.specs.Answers.{Plan, cut, numbers-of, carry-out}
 use Rattle.spec.specs.History.{steps-of}
-use Rattle.spec.specs.Planner.{Writing, plan-of, direct, planned-steps, kind-of, address-of, byte-of, Slices, shortest, window, done-numbers, hand-out, planned, steps-in, handed-steps, in-turn, slots, Planned-as-done}
+use Rattle.spec.specs.Planner.{Writing, plan-of, direct, planned-steps, kind-of, address-of, byte-of, Slices, shortest, window, done-numbers}
+use Rattle.spec.specs.Planner.{hand-out, planned, steps-in, handed-steps, in-turn, slots, Planned-as-done}
 
 -- ---- one window
 

@@ -139,7 +139,8 @@ pub extern "C" fn lilota_plan_put(
     handed: &mut usize,
     steps: &mut usize,
 ) -> u32
-    ensures { λ r. ⌜ (handing (of-write r (now (steps .exit))) (now (handed .exit)) (slices (now (kinds .exit)) (now (addresses .exit)) (now (bytes .exit)))
+    ensures { λ r. ⌜ (handing (of-write r (now (steps .exit))) (now (handed .exit))
+        (slices (now (kinds .exit)) (now (addresses .exit)) (now (bytes .exit)))
         ≡ planned (Writing.put (now (name .entry)) (now (content .entry))) (now (image .entry)) first
         (slices (now (kinds .entry)) (now (addresses .entry)) (now (bytes .entry))))
         × (now (image .exit) ≡ now (image .entry)) ⌝ }
@@ -162,7 +163,8 @@ pub extern "C" fn lilota_plan_remove(
     handed: &mut usize,
     steps: &mut usize,
 ) -> u32
-    ensures { λ r. ⌜ (handing (of-write r (now (steps .exit))) (now (handed .exit)) (slices (now (kinds .exit)) (now (addresses .exit)) (now (bytes .exit)))
+    ensures { λ r. ⌜ (handing (of-write r (now (steps .exit))) (now (handed .exit))
+        (slices (now (kinds .exit)) (now (addresses .exit)) (now (bytes .exit)))
         ≡ planned (Writing.remove (now (name .entry))) (now (image .entry)) first
         (slices (now (kinds .entry)) (now (addresses .entry)) (now (bytes .entry))))
         × (now (image .exit) ≡ now (image .entry)) ⌝ }

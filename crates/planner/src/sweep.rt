@@ -92,9 +92,11 @@ fn hand_over(
     copy: Copied,
     w: Window,
 ) -> Moved
-    requires { ⌜ Cursor-sound (now image) past × Whole (now image) x × Below copy (length (now image)) × Walkable (length (now image)) place ⌝ }
+    requires { ⌜ Cursor-sound (now image) past × Whole (now image) x × Below copy (length (now image))
+        × Walkable (length (now image)) place ⌝ }
     requires { ⌜ w .passed ≤ 2 ^ 31 ⌝ }
-    ensures { λ r. ⌜ Over-handed (now (image .entry)) x past place copy (slices (now (kinds .entry)) (now (addresses .entry)) (now (bytes .entry))) w
+    ensures { λ r. ⌜ Over-handed (now (image .entry)) x past place copy
+        (slices (now (kinds .entry)) (now (addresses .entry)) (now (bytes .entry))) w
         (slices (now (kinds .exit)) (now (addresses .exit)) (now (bytes .exit))) r ⌝ }
 {
     let Copied::At(y) = find_next(image, past, copy) else {
@@ -163,9 +165,11 @@ fn hand_live(
     copy: Copied,
     w: Window,
 ) -> Moved
-    requires { ⌜ Cursor-sound (now image) past × Whole (now image) x × Below copy (length (now image)) × Walkable (length (now image)) place ⌝ }
+    requires { ⌜ Cursor-sound (now image) past × Whole (now image) x × Below copy (length (now image))
+        × Walkable (length (now image)) place ⌝ }
     requires { ⌜ (x .n ≤ 63) × (x .d < 2 ^ 32) × (w .passed ≤ 2 ^ 30) ⌝ }
-    ensures { λ r. ⌜ Live-handed (now (image .entry)) x past place copy (slices (now (kinds .entry)) (now (addresses .entry)) (now (bytes .entry))) w
+    ensures { λ r. ⌜ Live-handed (now (image .entry)) x past place copy
+        (slices (now (kinds .entry)) (now (addresses .entry)) (now (bytes .entry))) w
         (slices (now (kinds .exit)) (now (addresses .exit)) (now (bytes .exit))) r ⌝ }
 {
     let Placed::At {
@@ -202,7 +206,8 @@ fn hand_move(
 ) -> Moved
     requires { ⌜ Cursor-sound (now image) start × Known (now image) v ⌝ }
     requires { ⌜ w .passed ≤ 2 ^ 30 ⌝ }
-    ensures { λ r. ⌜ Move-handed (now (image .entry)) (rest (now (image .entry)) start .entries) v (slices (now (kinds .entry)) (now (addresses .entry)) (now (bytes .entry))) w
+    ensures { λ r. ⌜ Move-handed (now (image .entry)) (rest (now (image .entry)) start .entries) v
+        (slices (now (kinds .entry)) (now (addresses .entry)) (now (bytes .entry))) w
         (slices (now (kinds .exit)) (now (addresses .exit)) (now (bytes .exit))) r ⌝ }
 {
     let cursor = v.cursor;

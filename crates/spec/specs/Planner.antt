@@ -76,7 +76,8 @@ filled-with ss s =
 
 -- ---- the engine
 
--- what it gives back: the direct call's numbers, and "how many steps it handed out"; and the slices then. It "changes nothing" of the image
+-- what it gives back: the direct call's numbers, and "how many steps it handed out"; and the slices then.
+-- It "changes nothing" of the image
 pub record Handing : Type 0 where
   pub numbers : Numbers
   pub handed : ℕ

@@ -39,13 +39,9 @@ hand-before-requires c κs =
     let a = c13 .args in
     let r = c13 .pre .0 in
     let e = rw (c7 .size .ensures) at (sym (c6 .after .ensures) ∙ c4 .at .given .1) in
-    let short = r .sound .short in (
-      (
-        lies-below (a .old) (a .place .length) (2 ^ 24) (c13 .pre .1) short,
-        λ k. omega (arith, marker-spot (a .place) _ _ _ _ _ _ _ r e k, short),
-      ),
-      omega (arith, r .few),
-    )
+    let short = r .sound .short in
+    let lies = lies-below (a .old) (a .place .length) (2 ^ 24) (c13 .pre .1) short in
+    ((lies, λ k. omega (arith, marker-spot (a .place) _ _ _ _ _ _ _ r e k, short)), omega (arith, r .few))
 
 hand-new-requires : tie.Need-hand-new-requires
 hand-new-requires c κs =
@@ -58,15 +54,11 @@ hand-new-requires c κs =
     let r = c23 .pre .0 in
     let e = rw (c17 .size .ensures) at (sym (c16 .after .ensures) ∙ c14 .at .given .1) in
     let inside = spot (a .place) _ _ _ _ _ _ _ r e in
-    let short = r .sound .short in (
-      (
-        lies-below (a .old) (a .place .length) (2 ^ 24) (c23 .pre .1) short,
-        omega (arith, inside, short),
-        r .named,
-        omega (arith, inside, short),
-      ),
-      omega (arith, r .few, c9 .hand-before .ensures .count, prepare-few (a .old) (c14 .at .given .0 .1 .0) (a .place .tail)),
-    )
+    let short = r .sound .short in
+    let lies = lies-below (a .old) (a .place .length) (2 ^ 24) (c23 .pre .1) short in
+    let before = prepare-few (a .old) (c14 .at .given .0 .1 .0) (a .place .tail) in
+    let few = omega (arith, r .few, c9 .hand-before .ensures .count, before) in
+    ((lies, omega (arith, inside, short), r .named, omega (arith, inside, short)), few)
 
 same-length : tie.Need-same-length
 same-length c = search needs
