@@ -15,8 +15,9 @@ use Rattle.spec.specs.Record.{Entry, content-of, data-at, size}
 use Rattle.spec.specs.Move.{start-steps, mark-here, mark-steps, clean-steps, vacated-end, vacated, forget-steps, vacate-steps, close-steps}
 use Rattle.laws.specs.Tests.{and-no}
 use Rattle.laws.specs.Sectors.{sectors-more}
+use Rattle.laws.specs.Parts.{Outside}
 use Rattle.planning.specs.Planned.{with-status, with-low}
-use Rattle.planning.specs.Effect.{Off, Untouched, Writes, Bounded, untouched-append, writes-left, writes-right, bounded-append}
+use Rattle.planning.specs.Effect.{Untouched, Writes, Bounded, untouched-append, writes-left, writes-right, bounded-append}
 use Rattle.planning.specs.Effect.{erases-off, erases-in, erases-bounded}
 
 -- ---- (c)
@@ -111,7 +112,7 @@ module _ (N : ℕ) (x y : Entry) (low : ℕ) where
   abbrev ends : List Step
   ends = start-steps (y .at) low ++ forget-steps x starts
 
-  cleans-off : (i : ℕ) → Off i (x .at) (size x) → Untouched i cleans
+  cleans-off : (i : ℕ) → Outside i (x .at) (size x) → Untouched i cleans
   cleans-off i o =
       clean-beside (length (content-of x)) i (data-at x) (content-of x)
       (⊎-elim (λ (h : i < x .at). inl (omega arith)) (λ (h : x .at + size x ≤ i). inr (inr (omega arith))) o)
@@ -144,7 +145,7 @@ module _ (N : ℕ) (x y : Entry) (low : ℕ) where
       (subst (λ (ss : List Step). Untouched i ss) (sym none) tt)))
 
   -- all else is as it was
-  pub close-off : (i : ℕ) → Off i (x .at) (size x) → (i < floor (x .at)) ⊎ (end ≤ i) → (i ≡ y .at → ⊥) → Untouched i (close-steps N x y low)
+  pub close-off : (i : ℕ) → Outside i (x .at) (size x) → (i < floor (x .at)) ⊎ (end ≤ i) → (i ≡ y .at → ⊥) → Untouched i (close-steps N x y low)
   unfolding close-steps
   close-off i o p n =
       untouched-append i cleans (vacate-steps x y low starts) (cleans-off i o)

@@ -15,8 +15,9 @@ use Rattle.spec.specs.Record.{four, size-of, Entry, name-of, content-of}
 use Rattle.spec.specs.Place.{address, with-marker}
 use Rattle.spec.specs.Write.{status-step, migrate-steps, delete-steps, marker-steps, header-steps, name-end-steps, name-steps, data-steps}
 use Rattle.spec.specs.Write.{commit-steps, record-steps, turn-steps, put-steps}
+use Rattle.laws.specs.Parts.{Outside}
 use Rattle.planning.specs.Planned.{with-low}
-use Rattle.planning.specs.Effect.{Off, Untouched, Writes, Bounded, untouched-append, writes-left, writes-right, bounded-append}
+use Rattle.planning.specs.Effect.{Untouched, Writes, Bounded, untouched-append, writes-left, writes-right, bounded-append}
 use Rattle.planning.specs.Effect.{untouched-bytes, writes-bytes, bounded-bytes, untouched-shifted, writes-shifted}
 
 -- ---- a record, from its start on
@@ -31,13 +32,13 @@ module _ (name content : List ℕ) where
   abbrev rest-steps : List Step
   rest-steps = name-steps name ++ (data-steps n content ++ commit-steps)
 
-  lens-off : (i : ℕ) → Off i 4 4 → Untouched i (bytes-at 4 (four d))
+  lens-off : (i : ℕ) → Outside i 4 4 → Untouched i (bytes-at 4 (four d))
   lens-off i o = untouched-bytes i 4 (four d) o
 
-  header-off : (i : ℕ) → (i ≡ 0 → ⊥) → (i ≡ 1 → ⊥) → (i ≡ 2 → ⊥) → Off i 4 4 → Untouched i (header-steps d)
+  header-off : (i : ℕ) → (i ≡ 0 → ⊥) → (i ≡ 1 → ⊥) → (i ≡ 2 → ⊥) → Outside i 4 4 → Untouched i (header-steps d)
   header-off i p q r o = (p, (q, untouched-append i (bytes-at 4 (four d)) (program 2 0xFE ∷ []) (lens-off i o) (r, tt)))
 
-  name-off : (i : ℕ) → Off i 8 (n + 1) → Untouched i (name-steps name)
+  name-off : (i : ℕ) → Outside i 8 (n + 1) → Untouched i (name-steps name)
   name-off i o =
       untouched-append i (bytes-at 8 name) (name-end-steps (8 + n))
       (untouched-bytes i 8 name (⊎-elim (λ (h : i < 8). inl h) (λ (h : 8 + (n + 1) ≤ i). inr (omega arith)) o)) (
@@ -45,10 +46,10 @@ module _ (name content : List ℕ) where
         (⊎-elim (λ (h : i < 8). λ q. omega arith) (λ (h : 8 + (n + 1) ≤ i). λ q. omega arith) o, tt),
       )
 
-  data-off : (i : ℕ) → Off i (8 + up8 (n + 1)) d → Untouched i (data-steps n content)
+  data-off : (i : ℕ) → Outside i (8 + up8 (n + 1)) d → Untouched i (data-steps n content)
   data-off i o = untouched-bytes i (8 + up8 (n + 1)) content o
 
-  rest-off : (i : ℕ) → (i ≡ 2 → ⊥) → Off i 8 (n + 1) → Off i (8 + up8 (n + 1)) d → Untouched i rest-steps
+  rest-off : (i : ℕ) → (i ≡ 2 → ⊥) → Outside i 8 (n + 1) → Outside i (8 + up8 (n + 1)) d → Untouched i rest-steps
   rest-off i r o p =
       untouched-append i (name-steps name) (data-steps n content ++ commit-steps) (name-off i o)
       (untouched-append i (data-steps n content) commit-steps (data-off i p) (r, tt))
@@ -177,11 +178,11 @@ module _ (p : Place) (x : Entry) (name content : List ℕ) where
   migrate-bounded N true e = rw (migrate-is true e) tt
   migrate-bounded N false e = rw (migrate-is false e) tt
 
-  marker-off : (i : ℕ) → Off i (p .tail) 3 → Untouched i (shifted (p .tail) marker-steps)
+  marker-off : (i : ℕ) → Outside i (p .tail) 3 → Untouched i (shifted (p .tail) marker-steps)
   marker-off i (inl h) = (λ q. omega arith, (λ q. omega arith, (λ q. omega arith, tt)))
   marker-off i (inr h) = (λ q. omega arith, (λ q. omega arith, (λ q. omega arith, tt)))
 
-  turn-off : (i : ℕ) (t : Bool) → with-marker p s ≡ t → (t ≡ true → Off i (p .tail) 3) → Untouched i (turn-steps p s)
+  turn-off : (i : ℕ) (t : Bool) → with-marker p s ≡ t → (t ≡ true → Outside i (p .tail) 3) → Untouched i (turn-steps p s)
   turn-off i true e o = rw (turn-is true e) (marker-off i (o refl))
   turn-off i false e o = rw (turn-is false e) tt
 
@@ -189,7 +190,7 @@ module _ (p : Place) (x : Entry) (name content : List ℕ) where
   turn-bounded N true e = rw (turn-is true e) tt
   turn-bounded N false e = rw (turn-is false e) tt
 
-  pub copy-off : (i : ℕ) → Off i a s → Untouched i copy
+  pub copy-off : (i : ℕ) → Outside i a s → Untouched i copy
   copy-off i o =
       ⊎-elim
       (λ (h : i < a). untouched-below a i (record-steps name content) h)
@@ -216,7 +217,7 @@ module _ (p : Place) (x : Entry) (name content : List ℕ) where
       (writes-left copy gone (a + i) b (writes-shifted a i b (record-steps name content) w) (n, tt)))
 
   -- the marker's bytes
-  pub put-marks : with-marker p s ≡ true → (i b : ℕ) → Writes marker-steps i b → (p .tail + i ≡ x .at + 2 → ⊥) → Off (p .tail + i) a s
+  pub put-marks : with-marker p s ≡ true → (i b : ℕ) → Writes marker-steps i b → (p .tail + i ≡ x .at + 2 → ⊥) → Outside (p .tail + i) a s
       → Writes (put-steps p (some x) name content) (p .tail + i) b
   unfolding put-steps
   put-marks e i b w n o =
@@ -227,7 +228,7 @@ module _ (p : Place) (x : Entry) (name content : List ℕ) where
       (untouched-append (p .tail + i) copy gone (copy-off (p .tail + i) o) (n, tt)))
 
   -- all else
-  pub put-off : (i : ℕ) → (i ≡ x .at + 2 → ⊥) → Untouched i copy → (with-marker p s ≡ true → Off i (p .tail) 3)
+  pub put-off : (i : ℕ) → (i ≡ x .at + 2 → ⊥) → Untouched i copy → (with-marker p s ≡ true → Outside i (p .tail) 3)
       → Untouched i (put-steps p (some x) name content)
   unfolding put-steps
   put-off i n c o =

@@ -15,17 +15,14 @@ use Rattle.spec.specs.Step.{Image, Step, program, erase, sector, apply, run, by
 use Rattle.spec.specs.Geometry.{sectors-by, sectors}
 use Rattle.laws.specs.Tests.{and-left, and-right}
 use Rattle.laws.specs.Sectors.{length-sector}
+use Rattle.laws.specs.Parts.{Outside}
 
 -- ---- one byte
-
--- i is none of the n addresses from a on
-abbrev pub Off : ℕ → ℕ → ℕ → Type 0
-Off i a n = (i < a) ⊎ (a + n ≤ i)
 
 abbrev pub Untouched : ℕ → List Step → Type 0
 Untouched i [] = Unit {0}
 Untouched i (program k x ∷ ss) = (i ≡ k → ⊥) × Untouched i ss
-Untouched i (erase k ∷ ss) = Off i k 4096 × Untouched i ss
+Untouched i (erase k ∷ ss) = Outside i k 4096 × Untouched i ss
 
 -- the byte at i is x in the end
 abbrev pub Writes : List Step → ℕ → ℕ → Type 0
@@ -81,7 +78,7 @@ module _ (im : Image) (k : ℕ) (h : k + 4096 ≤ length im) where
       ∙ getD-append-add sector (drop 4096 (drop k im)) j 0 ∙ getD-drop 4096 (drop k im) j 0 ∙ getD-drop k im (4096 + j) 0
       ∙ ap (λ (n : ℕ). getD im n 0) (sym e)
 
-  pub erase-off : (i : ℕ) → Off i k 4096 → getD (apply im (erase k)) i 0 ≡ getD im i 0
+  pub erase-off : (i : ℕ) → Outside i k 4096 → getD (apply im (erase k)) i 0 ≡ getD im i 0
   erase-off i (inl l) = erase-low i l
   erase-off i (inr l) = erase-high i l
 
@@ -144,7 +141,7 @@ bounded-append N (erase k ∷ a) b p q = (p .0, bounded-append N a b (p .1) q)
 
 -- ---- bytes one after another
 
-pub untouched-bytes : (i a : ℕ) (w : List ℕ) → Off i a (length w) → Untouched i (bytes-at a w)
+pub untouched-bytes : (i a : ℕ) (w : List ℕ) → Outside i a (length w) → Untouched i (bytes-at a w)
 untouched-bytes i a [] o = tt
 untouched-bytes i a (b ∷ w) o = (
   ⊎-elim (λ (h : i < a). λ q. omega arith) (λ (h : a + suc (length w) ≤ i). λ q. omega arith) o,

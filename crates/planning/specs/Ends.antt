@@ -11,12 +11,13 @@ use borrow.Author.Tests.{eqb-true}
 use Rattle.spec.specs.Step.{Image, Step, program, shifted, run}
 use Rattle.spec.specs.Write.{name-end-steps}
 use Rattle.spec.specs.Mount.{status-void-steps, torn-steps, missing-steps}
-use Rattle.planning.specs.Effect.{Off, Untouched, Writes, Bounded, untouched-run, writes-run, untouched-shifted, writes-shifted}
+use Rattle.laws.specs.Parts.{Outside}
+use Rattle.planning.specs.Effect.{Untouched, Writes, Bounded, untouched-run, writes-run, untouched-shifted, writes-shifted}
 use Rattle.planning.specs.Effect.{skips, last-programs, skips-untouched, last-writes}
 
 -- ---- the torn record's steps
 
-pub torn-off : (a i : ℕ) → Off i a 16 → Untouched i (shifted a torn-steps)
+pub torn-off : (a i : ℕ) → Outside i a 16 → Untouched i (shifted a torn-steps)
 torn-off a i o =
     let far : (k : ℕ) → k < 16 → i ≡ a + k → ⊥ = λ k g q. ⊎-elim (λ (h : i < a). omega arith) (λ (h : a + 16 ≤ i). omega arith) o in
     let at : (k : ℕ) → k < 9 → i ≡ a + k → ⊥ = λ k g. far k (omega arith) in

@@ -21,6 +21,7 @@ use Rattle.spec.specs.Next.{next, kind}
 use Rattle.spec.specs.Chain.{Reading, read}
 use Rattle.spec.specs.Move.{vacated-end}
 use Rattle.laws.specs.Length.{Good}
+use Rattle.laws.specs.Parts.{Outside}
 use Rattle.planning.specs.Planned.{led-place, with-low}
 use Rattle.planning.specs.Places.{place-of, round-on, round-turned, round-off}
 use Rattle.planning.specs.Row.{kind-at, Stands, Row, row-none, row-more, row-end}
@@ -30,14 +31,13 @@ use Rattle.planning.specs.Stops.{Stop, Ends-here, here-clear, here-over,
 use Rattle.planning.specs.Stops.{allowed-own, stop-last, clear-free, low-ends, stop-clear, stop-over}
 use Rattle.planning.specs.Reads.{Reads, reads-here, reads-round, reads-torn}
 use Rattle.planning.specs.First.{Cons, row-cons, Pair, pair-here, pair-torn, pair-round, pair-low}
-use Rattle.planning.specs.Effect.{Off}
 
 -- ---- what was done to X and Y
 
 -- the sectors from X's up to Y's are FF, Y is START, and beside X all else is as it was; of X's own bytes nothing is said
 pub record Closed (im left : Image) (x y : Entry) : Type 0 where
   pub len : length left ≡ length im
-  pub same : (i : ℕ) → Off i (x .at) (size x) → (i < floor (x .at)) ⊎ (vacated-end (length im) y ≤ i) → (i ≡ y .at → ⊥)
+  pub same : (i : ℕ) → Outside i (x .at) (size x) → (i < floor (x .at)) ⊎ (vacated-end (length im) y ≤ i) → (i ≡ y .at → ⊥)
       → getD left i 0 ≡ getD im i 0
   pub start : getD left (y .at) 0 ≡ 0
   pub free : (i : ℕ) → floor (x .at) ≤ i → i < vacated-end (length im) y → (i ≡ y .at → ⊥) → getD left i 0 ≡ 0xFF

@@ -18,11 +18,12 @@ use Rattle.spec.specs.Record.{Entry, name-of, content-of, size}
 use Rattle.spec.specs.Next.{next, kind}
 use Rattle.spec.specs.Place.{address, with-marker}
 use Rattle.spec.specs.Write.{marker-steps, record-steps, put-steps}
+use Rattle.laws.specs.Parts.{Outside}
 use Rattle.planning.specs.Planned.{copy-of}
 use Rattle.planning.specs.Kinds.{committed-finished, new-kind}
 use Rattle.planning.specs.Row.{Stands}
 use Rattle.planning.specs.Spots.{Nameable, next-wrap, Laid-down, stands-new}
-use Rattle.planning.specs.Effect.{Off, Writes, Bounded, run-length, untouched-run, writes-run, untouched-shifted, skips}
+use Rattle.planning.specs.Effect.{Writes, Bounded, run-length, untouched-run, writes-run, untouched-shifted, skips}
 use Rattle.planning.specs.Effect.{last-programs}
 use Rattle.planning.specs.Effect.{last-writes}
 use Rattle.planning.specs.Copy.{record-off, record-low, record-high, record-status, record-lens, record-name, record-end}
@@ -55,7 +56,7 @@ module _ (im : Image) (p : Place) (x : Entry) where
   pub new-length : length new ≡ length im
   new-length = run-length im steps ok
 
-  pub new-same : (i : ℕ) → (i ≡ x .at + 2 → ⊥) → Off i at (size x) → (with-marker p (size x) ≡ true → Off i (p .tail) 3)
+  pub new-same : (i : ℕ) → (i ≡ x .at + 2 → ⊥) → Outside i at (size x) → (with-marker p (size x) ≡ true → Outside i (p .tail) 3)
       → getD new i 0 ≡ getD im i 0
   new-same i n o m = untouched-run im steps i ok (put-off p x nm ct i n (copy-off p x nm ct i o) m)
 
@@ -64,7 +65,7 @@ module _ (im : Image) (p : Place) (x : Entry) where
 
   -- the marker
   module _ (m : with-marker p (size x) ≡ true) (h : p .tail + 8 ≤ length im)
-      (far : (i : ℕ) → i < 4 → (p .tail + i ≡ x .at + 2 → ⊥) × Off (p .tail + i) at (size x)) where
+      (far : (i : ℕ) → i < 4 → (p .tail + i ≡ x .at + 2 → ⊥) × Outside (p .tail + i) at (size x)) where
     mark : (i b : ℕ) → last-programs marker-steps i b ≡ true → i < 3 → getD new (p .tail + i) 0 ≡ b
     mark i b e g =
         let f = far i (omega arith) in
@@ -79,8 +80,8 @@ module _ (im : Image) (p : Place) (x : Entry) where
         (mark 2 0xF0 refl (omega arith)) (new-same (p .tail + 3) (f .0) (f .1) (λ q. inr (omega arith)) ∙ e)
 
   -- the copy
-  module _ (h : at + size x ≤ length im) (far : Off (x .at + 2) at (size x))
-      (m : with-marker p (size x) ≡ true → Off (at + 3) (p .tail) 3) where
+  module _ (h : at + size x ≤ length im) (far : Outside (x .at + 2) at (size x))
+      (m : with-marker p (size x) ≡ true → Outside (at + 3) (p .tail) 3) where
     apart : (i : ℕ) → i < size x → at + i ≡ x .at + 2 → ⊥
     apart i l q = ⊎-elim (λ (o : x .at + 2 < at). omega arith) (λ (o : at + size x ≤ x .at + 2). omega arith) far
 

@@ -18,10 +18,11 @@ use Rattle.spec.specs.Next.{next, kind}
 use Rattle.spec.specs.Write.{marker-steps}
 use Rattle.spec.specs.Mount.{torn-wrap-steps}
 use Rattle.laws.specs.Fits.{Fits, allowed-fits}
+use Rattle.laws.specs.Parts.{Outside}
 use Rattle.planning.specs.Kinds.{kind-told}
 use Rattle.planning.specs.Row.{stretch-length, kind-at}
 use Rattle.planning.specs.Spots.{next-kind, next-wrap}
-use Rattle.planning.specs.Effect.{Off, Bounded, run-length, untouched-run, writes-run, writes-shifted, skips, last-programs}
+use Rattle.planning.specs.Effect.{Bounded, run-length, untouched-run, writes-run, writes-shifted, skips, last-programs}
 use Rattle.planning.specs.Effect.{last-writes}
 
 -- a torn marker's fourth byte is FF
@@ -51,7 +52,7 @@ torn-at-is im b h e =
 -- a marker stands at b, all else is as it was
 pub record Marks (im left : Image) (b : ℕ) : Type 0 where
   pub len : length left ≡ length im
-  pub same : (i : ℕ) → Off i b 8 → getD left i 0 ≡ getD im i 0
+  pub same : (i : ℕ) → Outside i b 8 → getD left i 0 ≡ getD im i 0
   pub wrap : next (part b (length left) left) ≡ Next.Wrap
 
 pub marks-by : (im : Image) (b : ℕ) → Torn-at im b → Marks im (run im (torn-wrap-steps (Ending.TornWrap b))) b
@@ -66,7 +67,7 @@ marks-by im b h =
     let byte : (i x : ℕ) → last-programs marker-steps i x ≡ true → i < 8 → getD left (b + i) 0 ≡ x =
     λ i x e g. writes-run im ss (b + i) x (omega (arith, h .inside)) ok
     (writes-shifted b i x marker-steps (last-writes marker-steps i x e)) in
-    let far : (i : ℕ) → Off i b 8 → (k : ℕ) → k < 8 → i ≡ b + k → ⊥ =
+    let far : (i : ℕ) → Outside i b 8 → (k : ℕ) → k < 8 → i ≡ b + k → ⊥ =
     λ i o k g q. ⊎-elim (λ (z : i < b). omega arith) (λ (z : b + 8 ≤ i). omega arith) o in
     record {
       len = len;

@@ -19,19 +19,20 @@ use Rattle.spec.specs.Record.{Entry, name-of, content-of, size, data-at, name-l
 use Rattle.spec.specs.Next.{next-at, kind, sized, torn-at}
 use Rattle.spec.specs.Mount.{status-void-steps, torn-steps, missing-steps, reserved-steps, void-steps}
 use Rattle.laws.specs.Next.{sized-is}
+use Rattle.laws.specs.Parts.{Outside}
 use Rattle.planning.specs.Planned.{with-status, with-low, dead-if, void-by}
 use Rattle.planning.specs.Front.{bad-other, sized-back}
 use Rattle.planning.specs.Kinds.{finished-open, dead-finished, new-kind, kind-tag, kind-reserved, torn-kind}
 use Rattle.planning.specs.Row.{stretch-length, stretch-byte, kind-at, Stands}
 use Rattle.planning.specs.Spots.{next-kind, name-by, name-inner, stands-new, stands-kind}
-use Rattle.planning.specs.Effect.{Off, Bounded, untouched-append, writes-right, bounded-append, run-length, untouched-run, writes-run}
+use Rattle.planning.specs.Effect.{Bounded, untouched-append, writes-right, bounded-append, run-length, untouched-run, writes-run}
 use Rattle.planning.specs.Effect.{skips, last-programs}
 use Rattle.planning.specs.Ends.{torn-off, torn-bounded, torn-keeps, torn-writes, torn-lens, missing-off, missing-bounded, missing-end}
 
 -- an unfinished record is dead, all else is as it was
 pub record Voids (im left : Image) (e : Entry) : Type 0 where
   pub len : length left ≡ length im
-  pub same : (i : ℕ) → Off i (e .at) (size e) → getD left i 0 ≡ getD im i 0
+  pub same : (i : ℕ) → Outside i (e .at) (size e) → getD left i 0 ≡ getD im i 0
   pub stands : (lim : ℕ) → lim ≤ length im → Stands im lim e
       → Stands left lim (void-by (is-erased (e .it .status)) (is-unfinished (e .it .status)) e)
 
