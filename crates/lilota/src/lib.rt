@@ -18,13 +18,25 @@ pub mod sweep;
 use carry::ended;
 use door::good_length;
 use flash::Meter;
+use reading::Cursor;
+use reading::Found;
+use reading::files::file_named;
 use spec::Extent;
 use spec::Refusal;
 use spec::Report;
+use spec::Status;
+use writing::Old;
 use writing::format::format_image;
 ghost use mathlib.Core.Path.{_≡_};
+ghost use lib.ListN.{length};
+ghost use Rattle.spec.specs.Basics.{keep, first-such};
+ghost use Rattle.spec.specs.Files.{has-name};
 ghost use Rattle.spec.specs.Numbers.{outcome-of};
 ghost use Rattle.spec.specs.Answers.{format};
+ghost use Rattle.reading.specs.Cursor.{Cursor-sound};
+ghost use Rattle.reading.specs.Rest.{rest};
+ghost use Rattle.reading.specs.FileLaws.{is-file};
+ghost use Rattle.writing.specs.Old.{old-of, Lies};
 ghost use Rattle.lilota.specs.Numbers.{written, Written-told};
 
 // What a call that writes answers: all its steps are done; it was cut, after so many; or it is refused.
@@ -91,4 +103,21 @@ pub fn format(image: &mut [u8], allowance: usize) -> Written
         return ended(format_image(image, m));
     }
     Written::Refused(Refusal { number: 22 })
+}
+
+// The file that a put of this name replaces, done or planned.
+fn old_file(image: &[u8], start: Cursor, name: &[u8]) -> Old
+    requires { ⌜ Cursor-sound (now image) start ⌝ }
+    ensures { λ r. ⌜ (r ≡ old-of (first-such (has-name (now (name .entry))) (keep is-file (rest (now (image .entry)) start .entries))))
+        × Lies r (length (now (image .entry))) ⌝ }
+{
+    let f = file_named(image, start, name);
+    let Found::At(e) = f else {
+        return Old::None;
+    };
+    let a = e.at + 2;
+    Old::At {
+        at: e.at,
+        status: Status::from_byte(image[a]),
+    }
 }

@@ -1,9 +1,9 @@
 // The steps of a put, handed out and not done.
 use crate::PlannedWrite;
 use crate::door::admitted_named;
+use crate::old_file;
 use crate::planned::planned_write;
 use crate::planned::refused_write;
-use crate::put::old_file;
 use reading::Read;
 use reading::Survey;
 use reading::image::first_cursor;

@@ -2,54 +2,28 @@
 use crate::Written;
 use crate::carry::ended;
 use crate::door::admitted_named;
+use crate::old_file;
 use flash::Meter;
-use reading::Cursor;
-use reading::Found;
 use reading::Read;
 use reading::Survey;
-use reading::files::file_named;
 use reading::image::first_cursor;
 use reading::room::has_room;
 use spec::Refusal;
-use spec::Status;
-use writing::Old;
 use writing::write_file;
 ghost use mathlib.Core.Path.{_≡_};
 ghost use mathlib.Core.Bool.{true};
 ghost use lib.ListN.{length};
-ghost use Rattle.spec.specs.Basics.{keep, first-such};
 ghost use Rattle.spec.specs.Record.{size-of};
-ghost use Rattle.spec.specs.Files.{has-name, file-named};
+ghost use Rattle.spec.specs.Files.{file-named};
 ghost use Rattle.spec.specs.Place.{fits};
 ghost use Rattle.spec.specs.Write.{put-steps};
 ghost use Rattle.spec.specs.Numbers.{outcome-of};
 ghost use Rattle.spec.specs.Answers.{carry-out, put-into, put};
 ghost use Rattle.flash.specs.Did.{Did};
 ghost use Rattle.record.specs.Within.{Name-length};
-ghost use Rattle.reading.specs.Cursor.{Cursor-sound};
-ghost use Rattle.reading.specs.Rest.{rest};
-ghost use Rattle.reading.specs.FileLaws.{is-file};
 ghost use Rattle.reading.specs.Read.{reading-of};
 ghost use Rattle.reading.specs.Accepted.{Settled};
-ghost use Rattle.writing.specs.Old.{old-of, Lies};
 ghost use Rattle.lilota.specs.Numbers.{written, Written-told};
-
-// The file that a put of this name replaces.
-pub fn old_file(image: &[u8], start: Cursor, name: &[u8]) -> Old
-    requires { ⌜ Cursor-sound (now image) start ⌝ }
-    ensures { λ r. ⌜ (r ≡ old-of (first-such (has-name (now (name .entry))) (keep is-file (rest (now (image .entry)) start .entries))))
-        × Lies r (length (now (image .entry))) ⌝ }
-{
-    let f = file_named(image, start, name);
-    let Found::At(e) = f else {
-        return Old::None;
-    };
-    let a = e.at + 2;
-    Old::At {
-        at: e.at,
-        status: Status::from_byte(image[a]),
-    }
-}
 
 // Put's steps, where there is room.
 fn replace(image: &mut [u8], s: Survey, name: &[u8], content: &[u8], m: Meter) -> Meter

@@ -57,8 +57,8 @@ hand-new-requires c κs =
     let short = r .sound .short in
     let lies = lies-below (a .old) (a .place .length) (2 ^ 24) (c23 .pre .1) short in
     let before = prepare-few (a .old) (c14 .at .given .0 .1 .0) (a .place .tail) in
-    let few = omega (arith, r .few, c9 .hand-before .ensures .count, before) in
-    ((lies, omega (arith, inside, short), r .named, omega (arith, inside, short)), few)
+    let count = c9 .hand-before .ensures .count in
+    ((lies, omega (arith, inside, short), r .named, omega (arith, inside, short)), omega (arith, r .few, count, before))
 
 same-length : tie.Need-same-length
 same-length c = search needs

@@ -5,8 +5,8 @@ use Rattle.reading.specs.Seek.{found-in}
 use Rattle.writing.specs.Old.{old-of}
 use Rattle.lilota.specs.Put.{old-is}
 use borrow.Author.Needs.{needs}
-use Rattle.lilota.proofs.put.old_file.Statement.{statement}
-use Rattle.lilota.proofs.put.old_file.Tie as tie
+use Rattle.lilota.proofs.old_file.Statement.{statement}
+use Rattle.lilota.proofs.old_file.Tie as tie
 
 file-named-requires : tie.Need-file-named-requires
 file-named-requires c κs = search needs
