@@ -5,7 +5,6 @@ pub mod Calls
 pub mod Format
 pub mod Look
 pub mod Put
-pub mod Remove
 pub mod Mount
 pub mod Sweep
 pub mod Planned

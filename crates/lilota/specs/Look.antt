@@ -1,4 +1,4 @@
--- The lookups: from what the code found to the outcome of get and of list.
+-- The lookups: from what the code found to the outcome of get, list and remove.
 use Prim.Native.Nat.{ℕ, _+_, _-_}
 use native.Mathlib.Omega.{arith}
 use mathlib.Core.Path.{_≡_, refl, sym, ap, ap₂, _∙_}
@@ -11,7 +11,7 @@ use Rattle.spec.specs.Geometry.{up8}
 use Rattle.spec.specs.Record.{Entry}
 use Rattle.spec.specs.Files.{has-name, file-named, file-indexed}
 use Rattle.spec.specs.Numbers.{Numbers, Outcome, outcome-of, of-get, of-list, refusal, part-of}
-use Rattle.spec.specs.Answers.{Plan, carry-out, numbers-of, looking, found, getting, listing}
+use Rattle.spec.specs.Answers.{Plan, carry-out, numbers-of, looking, found, file-of, getting, listing}
 use Rattle.reading.specs.declared.Spot.{Spot}
 use Rattle.reading.specs.declared.Found.{Found}
 use Rattle.reading.specs.declared.Survey.{Survey}
@@ -20,7 +20,7 @@ use Rattle.reading.specs.Fold.{Whole, name-length-is, content-length-is}
 use Rattle.reading.specs.FileLaws.{is-file}
 use Rattle.reading.specs.Seek.{found-in}
 use Rattle.reading.specs.NamesLaw.{files-are}
-use Rattle.reading.specs.Read.{reading-of}
+use Rattle.reading.specs.Read.{reading-of, File-told}
 use Rattle.reading.specs.Accepted.{Settled}
 use Rattle.lilota.specs.Numbers.{extent}
 
@@ -47,6 +47,14 @@ module _ (image : List ℕ) (s : Survey) (w : Settled image s) (f : Found) where
   pub indexed-file : (i : ℕ) → found-in image f ≡ getElem? (keep is-file (reading-of image s .entries)) i
       → found-in image f ≡ file-indexed i (reading-of image s .entries)
   indexed-file i q = q ∙ ap (λ (l : List Entry). getElem? l i) (sym (files-are (reading-of image s .entries) (w .quiet)))
+
+  -- and what a call does with it is what the definition does
+  pub plan-with : (name : List ℕ) (g : Entry → Plan) → File-told image name s f → found g (found-in image f) ≡ file-of name g (reading-of image s)
+  plan-with name g t = ap (found g) (named-file name (t .first))
+
+  pub done-with : (k : ℕ) (name : List ℕ) (g : Entry → Plan) → File-told image name s f
+      → carry-out image k (found g (found-in image f)) ≡ carry-out image k (file-of name g (reading-of image s))
+  done-with k name g t = ap (carry-out image k) (plan-with name g t)
 
 -- ---- get and list
 

@@ -1,7 +1,10 @@
 // The door of every call: 22, 5, 6 and 16 in the table's order, or what was read.
+use reading::Found;
 use reading::Judgement;
+use reading::NamedRead;
 use reading::Read;
 use reading::image::judge;
+use reading::image::read_named;
 use reading::image::read_settled;
 use record::name::name_ok;
 use spec::Refusal;
@@ -9,7 +12,7 @@ use spec::SECTOR;
 ghost use mathlib.Core.Path.{_≡_};
 ghost use Rattle.spec.specs.Geometry.{good-length};
 ghost use Rattle.spec.specs.Door.{accepted, admitted, admitted-named};
-ghost use Rattle.reading.specs.Read.{answered, judged-as};
+ghost use Rattle.reading.specs.Read.{answered, judged-as, Named-file};
 ghost use Rattle.lilota.specs.Door.{Accepts, Admits, Admits-named};
 
 // An image's length: whole sectors, two at least, 16 MiB at most.
@@ -45,15 +48,19 @@ pub fn admitted(image: &[u8]) -> Read
     Read::Refused(Refusal { number: 22 })
 }
 
-// The door of put, get and remove: a settled image and a good name.
-pub fn admitted_named(image: &[u8], name: &[u8]) -> Read
-    ensures { λ r. ⌜ (answered (now (image .entry)) r ≡ admitted-named (now (name .entry)) (now (image .entry)))
-        × Admits-named (now (image .entry)) (now (name .entry)) r ⌝ }
+// The door of put, get and remove: a settled image and a good name, and the file of that name.
+pub fn admitted_named(image: &[u8], name: &[u8]) -> NamedRead
+    ensures { λ r. ⌜ (answered (now (image .entry)) (r .read) ≡ admitted-named (now (name .entry)) (now (image .entry)))
+        × Admits-named (now (image .entry)) (now (name .entry)) (r .read)
+        × Named-file (now (image .entry)) (now (name .entry)) (r .read) (r .file) ⌝ }
 {
     if good_length(image.len()) {
         if name_ok(name) {
-            return read_settled(image);
+            return read_named(image, name);
         }
     }
-    Read::Refused(Refusal { number: 22 })
+    NamedRead {
+        read: Read::Refused(Refusal { number: 22 }),
+        file: Found::Nothing,
+    }
 }

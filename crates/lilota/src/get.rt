@@ -3,16 +3,14 @@ use crate::Located;
 use crate::door::admitted_named;
 use reading::Found;
 use reading::Read;
-use reading::Survey;
-use reading::files::file_named;
-use reading::image::first_cursor;
 use record::up_8;
 use spec::Extent;
 ghost use mathlib.Core.Path.{_≡_};
+ghost use lib.ListN.{length};
 ghost use Rattle.spec.specs.Numbers.{outcome-of, part-of};
-ghost use Rattle.spec.specs.Answers.{carry-out, file-of, getting, get};
-ghost use Rattle.reading.specs.Read.{reading-of};
-ghost use Rattle.reading.specs.Accepted.{Settled};
+ghost use Rattle.spec.specs.Answers.{carry-out, found, getting, get};
+ghost use Rattle.laws.specs.Length.{In-range};
+ghost use Rattle.reading.specs.Seek.{found-in, Found-whole};
 ghost use Rattle.lilota.specs.Numbers.{located, Extent-inside, Lies-at};
 
 // No file, for this reason.
@@ -28,15 +26,13 @@ fn nowhere(answer: u32) -> Located
     }
 }
 
-// The file of this name, of what was read.
-fn get_from(image: &[u8], name: &[u8], s: Survey) -> Located
-    requires { ⌜ Settled (now image) s ⌝ }
+// The bytes of the file that was found.
+fn get_from(image: &[u8], f: Found) -> Located
+    requires { ⌜ Found-whole (now image) f × In-range (length (now image)) ⌝ }
     ensures { λ r. ⌜ (outcome-of (located r) (now (image .exit))
-        ≡ carry-out (now (image .entry)) 0 (file-of (now (name .entry)) getting (reading-of (now (image .entry)) s)))
+        ≡ carry-out (now (image .entry)) 0 (found getting (found-in (now (image .entry)) f)))
         × Extent-inside (now (image .entry)) (r .extent) ⌝ }
 {
-    let place = s.place;
-    let f = file_named(image, first_cursor(image, place.head), name);
     let Found::At(e) = f else {
         return nowhere(2);
     };
@@ -54,9 +50,11 @@ pub fn get_place(image: &[u8], name: &[u8]) -> Located
     ensures { λ r. ⌜ (outcome-of (located r) (now (image .exit)) ≡ get (now (image .entry)) (now (name .entry)))
         × Extent-inside (now (image .entry)) (r .extent) ⌝ }
 {
-    let x = admitted_named(image, name);
+    let d = admitted_named(image, name);
+    let x = d.read;
+    let f = d.file;
     match x {
-        Read::Good(s) => get_from(image, name, s),
+        Read::Good(_) => get_from(image, f),
         Read::Refused(y) => nowhere(y.number),
     }
 }

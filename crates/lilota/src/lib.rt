@@ -18,9 +18,7 @@ pub mod sweep;
 use carry::ended;
 use door::good_length;
 use flash::Meter;
-use reading::Cursor;
 use reading::Found;
-use reading::files::file_named;
 use spec::Extent;
 use spec::Refusal;
 use spec::Report;
@@ -29,13 +27,10 @@ use writing::Old;
 use writing::format::format_image;
 ghost use mathlib.Core.Path.{_≡_};
 ghost use lib.ListN.{length};
-ghost use Rattle.spec.specs.Basics.{keep, first-such};
-ghost use Rattle.spec.specs.Files.{has-name};
 ghost use Rattle.spec.specs.Numbers.{outcome-of};
 ghost use Rattle.spec.specs.Answers.{format};
-ghost use Rattle.reading.specs.Cursor.{Cursor-sound};
-ghost use Rattle.reading.specs.Rest.{rest};
-ghost use Rattle.reading.specs.FileLaws.{is-file};
+ghost use Rattle.laws.specs.Length.{In-range};
+ghost use Rattle.reading.specs.Seek.{found-in, Found-whole};
 ghost use Rattle.writing.specs.Old.{old-of, Lies};
 ghost use Rattle.lilota.specs.Numbers.{written, Written-told};
 
@@ -105,13 +100,11 @@ pub fn format(image: &mut [u8], allowance: usize) -> Written
     Written::Refused(Refusal { number: 22 })
 }
 
-// The file that a put of this name replaces, done or planned.
-fn old_file(image: &[u8], start: Cursor, name: &[u8]) -> Old
-    requires { ⌜ Cursor-sound (now image) start ⌝ }
-    ensures { λ r. ⌜ (r ≡ old-of (first-such (has-name (now (name .entry))) (keep is-file (rest (now (image .entry)) start .entries))))
-        × Lies r (length (now (image .entry))) ⌝ }
+// The file that a put replaces, done or planned: the one that was found.
+fn old_file(image: &[u8], f: Found) -> Old
+    requires { ⌜ Found-whole (now image) f × In-range (length (now image)) ⌝ }
+    ensures { λ r. ⌜ (r ≡ old-of (found-in (now (image .entry)) f)) × Lies r (length (now (image .entry))) ⌝ }
 {
-    let f = file_named(image, start, name);
     let Found::At(e) = f else {
         return Old::None;
     };

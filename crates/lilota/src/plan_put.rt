@@ -4,9 +4,9 @@ use crate::door::admitted_named;
 use crate::old_file;
 use crate::planned::planned_write;
 use crate::planned::refused_write;
+use reading::Found;
 use reading::Read;
 use reading::Survey;
-use reading::image::first_cursor;
 use reading::room::has_room;
 use spec::Refusal;
 use window::Window;
@@ -22,7 +22,7 @@ ghost use Rattle.spec.specs.Place.{fits};
 ghost use Rattle.spec.specs.Write.{put-steps};
 ghost use Rattle.spec.specs.Answers.{put-into};
 ghost use Rattle.spec.specs.Planner.{Writing, hand-out, planned};
-ghost use Rattle.reading.specs.Read.{reading-of};
+ghost use Rattle.reading.specs.Read.{reading-of, File-told};
 ghost use Rattle.reading.specs.Accepted.{Settled};
 ghost use Rattle.window.specs.Handed.{slices, Handed};
 ghost use Rattle.lilota.specs.Numbers.{written, Written-told};
@@ -32,6 +32,7 @@ ghost use Rattle.lilota.specs.Planned.{handing};
 fn plan_replace(
     image: &[u8],
     s: Survey,
+    f: Found,
     name: &[u8],
     content: &[u8],
     kinds: &mut [u32],
@@ -40,14 +41,15 @@ fn plan_replace(
     w: Window,
 ) -> Window
     requires { ⌜ Settled (now image) s × (length (now name) ≤ 63)
-        × (fits (s .place) (size-of (length (now name)) (length (now content))) ≡ true) × (w .passed ≡ 0) ⌝ }
+        × (fits (s .place) (size-of (length (now name)) (length (now content))) ≡ true) × (w .passed ≡ 0)
+        × File-told (now image) (now name) s f ⌝ }
     ensures { λ r. ⌜ Handed (slices (now (kinds .entry)) (now (addresses .entry)) (now (bytes .entry))) w
         (put-steps (s .place) (file-named (now (name .entry)) (reading-of (now (image .entry)) s .entries))
         (now (name .entry)) (now (content .entry)))
         (slices (now (kinds .exit)) (now (addresses .exit)) (now (bytes .exit))) r ⌝ }
 {
     let place = s.place;
-    let old = old_file(image, first_cursor(image, place.head), name);
+    let old = old_file(image, f);
     hand_file(kinds, addresses, bytes, place, old, name, content, w)
 }
 
@@ -55,6 +57,7 @@ fn plan_replace(
 fn plan_put_from(
     image: &[u8],
     s: Survey,
+    f: Found,
     name: &[u8],
     content: &[u8],
     first: usize,
@@ -62,7 +65,7 @@ fn plan_put_from(
     addresses: &mut [u32],
     bytes: &mut [u32],
 ) -> PlannedWrite
-    requires { ⌜ Settled (now image) s × (length (now name) ≤ 63) ⌝ }
+    requires { ⌜ Settled (now image) s × (length (now name) ≤ 63) × File-told (now image) (now name) s f ⌝ }
     ensures { λ r. ⌜ (handing (written (r .answer)) (r .handed) (slices (now (kinds .exit)) (now (addresses .exit)) (now (bytes .exit)))
         ≡ hand-out (put-into (now (name .entry)) (now (content .entry)) (reading-of (now (image .entry)) s)) first
         (slices (now (kinds .entry)) (now (addresses .entry)) (now (bytes .entry))))
@@ -73,6 +76,7 @@ fn plan_put_from(
         let w = plan_replace(
             image,
             s,
+            f,
             name,
             content,
             kinds,
@@ -100,9 +104,11 @@ pub fn plan_put(
         (slices (now (kinds .entry)) (now (addresses .entry)) (now (bytes .entry))))
         × Written-told (r .answer) × (now (image .exit) ≡ now (image .entry)) ⌝ }
 {
-    let x = admitted_named(image, name);
+    let d = admitted_named(image, name);
+    let x = d.read;
+    let f = d.file;
     match x {
-        Read::Good(s) => plan_put_from(image, s, name, content, first, kinds, addresses, bytes),
+        Read::Good(s) => plan_put_from(image, s, f, name, content, first, kinds, addresses, bytes),
         Read::Refused(y) => refused_write(y),
     }
 }

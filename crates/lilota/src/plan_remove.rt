@@ -5,41 +5,36 @@ use crate::planned::planned_write;
 use crate::planned::refused_write;
 use reading::Found;
 use reading::Read;
-use reading::Survey;
-use reading::files::file_named;
-use reading::image::first_cursor;
 use spec::Refusal;
 use spec::Status;
 use window::Window;
 use window::build::hand_status;
 use window::shortest;
 ghost use mathlib.Core.Path.{_≡_};
-ghost use Rattle.spec.specs.Answers.{file-of, removing};
+ghost use lib.ListN.{length};
+ghost use Rattle.spec.specs.Answers.{found, removing};
 ghost use Rattle.spec.specs.Planner.{Writing, hand-out, planned};
-ghost use Rattle.reading.specs.Read.{reading-of};
-ghost use Rattle.reading.specs.Accepted.{Settled};
+ghost use Rattle.laws.specs.Length.{In-range};
+ghost use Rattle.reading.specs.Seek.{found-in, Found-whole};
 ghost use Rattle.window.specs.Handed.{slices};
 ghost use Rattle.lilota.specs.Numbers.{written, Written-told};
 ghost use Rattle.lilota.specs.Planned.{handing};
 
-// The plan on an image that was read: no such file, or the one step.
+// The plan for the file that was found: no such file, or the one step.
 fn plan_remove_from(
     image: &[u8],
-    s: Survey,
-    name: &[u8],
+    f: Found,
     first: usize,
     kinds: &mut [u32],
     addresses: &mut [u32],
     bytes: &mut [u32],
 ) -> PlannedWrite
-    requires { ⌜ Settled (now image) s ⌝ }
+    requires { ⌜ Found-whole (now image) f × In-range (length (now image)) ⌝ }
     ensures { λ r. ⌜ (handing (written (r .answer)) (r .handed) (slices (now (kinds .exit)) (now (addresses .exit)) (now (bytes .exit)))
-        ≡ hand-out (file-of (now (name .entry)) removing (reading-of (now (image .entry)) s)) first
+        ≡ hand-out (found removing (found-in (now (image .entry)) f)) first
         (slices (now (kinds .entry)) (now (addresses .entry)) (now (bytes .entry))))
         × Written-told (r .answer) ⌝ }
 {
-    let place = s.place;
-    let f = file_named(image, first_cursor(image, place.head), name);
     let Found::At(e) = f else {
         return refused_write(Refusal { number: 2 });
     };
@@ -69,9 +64,11 @@ pub fn plan_remove(
         (slices (now (kinds .entry)) (now (addresses .entry)) (now (bytes .entry))))
         × Written-told (r .answer) × (now (image .exit) ≡ now (image .entry)) ⌝ }
 {
-    let x = admitted_named(image, name);
+    let d = admitted_named(image, name);
+    let x = d.read;
+    let f = d.file;
     match x {
-        Read::Good(s) => plan_remove_from(image, s, name, first, kinds, addresses, bytes),
+        Read::Good(_) => plan_remove_from(image, f, first, kinds, addresses, bytes),
         Read::Refused(y) => refused_write(y),
     }
 }

@@ -4,9 +4,9 @@ use crate::carry::ended;
 use crate::door::admitted_named;
 use crate::old_file;
 use flash::Meter;
+use reading::Found;
 use reading::Read;
 use reading::Survey;
-use reading::image::first_cursor;
 use reading::room::has_room;
 use spec::Refusal;
 use writing::write_file;
@@ -21,27 +21,35 @@ ghost use Rattle.spec.specs.Numbers.{outcome-of};
 ghost use Rattle.spec.specs.Answers.{carry-out, put-into, put};
 ghost use Rattle.flash.specs.Did.{Did};
 ghost use Rattle.record.specs.Within.{Name-length};
-ghost use Rattle.reading.specs.Read.{reading-of};
+ghost use Rattle.reading.specs.Read.{reading-of, File-told};
 ghost use Rattle.reading.specs.Accepted.{Settled};
 ghost use Rattle.lilota.specs.Numbers.{written, Written-told};
 
 // Put's steps, where there is room.
-fn replace(image: &mut [u8], s: Survey, name: &[u8], content: &[u8], m: Meter) -> Meter
+fn replace(image: &mut [u8], s: Survey, f: Found, name: &[u8], content: &[u8], m: Meter) -> Meter
     requires { ⌜ Settled (now image) s × Name-length (length (now name))
-        × (fits (s .place) (size-of (length (now name)) (length (now content))) ≡ true) × (m .asked ≡ 0) ⌝ }
+        × (fits (s .place) (size-of (length (now name)) (length (now content))) ≡ true) × (m .asked ≡ 0)
+        × File-told (now image) (now name) s f ⌝ }
     ensures { λ r. ⌜ Did (now (image .entry)) m
         (put-steps (s .place) (file-named (now (name .entry)) (reading-of (now (image .entry)) s .entries))
         (now (name .entry)) (now (content .entry)))
         (now (image .exit)) r ⌝ }
 {
     let place = s.place;
-    let old = old_file(image, first_cursor(image, place.head), name);
+    let old = old_file(image, f);
     write_file(image, place, old, name, content, m)
 }
 
 // The put on an image that was read: no room, or the steps.
-fn put_from(image: &mut [u8], s: Survey, name: &[u8], content: &[u8], allowance: usize) -> Written
-    requires { ⌜ Settled (now image) s × Name-length (length (now name)) ⌝ }
+fn put_from(
+    image: &mut [u8],
+    s: Survey,
+    f: Found,
+    name: &[u8],
+    content: &[u8],
+    allowance: usize,
+) -> Written
+    requires { ⌜ Settled (now image) s × Name-length (length (now name)) × File-told (now image) (now name) s f ⌝ }
     ensures { λ r. ⌜ (outcome-of (written r) (now (image .exit))
         ≡ carry-out (now (image .entry)) allowance
         (put-into (now (name .entry)) (now (content .entry)) (reading-of (now (image .entry)) s)))
@@ -52,7 +60,7 @@ fn put_from(image: &mut [u8], s: Survey, name: &[u8], content: &[u8], allowance:
             allowance: allowance,
             asked: 0,
         };
-        return ended(replace(image, s, name, content, m));
+        return ended(replace(image, s, f, name, content, m));
     }
     Written::Refused(Refusal { number: 28 })
 }
@@ -63,9 +71,11 @@ pub fn put(image: &mut [u8], name: &[u8], content: &[u8], allowance: usize) -> W
         ≡ put (now (image .entry)) (now (name .entry)) (now (content .entry)) allowance)
         × Written-told r ⌝ }
 {
-    let x = admitted_named(image, name);
+    let d = admitted_named(image, name);
+    let x = d.read;
+    let f = d.file;
     match x {
-        Read::Good(s) => put_from(image, s, name, content, allowance),
+        Read::Good(s) => put_from(image, s, f, name, content, allowance),
         Read::Refused(y) => Written::Refused(y),
     }
 }

@@ -82,7 +82,8 @@ pub fn to_start(image: &mut [u8], at: usize, low: u8, m: Meter) -> Meter
 fn forget(image: &mut [u8], x: Spot, y: Spot, m: Meter) -> Meter
     requires { ⌜ Whole (now image) x × Whole (now image) y ⌝ }
     requires { ⌜ Can-count m 1 ⌝ }
-    ensures { λ r. ⌜ (let s = now (image .entry) in Did s m (forget-steps (entry-of s x) (left-behind s x y)) (now (image .exit)) r) ⌝ }
+    ensures { λ r. ⌜ (let s = now (image .entry) in
+        Did s m (forget-steps (entry-of s x) (left-behind s x y)) (now (image .exit)) r) ⌝ }
     ensures { λ r. ⌜ Asked-most m r 1 ⌝ }
 {
     let to = vacated_end(image.len(), y.at);

@@ -1,4 +1,4 @@
--- What the pass of a judgement carries along: the tally, and what the names tell, of the records before a cursor.
+-- What the pass of a judgement carries along of the records before a cursor: the tally, what the names tell, the first file of a hash.
 use Prim.Native.Nat.{ℕ, _+_, _≤_}
 use native.Mathlib.Omega.{arith}
 use mathlib.Core.Path.{_≡_, refl, sym, ap, subst, _∙_}
@@ -11,33 +11,36 @@ use Rattle.reading.specs.declared.Item.{Item}
 use Rattle.reading.specs.declared.Tally.{Tally}
 use Rattle.reading.specs.declared.Repeats.{Repeats}
 use Rattle.reading.specs.declared.Gathered.{Gathered}
+use Rattle.reading.specs.declared.Found.{Found}
 use Rattle.reading.specs.Cursor.{Cursor-sound, advance}
 use Rattle.reading.specs.Rest.{rest, entry-of}
 use Rattle.reading.specs.Fold.{Passes, Not-record}
 use Rattle.reading.specs.Tally.{none-yet, name-fine, count-with, noted, noted-plain, noted-plain-is, noted-records}
 use Rattle.reading.specs.Tally.{Passing, passing-start, passing-step}
 use Rattle.reading.specs.TallyLaws.{and-true}
-use Rattle.spec.specs.Record.{name-of, name-ok}
+use Rattle.spec.specs.Record.{Entry, name-of, name-ok}
 use Rattle.spec.specs.Reading.{marked}
 use Rattle.reading.specs.FileLaws.{is-file}
 use Rattle.reading.specs.Repeats.{repeats-of}
 use Rattle.reading.specs.Prefix.{Gone, gone-none, gone-all, gone-more, front, front-and, front-more}
 use Rattle.reading.specs.Held.{Carried, carried-none, carried-same}
+use Rattle.reading.specs.Sought.{has-hash, found-or, Sought, sought-more, sought-none}
 
 abbrev pub nothing-yet : Cursor → Gathered
-nothing-yet c = record { cursor = c; tally = none-yet; repeats = record { doubled = false; superseded = false } }
+nothing-yet c =
+    record { cursor = c; tally = none-yet; repeats = record { doubled = false; superseded = false }; found = Found.Nothing }
 
--- of the records before c
-pub record Gathering (image : List ℕ) (start c : Cursor) (t : Tally) (n : Repeats) (table : List ℕ) : Type 0 where
-  pub passing : Passing image start c t
-  pub gone : Gone image start c (t .records)
-  pub carried : Carried (front image start (t .records)) n table
+-- of the records before g's cursor; wanted is the hash
+pub record Gathering (image : List ℕ) (start : Cursor) (wanted : ℕ) (g : Gathered) (table : List ℕ) : Type 0 where
+  pub passing : Passing image start (g .cursor) (g .tally)
+  pub gone : Gone image start (g .cursor) (g .tally .records)
+  pub carried : Carried (front image start (g .tally .records)) (g .repeats) table
+  pub sought : Sought image wanted (front image start (g .tally .records)) (g .found)
 
--- of the records before e, which stands before c
-pub record Noting (image : List ℕ) (start : Cursor) (e : Spot) (c : Cursor) (t : Tally) (n : Repeats) (table : List ℕ) : Type 0 where
-  pub before : Cursor
-  pub state : Gathering image start before t n table
-  pub passes : Passes image before e c
+-- the same, and e stands at g's cursor, before next
+pub record Noting (image : List ℕ) (start : Cursor) (wanted : ℕ) (e : Spot) (next : Cursor) (g : Gathered) (table : List ℕ) : Type 0 where
+  pub state : Gathering image start wanted g table
+  pub passes : Passes image (g .cursor) e next
 
 -- e is no mark and stands behind the second record, and it is a file
 pub record Plain-file (image : List ℕ) (e : Spot) (t : Tally) : Type 0 where
@@ -45,48 +48,64 @@ pub record Plain-file (image : List ℕ) (e : Spot) (t : Tally) : Type 0 where
   pub unmarked : marked (entry-of image e) ≡ false
   pub file : is-file (entry-of image e) ≡ true
 
-module _ {image : List ℕ} {start : Cursor} where
+module _ {image : List ℕ} {start : Cursor} {wanted : ℕ} where
   pub gathering-start : {table : List ℕ} → Cursor-sound image start → 16 ≤ length image → 512 ≤ length table
-      → Gathering image start start none-yet (record { doubled = false; superseded = false }) table
-  gathering-start {table} s l h = record { passing = passing-start s l; gone = gone-none s; carried = carried-none table h }
-
-  pub gathering-next : {e : Spot} {c : Cursor} {t u : Tally} {n m : Repeats} {table after : List ℕ} → Noting image start e c t n table
-      → u ≡ noted t (entry-of image e) → Carried (front-and image start (t .records) e) m after → Gathering image start c u m after
-  gathering-next {e} {c} {t} {u} {n} {m} {table} {after} w q h =
-      let k : t .records + 1 ≡ u .records = sym (ap (λ (x : Tally). x .records) q ∙ noted-records t (entry-of image e)) in
-      let f : front image start (t .records + 1) ≡ front-and image start (t .records) e = front-more (w .state .gone) (w .passes) in
-      record {
-        passing = passing-step (w .state .passing) (w .passes) q;
-        gone = subst (λ (i : ℕ). Gone image start c i) k (gone-more (w .state .gone) (w .passes));
-        carried = subst (λ (i : ℕ). Carried (front image start i) m after) k (rw f h);
-      }
+      → Gathering image start wanted (nothing-yet start) table
+  gathering-start {table} s l h =
+      record { passing = passing-start s l; gone = gone-none s; carried = carried-none table h; sought = sought-none image wanted }
 
   -- no record is left
-  pub gathering-end : {c : Cursor} {t : Tally} {n : Repeats} {table : List ℕ} (r : Item) → Gathering image start c t n table
-      → r ≡ advance image c → Not-record r → n ≡ repeats-of (rest image start .entries)
-  gathering-end r w e z = w .carried .right ∙ ap repeats-of (gone-all (w .gone) r e z)
+  module _ {g : Gathered} {table : List ℕ} (r : Item) (w : Gathering image start wanted g table) (e : r ≡ advance image (g .cursor))
+      (z : Not-record r) where
+    pub gathered-repeats : g .repeats ≡ repeats-of (rest image start .entries)
+    gathered-repeats = w .carried .right ∙ ap repeats-of (gone-all (w .gone) r e z)
 
-  -- a plain record behind the second, a file or not
-  module _ {e : Spot} {c : Cursor} {t u : Tally} {n : Repeats} {table : List ℕ} (w : Noting image start e c t n table)
-      (two : 2 ≤ t .records) (plain : marked (entry-of image e) ≡ false) where
-    more : {fine : Bool} {files : ℕ} → u ≡ noted-plain t e files fine (c .pending) → 2 ≤ u .records
-    more q = rw q (omega arith)
+    pub gathered-found : Sought image wanted (rest image start .entries) (g .found)
+    gathered-found = subst (λ (es : List Entry). Sought image wanted es (g .found)) (gone-all (w .gone) r e z) (w .sought)
 
-    same : {fine : Bool} {files : ℕ} → u ≡ noted-plain t e files fine (c .pending)
-        → files ≡ count-with (t .files) (is-file (entry-of image e))
-        → fine ≡ (t .fine && name-fine (entry-of image e)) → u ≡ noted t (entry-of image e)
-    same {fine} {files} q f g =
-        q ∙ noted-plain-is t e files fine (c .pending) (w .passes .whole) two plain f g (w .passes .onward .pending)
+  -- one record more
+  module _ {e : Spot} {c : Cursor} {g : Gathered} {table : List ℕ} (w : Noting image start wanted e c g table) where
+    abbrev t : Tally
+    t = g .tally
 
-    pub gathering-file : {ok fine : Bool} {m : Repeats} {after : List ℕ} → is-file (entry-of image e) ≡ true
-        → u ≡ noted-plain t e (t .files + 1) fine (c .pending) → fine ≡ (t .fine && ok) → ok ≡ name-ok (name-of (entry-of image e))
-        → Carried (front-and image start (t .records) e) m after → Gathering image start c u m after × (2 ≤ u .records)
-    unfolding name-fine
-    gathering-file y q g o h = (gathering-next w (same q (rw y) (rw (name-fine, y, ← o) g)) h, more q)
+    abbrev x : Entry
+    x = entry-of image e
 
-    pub gathering-dead : is-file (entry-of image e) ≡ false → u ≡ noted-plain t e (t .files) (t .fine) (c .pending)
-        → Gathering image start c u n table × (2 ≤ u .records)
-    unfolding name-fine
-    gathering-dead y q =
-        let n : u ≡ noted t (entry-of image e) = same q (rw y) (rw (name-fine, y) (sym (and-true (t .fine)))) in
-        (gathering-next w n (carried-same (entry-of image e) (w .state .carried) y), more q)
+    pub gathering-next : {u : Tally} {m : Repeats} {f : Found} {after : List ℕ} → u ≡ noted t x
+        → Carried (front-and image start (t .records) e) m after → f ≡ found-or (is-file x && has-hash wanted x) (g .found) e
+        → Gathering image start wanted (record { cursor = c; tally = u; repeats = m; found = f }) after
+    gathering-next {u} {m} {f} {after} q h o =
+        let k : t .records + 1 ≡ u .records = sym (ap (λ (y : Tally). y .records) q ∙ noted-records t x) in
+        let l : front image start (t .records + 1) ≡ front-and image start (t .records) e = front-more (w .state .gone) (w .passes) in
+        record {
+          passing = passing-step (w .state .passing) (w .passes) q;
+          gone = subst (λ (i : ℕ). Gone image start c i) k (gone-more (w .state .gone) (w .passes));
+          carried = subst (λ (i : ℕ). Carried (front image start i) m after) k (rw l h);
+          sought = subst (λ (i : ℕ). Sought image wanted (front image start i) f) k (rw (l, o) (sought-more e (w .passes .whole) (w .state .sought)));
+        }
+
+    -- a plain one behind the second, a file or not
+    module _ {u : Tally} (two : 2 ≤ t .records) (plain : marked x ≡ false) where
+      more : {fine : Bool} {files : ℕ} → u ≡ noted-plain t e files fine (c .pending) → 2 ≤ u .records
+      more q = rw q (omega arith)
+
+      same : {fine : Bool} {files : ℕ} → u ≡ noted-plain t e files fine (c .pending)
+          → files ≡ count-with (t .files) (is-file x)
+          → fine ≡ (t .fine && name-fine x) → u ≡ noted t x
+      same {fine} {files} q f g =
+          q ∙ noted-plain-is t e files fine (c .pending) (w .passes .whole) two plain f g (w .passes .onward .pending)
+
+      pub gathering-file : {ok fine : Bool} {m : Repeats} {f : Found} {after : List ℕ} → is-file x ≡ true
+          → u ≡ noted-plain t e (t .files + 1) fine (c .pending) → fine ≡ (t .fine && ok) → ok ≡ name-ok (name-of x)
+          → Carried (front-and image start (t .records) e) m after → f ≡ found-or (has-hash wanted x) (g .found) e
+          → Gathering image start wanted (record { cursor = c; tally = u; repeats = m; found = f }) after × (2 ≤ u .records)
+      unfolding name-fine
+      gathering-file y q a o h b = (gathering-next (same q (rw y) (rw (name-fine, y, ← o) a)) h (rw y b), more q)
+
+      pub gathering-dead : is-file x ≡ false → u ≡ noted-plain t e (t .files) (t .fine) (c .pending)
+          → Gathering image start wanted (record { cursor = c; tally = u; repeats = g .repeats; found = g .found }) table
+          × (2 ≤ u .records)
+      unfolding name-fine
+      gathering-dead y q =
+          let n : u ≡ noted t x = same q (rw y) (rw (name-fine, y) (sym (and-true (t .fine)))) in
+          (gathering-next n (carried-same x (w .state .carried) y) (rw y), more q)

@@ -19,6 +19,7 @@ pub mod Marks
 pub mod Repeats
 pub mod Prefix
 pub mod Held
+pub mod Sought
 pub mod Skip
 pub mod Gather
 pub mod FreeLaws

@@ -14,11 +14,12 @@ use Rattle.laws.specs.Parts.{drop-next}
 use Rattle.reading.specs.declared.NameMarks.{NameMarks}
 use Rattle.reading.specs.Filter.{signature-by, signature-of, hash-from, In-table}
 
--- whether the name is a good one, and its bits
+-- whether the name is a good one, its bits, and its hash
 pub record Marked-as (name : List ℕ) (r : NameMarks) : Type 0 where
   pub fine : r .fine ≡ name-ok name
   pub bits : r .signature ≡ signature-of name
   pub inside : In-table (r .signature)
+  pub hash : r .hash ≡ hash-from 0 name
 
 none : (a b : Bool) → (a && false) ≡ ((a && false) && b)
 none true b = refl

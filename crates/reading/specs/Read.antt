@@ -4,10 +4,10 @@ use mathlib.Core.Path.{_≡_}
 use mathlib.Core.Bool.{Bool, true, false}
 use mathlib.Core.List.{List}
 use lib.ListN.{length}
-use Rattle.spec.specs.Basics.{Answer, refuse, give, any, numbered}
+use Rattle.spec.specs.Basics.{Answer, refuse, give, any, keep, first-such, numbered}
 use Rattle.spec.specs.Geometry.{floor}
 use Rattle.spec.specs.Chain.{Reading}
-use Rattle.spec.specs.Files.{superseded}
+use Rattle.spec.specs.Files.{has-name, superseded}
 use Rattle.spec.specs.Mount.{settled}
 use Rattle.reading.specs.declared.Cursor.{Cursor}
 use Rattle.reading.specs.declared.Tally.{Tally}
@@ -16,11 +16,15 @@ use Rattle.reading.specs.declared.Repeats.{Repeats}
 use Rattle.reading.specs.declared.Read.{Read}
 use Rattle.reading.specs.declared.Judged.{Judged}
 use Rattle.reading.specs.declared.Judgement.{Judgement}
+use Rattle.reading.specs.declared.Found.{Found}
 use Rattle.reading.specs.Cursor.{Cursor-sound, start}
 use Rattle.reading.specs.Rest.{rest}
 use Rattle.reading.specs.Tally.{none-yet, tally, Spots}
 use Rattle.reading.specs.FreeLaws.{In-image}
 use Rattle.reading.specs.Repeats.{repeats-of}
+use Rattle.reading.specs.FileLaws.{is-file}
+use Rattle.reading.specs.Seek.{found-in, Found-whole}
+use Rattle.reading.specs.Sought.{Sought}
 
 -- the cursor at the head h
 abbrev pub first-cursor : List ℕ → ℕ → Cursor
@@ -78,3 +82,24 @@ settled-read s false = Read.Refused (numbered 16)
 
 abbrev pub read-settled : Judged → Read
 read-settled j = settled-read (j .survey) (j .settled)
+
+-- ---- the file of a name
+
+-- what the judgement found of the hash that was wanted
+abbrev pub Judged-for : List ℕ → ℕ → Judgement → Type 0
+Judged-for image wanted (Judgement.Good j) = Sought image wanted (reading-of image (j .survey) .entries) (j .found)
+Judged-for image wanted (Judgement.Refused x) = Unit {0}
+
+-- f is the first file of this name
+pub record File-told (image : List ℕ) (name : List ℕ) (s : Survey) (f : Found) : Type 0 where
+  pub first : found-in image f ≡ first-such (has-name name) (keep is-file (reading-of image s .entries))
+  pub whole : Found-whole image f
+
+abbrev pub Named-file : List ℕ → List ℕ → Read → Found → Type 0
+Named-file image name (Read.Good s) f = File-told image name s f
+Named-file image name (Read.Refused x) f = Unit {0}
+
+pub settled-file : (image : List ℕ) (name : List ℕ) (s : Survey) (t : Bool) (f : Found) → File-told image name s f
+    → Named-file image name (settled-read s t) f
+settled-file image name s true f h = h
+settled-file image name s false f h = tt

@@ -8,7 +8,8 @@ ghost use Rattle.reading.specs.Filter.{mixed, hash-from, four-bits, two-
 // The words of the table, 4 KiB. With 2,048 names about one is taken for added before that was not.
 pub const WORDS: usize = 512;
 
-const HASH_LIMIT: u64 = 0x1_0000_0000;
+// No name has this hash or a higher one.
+pub const HASH_LIMIT: u64 = 0x1_0000_0000;
 
 pub fn wide(x: u8) -> u64
     ensures { λ r. ⌜ (r ≡ x) × (r < 256) ⌝ }
@@ -24,7 +25,7 @@ pub fn mixed(h: u64, byte: u64) -> u64
     (h * 0x9E37_79B1 + byte) % HASH_LIMIT
 }
 
-fn hash(name: &[u8]) -> u64
+pub fn hash(name: &[u8]) -> u64
     ensures { λ r. ⌜ (r ≡ hash-from 0 (now (name .entry))) × (r < 2 ^ 32) ⌝ }
 {
     let mut h = 0;

@@ -1,6 +1,7 @@
-// The one pass of a judgement: the tally of all records, and what their names tell. Plain records are gone over by themselves, so that the
+// The one pass of a judgement: the tally of all records, what their names tell, and the first file of a hash. Plain records are gone over by themselves, so that the
 // compiler keeps all that is carried along in registers.
 use crate::Cursor;
+use crate::Found;
 use crate::FullPass;
 use crate::Gathered;
 use crate::Item;
@@ -19,6 +20,8 @@ use crate::plain::near;
 use crate::scan::none_yet;
 use crate::scan::noted;
 use crate::scan::noted_plain;
+use crate::sought::found_or;
+use crate::sought::found_with;
 ghost use mathlib.Core.Path.{_≡_};
 ghost use Prim.Native.Nat.{_≤_};
 ghost use lib.ListN.{length};
@@ -26,6 +29,7 @@ ghost use Rattle.reading.specs.Cursor.{Cursor-sound, left};
 ghost use Rattle.reading.specs.Rest.{rest};
 ghost use Rattle.reading.specs.Tally.{none-yet, passed, Spots, End-inside};
 ghost use Rattle.reading.specs.Repeats.{repeats-of};
+ghost use Rattle.reading.specs.Sought.{Sought};
 ghost use Rattle.reading.specs.Gather.{nothing-yet, Gathering, Noting, Plain-file};
 
 // What is gathered, with one record more, which stands before next.
@@ -36,18 +40,22 @@ fn gather_one(
     g: Gathered,
     e: Spot,
     next: Cursor,
+    wanted: u64,
 ) -> Gathered
-    requires { ⌜ Cursor-sound (now image) start × Noting (now image) start e next (g .tally) (g .repeats) (now table) ⌝ }
-    ensures { λ r. ⌜ Gathering (now (image .entry)) start (r .cursor) (r .tally) (r .repeats) (now (table .exit)) × (r .cursor ≡ next) ⌝ }
+    requires { ⌜ Cursor-sound (now image) start × Noting (now image) start wanted e next g (now table) ⌝ }
+    ensures { λ r. ⌜ Gathering (now (image .entry)) start wanted r (now (table .exit)) × (r .cursor ≡ next) ⌝ }
 {
     let t = g.tally;
     let n = g.repeats;
+    let f = g.found;
+    let o = found_with(image, wanted, f, e);
     let m = repeats_and(image, start, t.records, table, n, e);
     let u = noted(image, t, e, next.pending);
     Gathered {
         cursor: next,
         tally: u,
         repeats: m,
+        found: o,
     }
 }
 
@@ -59,31 +67,40 @@ fn gather_file(
     g: Gathered,
     e: Spot,
     next: Cursor,
+    wanted: u64,
 ) -> Gathered
-    requires { ⌜ Cursor-sound (now image) start × Noting (now image) start e next (g .tally) (g .repeats) (now table)
+    requires { ⌜ Cursor-sound (now image) start × Noting (now image) start wanted e next g (now table)
         × Plain-file (now image) e (g .tally) ⌝ }
-    ensures { λ r. ⌜ Gathering (now (image .entry)) start (r .cursor) (r .tally) (r .repeats) (now (table .exit)) × (r .cursor ≡ next)
+    ensures { λ r. ⌜ Gathering (now (image .entry)) start wanted r (now (table .exit)) × (r .cursor ≡ next)
         × (2 ≤ r .tally .records) ⌝ }
 {
     let t = g.tally;
     let n = g.repeats;
+    let f = g.found;
     let name = marks_of(image, e);
     let s = name.signature;
+    let o = found_or(name.hash == wanted, f, e);
     let m = repeats_signed(image, start, t.records, table, n, e, s);
     let u = noted_plain(t, e, t.files + 1, both(t.fine, name.fine), next.pending);
     Gathered {
         cursor: next,
         tally: u,
         repeats: m,
+        found: o,
     }
 }
 
 // With all plain records from the cursor on.
-fn gather_plain(image: &[u8], start: Cursor, table: &mut [u64; WORDS], first: Gathered) -> Gathered
-    requires { ⌜ Cursor-sound (now image) start
-        × Gathering (now image) start (first .cursor) (first .tally) (first .repeats) (now table) × (2 ≤ first .tally .records) ⌝ }
-    ensures { λ r. ⌜ Gathering (now (image .entry)) start (r .cursor) (r .tally) (r .repeats) (now (table .exit))
-        × (left (r .cursor) ≤ left (first .cursor)) ⌝ }
+fn gather_plain(
+    image: &[u8],
+    start: Cursor,
+    table: &mut [u64; WORDS],
+    first: Gathered,
+    wanted: u64,
+) -> Gathered
+    requires { ⌜ Cursor-sound (now image) start × Gathering (now image) start wanted first (now table)
+        × (2 ≤ first .tally .records) ⌝ }
+    ensures { λ r. ⌜ Gathering (now (image .entry)) start wanted r (now (table .exit)) × (left (r .cursor) ≤ left (first .cursor)) ⌝ }
 {
     let mut g = first;
     loop {
@@ -93,15 +110,17 @@ fn gather_plain(image: &[u8], start: Cursor, table: &mut [u64; WORDS], first: Ga
             return g;
         };
         if is_file(image, e) {
-            g = gather_file(image, start, table, g, e, next);
+            g = gather_file(image, start, table, g, e, next, wanted);
         } else {
             let t = g.tally;
             let n = g.repeats;
+            let f = g.found;
             let u = noted_plain(t, e, t.files, t.fine, next.pending);
             g = Gathered {
                 cursor: next,
                 tally: u,
                 repeats: n,
+                found: f,
             };
         }
     }
@@ -118,14 +137,16 @@ fn nothing_yet(start: Cursor) -> Gathered
             doubled: false,
             superseded: false,
         },
+        found: Found::Nothing,
     }
 }
 
-// All records from the cursor on.
-pub fn gather(image: &[u8], start: Cursor) -> FullPass
+// All records from the cursor on; wanted is the hash of a name.
+pub fn gather(image: &[u8], start: Cursor, wanted: u64) -> FullPass
     requires { ⌜ Cursor-sound (now image) start × (16 ≤ length (now image)) ⌝ }
     ensures { λ r. ⌜ (r .pass ≡ passed none-yet (rest (now (image .entry)) start)) × Spots (now (image .entry)) (r .pass .tally)
-        × End-inside (now (image .entry)) (r .pass .end) × (r .repeats ≡ repeats-of (rest (now (image .entry)) start .entries)) ⌝ }
+        × End-inside (now (image .entry)) (r .pass .end) × (r .repeats ≡ repeats-of (rest (now (image .entry)) start .entries))
+        × Sought (now (image .entry)) wanted (rest (now (image .entry)) start .entries) (r .found) ⌝ }
 {
     let mut table = [0u64; WORDS];
     let mut g = nothing_yet(start);
@@ -135,15 +156,17 @@ pub fn gather(image: &[u8], start: Cursor) -> FullPass
         let Item::Record { spot: e, next } = s else {
             let t = g.tally;
             let n = g.repeats;
+            let f = g.found;
             return FullPass {
                 pass: Pass { tally: t, end: s },
                 repeats: n,
+                found: f,
             };
         };
-        g = gather_one(image, start, &mut table, g, e, next);
+        g = gather_one(image, start, &mut table, g, e, next, wanted);
         let t = g.tally;
         if 2 <= t.records {
-            g = gather_plain(image, start, &mut table, g);
+            g = gather_plain(image, start, &mut table, g, wanted);
         }
     }
 }

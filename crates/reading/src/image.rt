@@ -1,20 +1,25 @@
 // The whole reading of an image: the survey from a head on, which repairs and moves go by, and the judgement of its rules.
 use crate::Cursor;
+use crate::Found;
 use crate::Headed;
 use crate::Item;
 use crate::Judged;
 use crate::Judgement;
+use crate::NamedRead;
 use crate::Overview;
 use crate::Read;
 use crate::Stretch;
 use crate::Survey;
 use crate::Tally;
 use crate::chain::start_at;
+use crate::filter::HASH_LIMIT;
+use crate::filter::hash;
 use crate::gather::gather;
 use crate::head::head;
 use crate::rules::legal;
 use crate::rules::settled;
 use crate::scan::pass;
+use crate::sought::file_of;
 use spec::Ending;
 use spec::Place;
 use spec::Refusal;
@@ -26,10 +31,13 @@ ghost use Rattle.spec.specs.Chain.{reading-from};
 ghost use Rattle.spec.specs.Reading.{judged, reading};
 ghost use Rattle.spec.specs.Door.{settled-reading};
 ghost use Rattle.laws.specs.Length.{Workable};
-ghost use Rattle.reading.specs.declared.Read.{Read};
+ghost use Rattle.reading.specs.declared.Judgement.{Judgement};
 ghost use Rattle.reading.specs.Read.{first-cursor, answered, Told, Quiet, judged-as, Judged-well, read-settled};
+ghost use Rattle.reading.specs.Read.{Judged-for, File-told, Named-file};
 ghost use Rattle.reading.specs.Rest.{rest};
 ghost use Rattle.reading.specs.Repeats.{repeats-of};
+ghost use Rattle.reading.specs.Filter.{hash-from};
+ghost use Rattle.reading.specs.Sought.{Sought};
 ghost use Rattle.reading.specs.HeadSkip.{Blank-there};
 ghost use Rattle.reading.specs.Survey.{Seen, told, survey-of};
 
@@ -78,14 +86,16 @@ pub fn survey(image: &[u8], h: usize) -> Survey
     survey_of(image.len(), h, end, t)
 }
 
-// The same, with what the names tell.
-fn overview(image: &[u8], h: usize) -> Overview
+// The same, with what the names tell and the first file of the hash that is wanted.
+fn overview(image: &[u8], h: usize, wanted: u64) -> Overview
     requires { ⌜ (h ≤ length (now image)) × Workable (now image) ⌝ }
     ensures { λ r. ⌜ Seen (now (image .entry)) h (r .survey)
-        × (r .repeats ≡ repeats-of (rest (now (image .entry)) (first-cursor (now (image .entry)) h) .entries)) ⌝ }
+        × (r .repeats ≡ repeats-of (rest (now (image .entry)) (first-cursor (now (image .entry)) h) .entries))
+        × Sought (now (image .entry)) wanted (rest (now (image .entry)) (first-cursor (now (image .entry)) h) .entries) (r .found) ⌝ }
 {
-    let all = gather(image, first_cursor(image, h));
+    let all = gather(image, first_cursor(image, h), wanted);
     let n = all.repeats;
+    let f = all.found;
     let p = all.pass;
     let end = p.end;
     let t = p.tally;
@@ -93,14 +103,8 @@ fn overview(image: &[u8], h: usize) -> Overview
     Overview {
         survey: s,
         repeats: n,
+        found: f,
     }
-}
-
-fn read_of(j: Judged) -> Read
-    ensures { λ r. ⌜ r ≡ Read.Good (j .survey) ⌝ }
-{
-    let s = j.survey;
-    Read::Good(s)
 }
 
 // The survey of a settled image, else 16.
@@ -115,48 +119,47 @@ fn if_settled(j: Judged) -> Read
 }
 
 // What is read from the head h on, and whether it is settled; blank is a run of FF.
-pub fn judge_from(image: &[u8], h: usize, blank: Stretch) -> Judgement
+fn judge_from(image: &[u8], h: usize, blank: Stretch, wanted: u64) -> Judgement
     requires { ⌜ (h ≤ length (now image)) × Workable (now image) × Blank-there (now image) blank ⌝ }
     ensures { λ r. ⌜ judged-as (now (image .entry)) r ≡ judged (now (image .entry)) (reading-from (now (image .entry)) h) ⌝ }
-    ensures { λ r. ⌜ Judged-well (now (image .entry)) r ⌝ }
+    ensures { λ r. ⌜ Judged-well (now (image .entry)) r × Judged-for (now (image .entry)) wanted r ⌝ }
 {
-    let o = overview(image, h);
+    let o = overview(image, h, wanted);
     let s = o.survey;
     let n = o.repeats;
+    let f = o.found;
     let start = first_cursor(image, h);
     if legal(image, start, s, n, blank) {
         return Judgement::Good(Judged {
             survey: s,
             settled: settled(image, start, s, n),
+            found: f,
         });
     }
     Judgement::Refused(Refusal { number: 5 })
 }
 
-// What an image reads as, and whether it is settled: all that a call asks of it first.
-pub fn judge(image: &[u8]) -> Judgement
+// What an image reads as, whether it is settled, and the first file of the hash that is wanted.
+fn judge_for(image: &[u8], wanted: u64) -> Judgement
     requires { ⌜ Workable (now image) ⌝ }
-    ensures { λ r. ⌜ (judged-as (now (image .entry)) r ≡ reading (now (image .entry))) × Judged-well (now (image .entry)) r ⌝ }
+    ensures { λ r. ⌜ (judged-as (now (image .entry)) r ≡ reading (now (image .entry))) × Judged-well (now (image .entry)) r
+        × Judged-for (now (image .entry)) wanted r ⌝ }
 {
     let found = head(image);
     let blank = found.blank;
     let x = found.head;
     match x {
-        Headed::At(h) => judge_from(image, h, blank),
+        Headed::At(h) => judge_from(image, h, blank, wanted),
         Headed::Refused(n) => Judgement::Refused(Refusal { number: n }),
     }
 }
 
-// What an image reads as.
-pub fn read(image: &[u8]) -> Read
+// What an image reads as, and whether it is settled: all that a call asks of it first that asks for no name.
+pub fn judge(image: &[u8]) -> Judgement
     requires { ⌜ Workable (now image) ⌝ }
-    ensures { λ r. ⌜ (answered (now (image .entry)) r ≡ reading (now (image .entry))) × Told (now (image .entry)) r ⌝ }
+    ensures { λ r. ⌜ (judged-as (now (image .entry)) r ≡ reading (now (image .entry))) × Judged-well (now (image .entry)) r ⌝ }
 {
-    let x = judge(image);
-    match x {
-        Judgement::Good(j) => read_of(j),
-        Judgement::Refused(x) => Read::Refused(x),
-    }
+    judge_for(image, HASH_LIMIT)
 }
 
 // What a settled image reads as, with nothing superseded; 16 for one that is not settled.
@@ -169,5 +172,38 @@ pub fn read_settled(image: &[u8]) -> Read
     match x {
         Judgement::Good(j) => if_settled(j),
         Judgement::Refused(x) => Read::Refused(x),
+    }
+}
+
+// What a judgement for a name says, if the image is settled.
+fn named_of(image: &[u8], name: &[u8], j: Judged) -> NamedRead
+    requires { ⌜ Judged-well (now image) (Judgement.Good j)
+        × Judged-for (now image) (hash-from 0 (now name)) (Judgement.Good j) ⌝ }
+    ensures { λ r. ⌜ (r .read ≡ read-settled j) × File-told (now (image .entry)) (now (name .entry)) (j .survey) (r .file) ⌝ }
+{
+    let f = j.found;
+    let s = j.survey;
+    let p = s.place;
+    let file = file_of(image, first_cursor(image, p.head), name, f);
+    let x = if_settled(j);
+    NamedRead {
+        read: x,
+        file: file,
+    }
+}
+
+// The same as read_settled, with the file of this name.
+pub fn read_named(image: &[u8], name: &[u8]) -> NamedRead
+    requires { ⌜ Workable (now image) ⌝ }
+    ensures { λ r. ⌜ (answered (now (image .entry)) (r .read) ≡ settled-reading (now (image .entry))) × Told (now (image .entry)) (r .read)
+        × Quiet (now (image .entry)) (r .read) × Named-file (now (image .entry)) (now (name .entry)) (r .read) (r .file) ⌝ }
+{
+    let x = judge_for(image, hash(name));
+    match x {
+        Judgement::Good(j) => named_of(image, name, j),
+        Judgement::Refused(y) => NamedRead {
+            read: Read::Refused(y),
+            file: Found::Nothing,
+        },
     }
 }

@@ -14,6 +14,7 @@ pub mod room;
 mod rules;
 pub mod scan;
 mod skip;
+mod sought;
 
 use spec::Ending;
 use spec::Place;
@@ -88,10 +89,11 @@ pub struct Signature {
     pub more: u64,
 }
 
-// Whether a name is a good one, and what it sets in the table.
+// Whether a name is a good one, what it sets in the table, and its hash.
 pub struct NameMarks {
     pub fine: bool,
     pub signature: Signature,
+    pub hash: u64,
 }
 
 // Whether an FC record and whether an F8 record of some name stand in a part of the chain.
@@ -126,17 +128,19 @@ pub struct Pass {
     pub end: Item,
 }
 
-// What is gathered at a cursor: the tally of the records before it, and what their names tell.
+// What is gathered at a cursor: the tally of the records before it, what their names tell, and the first file of the hash that is wanted.
 pub struct Gathered {
     pub cursor: Cursor,
     pub tally: Tally,
     pub repeats: Repeats,
+    pub found: Found,
 }
 
 // The same of a whole chain, and how the chain ends.
 pub struct FullPass {
     pub pass: Pass,
     pub repeats: Repeats,
+    pub found: Found,
 }
 
 // All that the calls go by: head, tail and turn; how the chain ends; the tally.
@@ -150,12 +154,14 @@ pub struct Survey {
 pub struct Overview {
     pub survey: Survey,
     pub repeats: Repeats,
+    pub found: Found,
 }
 
-// What a legal image reads as, and whether mount has no step to do.
+// What a legal image reads as, whether mount has no step to do, and the first file of the hash that is wanted.
 pub struct Judged {
     pub survey: Survey,
     pub settled: bool,
+    pub found: Found,
 }
 
 // That, or the refusal.
@@ -168,4 +174,10 @@ pub enum Judgement {
 pub enum Read {
     Good(Survey),
     Refused(Refusal),
+}
+
+// What an image reads as, and the file of the name that was asked for.
+pub struct NamedRead {
+    pub read: Read,
+    pub file: Found,
 }

@@ -1,15 +1,15 @@
-// A file's name in one pass over its bytes: whether it is a good one, and its bits in the table.
+// A file's name in one pass over its bytes: whether it is a good one, its bits in the table, and its hash.
 use crate::NameMarks;
 use crate::Spot;
 use crate::filter::mixed;
 use crate::filter::signature_by;
 use crate::filter::wide;
+use record::name::is_printable;
 ghost use mathlib.Core.Path.{_≡_};
 ghost use mathlib.Core.Bool.{_&&_, not};
 ghost use Prim.Native.Nat.{_≤_, _<_};
 ghost use lib.ListN.{length};
 ghost use lib.Dec.{leb};
-ghost use Rattle.spec.specs.Bytes.{is-printable};
 ghost use Rattle.spec.specs.Record.{ends-in-slash, name-of};
 ghost use Rattle.reading.specs.Rest.{entry-of};
 ghost use Rattle.reading.specs.Fold.{Whole};
@@ -20,15 +20,6 @@ pub fn both(a: bool, b: bool) -> bool
 {
     if a {
         return b;
-    }
-    false
-}
-
-fn printable(b: u8) -> bool
-    ensures { λ r. ⌜ r ≡ is-printable b ⌝ }
-{
-    if 0x21 <= b {
-        return b <= 0x7E;
     }
     false
 }
@@ -53,7 +44,7 @@ fn marks(name: &[u8]) -> NameMarks
     let mut i = 0;
     while i < name.len() {
         h = mixed(h, wide(name[i]));
-        fine = both(fine, printable(name[i]));
+        fine = both(fine, is_printable(name[i]));
         i += 1;
     }
     let good = both(fine, last_fine(name));
@@ -61,6 +52,7 @@ fn marks(name: &[u8]) -> NameMarks
     NameMarks {
         fine: good,
         signature: s,
+        hash: h,
     }
 }
 

@@ -19,7 +19,8 @@ ghost use Rattle.reading.specs.Skip.{Skips-others};
 // The record is a file of this name.
 fn is_file_named(image: &[u8], e: Spot, name: &[u8]) -> bool
     requires { ⌜ Whole (now image) e ⌝ }
-    ensures { λ r. ⌜ r ≡ (is-file (entry-of (now (image .entry)) e) && has-name (now (name .entry)) (entry-of (now (image .entry)) e)) ⌝ }
+    ensures { λ r. ⌜ r
+        ≡ (is-file (entry-of (now (image .entry)) e) && has-name (now (name .entry)) (entry-of (now (image .entry)) e)) ⌝ }
 {
     if is_file(image, e) {
         return has_name(image, e, name);

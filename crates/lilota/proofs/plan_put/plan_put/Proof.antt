@@ -17,8 +17,10 @@ enum-known-x c = search needs
 plan-put-from-requires : tie.Need-plan-put-from-requires
 plan-put-from-requires c κs =
     let c4 = c .before .before .before .before in
-    let c6 = c4 .before .before in
-    rw (c4 .x .given .1) at (c6 .admitted-named .ensures .1)
+    let x = c4 .x .given .1 in
+    let d = c4 .before .before .admitted-named .ensures in
+    let w = rw x at (d .1) in
+    (w .0, w .1, rw x at (d .2))
 
 enum-known-x-2 : tie.Need-enum-known-x-2
 enum-known-x-2 c = search needs

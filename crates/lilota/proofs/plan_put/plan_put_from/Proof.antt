@@ -33,7 +33,9 @@ plan-replace-requires c κs =
     let c13 = c6 .before .before .before .before .before .before .before in
     let a = c13 .args in
     let roomy = flag (c6 .has-room .ensures) (c5 .if1 .taken) in
-    (c13 .pre .0, c13 .pre .1, room-fits (reading-of (a .image .now) (a .s)) (a .name .now) (length (a .content .now)) roomy, c .from .ensures .1)
+    let p = c13 .pre in
+    let roomy-fits = room-fits (reading-of (a .image .now) (a .s)) (a .name .now) (length (a .content .now)) roomy in
+    (p .0, p .1, roomy-fits, c .from .ensures .1, p .2)
 
 planned-write-requires : tie.Need-planned-write-requires
 planned-write-requires c κs = search needs

@@ -1,29 +1,20 @@
 -- Nothing found is 2; else the one step.
-use mathlib.Core.Path.{ap, _∙_}
-use mathlib.Core.Option.{none, some}
+use mathlib.Core.Path.{sym, ap, _∙_}
 use native.Mathlib.Omega.{arith}
-use Rattle.spec.specs.Basics.{Answer, numbered}
-use Rattle.spec.specs.Answers.{Plan, removing}
+use Rattle.spec.specs.Basics.{numbered}
+use Rattle.spec.specs.Answers.{found, removing}
 use Rattle.spec.specs.Write.{status-step}
 use mathlib.Core.List.{[], _∷_}
 use Rattle.spec.specs.Planner.{hand-out}
+use Rattle.reading.specs.declared.Found.{Found}
 use Rattle.reading.specs.Rest.{entry-of}
 use Rattle.reading.specs.Seek.{found-in}
 use Rattle.window.specs.Handed.{slices}
 use Rattle.lilota.specs.Numbers.{no-file}
-use Rattle.lilota.specs.Remove.{found-plan}
 use Rattle.lilota.specs.Planned.{written-out, refused-out}
 use borrow.Author.Needs.{needs}
 use Rattle.lilota.proofs.plan_remove.plan_remove_from.Statement.{statement}
 use Rattle.lilota.proofs.plan_remove.plan_remove_from.Tie as tie
-
-first-cursor-requires : tie.Need-first-cursor-requires
-first-cursor-requires c κs = search needs
-
-file-named-requires : tie.Need-file-named-requires
-file-named-requires c κs =
-    let c7 = c .before .before .before .before .before .before .before in
-    rw (c .first-cursor .ensures) (c7 .pre .accepted .surveyed .tallied .sound)
 
 enum-known-f : tie.Need-enum-known-f
 enum-known-f c = search needs
@@ -37,16 +28,12 @@ refused-write-requires c κs = search needs
 returns : tie.Need-returns
 returns c =
     let c1 = c .before in
-    let c3 = c1 .before .before in
-    let c4 = c3 .before in
-    let c11 = c4 .before .before .before .before .before .before .before in
-    let a = c11 .args in
+    let a = c1 .before .before .before .before .before .before .args in
+    let i = a .image .now in
     let s = slices (a .kinds .now) (a .addresses .now) (a .bytes .now) in
-    let q = rw (c4 .first-cursor .ensures) at (c3 .file-named .ensures .0) in
     rw (c .refused-write .ensures) (
       refused-out (numbered 2) (a .first) s
-          ∙ ap (λ (p : Answer Plan). hand-out p (a .first) s)
-          (found-plan (a .image .now) (a .s) (a .name .now) (c11 .pre) (c3 .file-named .result) q none (ap (found-in (a .image .now)) (c1 .enum-told .given .1))),
+          ∙ ap (λ (f : Found). hand-out (found removing (found-in i f)) (a .first) s) (sym (c1 .enum-told .given .1)),
       no-file,
     )
 
@@ -59,10 +46,9 @@ from-requires c κs = search needs
 hand-status-requires : tie.Need-hand-status-requires
 hand-status-requires c κs =
     let c6 = c .before .before .before .before .before .before in
-    let c8 = c6 .before .before in
-    let c16 = c8 .before .before .before .before .before .before .before .before in
-    let w = rw (c6 .f .given .1) at (c8 .file-named .ensures .1) in
-    (omega (arith, w .fits, c16 .pre .accepted .led .small), omega (arith, c .from .ensures .1))
+    let p = c6 .before .before .before .before .before .before .pre in
+    let w = rw (c6 .f .given .1) at (p .0) in
+    (omega (arith, w .fits, p .1), omega (arith, c .from .ensures .1))
 
 planned-write-requires : tie.Need-planned-write-requires
 planned-write-requires c κs = search needs
@@ -82,18 +68,13 @@ returns-2 c =
     let c8 = c7 .before in
     let c12 = c8 .before .before .before .before in
     let c14 = c12 .before .before in
-    let c16 = c14 .before .before in
-    let c17 = c16 .before in
-    let c24 = c17 .before .before .before .before .before .before .before in
-    let a = c24 .args in
+    let a = c14 .before .before .before .before .before .before .args in
+    let i = a .image .now in
     let s = slices (a .kinds .now) (a .addresses .now) (a .bytes .now) in
     let f = c14 .f .given in
-    let e = entry-of (a .image .now) (f .0 .0) in
-    let q = rw (c17 .first-cursor .ensures) at (c16 .file-named .ensures .0) in
     rw (c .planned-write .ensures, c12 .shortest .ensures) (
-      written-out (status-step e 0x00 ∷ []) (a .first) (c8 .from .ensures .0) (c8 .from .ensures .1) (c7 .hand-status .ensures)
-          ∙ ap (λ (p : Answer Plan). hand-out p (a .first) s)
-          (found-plan (a .image .now) (a .s) (a .name .now) (c24 .pre) (c16 .file-named .result) q (some e) (ap (found-in (a .image .now)) (f .1))),
+      written-out (status-step (entry-of i (f .0 .0)) 0x00 ∷ []) (a .first) (c8 .from .ensures .0) (c8 .from .ensures .1) (c7 .hand-status .ensures)
+          ∙ ap (λ (x : Found). hand-out (found removing (found-in i x)) (a .first) s) (sym (f .1)),
       tt,
     )
 
@@ -101,8 +82,6 @@ pub plan-remove-from-spec : {M : Type 1} → statement M
 plan-remove-from-spec =
     tie.close
     (tie.spec
-    first-cursor-requires
-    file-named-requires
     enum-known-f
     enum-told
     refused-write-requires

@@ -15,7 +15,11 @@ enum-known-x : tie.Need-enum-known-x
 enum-known-x c = search needs
 
 put-from-requires : tie.Need-put-from-requires
-put-from-requires c κs = rw (c .before .before .x .given .1) at (c .before .before .before .before .admitted-named .ensures .1)
+put-from-requires c κs =
+    let x = c .before .before .x .given .1 in
+    let d = c .before .before .before .before .admitted-named .ensures in
+    let w = rw x at (d .1) in
+    (w .0, w .1, rw x at (d .2))
 
 enum-known-x-2 : tie.Need-enum-known-x-2
 enum-known-x-2 c = search needs
@@ -25,12 +29,13 @@ same-length c = search needs
 
 returns : tie.Need-returns
 returns c =
-    let g = c .before .before .before .before .before .before .before .before .before .before .before .before .args in
-    let s = g .image .now in (
+    let c7 = c .before .before .before .before .before .before .before in
+    let a = c7 .before .before .before .before .before .args in
+    let s = a .image .now in
+    let x = c .before .before .before .before .before .x .given in (
       c .before .before .put-from .ensures .0
-          ∙ let-in s (g .allowance) (reading-of s (c .before .before .before .before .before .x .given .0 .0)) (put-into (g .name .now) (g .content .now))
-          (sym (ap (answered s) (c .before .before .before .before .before .x .given .1)) ∙ c .before .before .before .before .before .before .before .admitted-named .ensures .0)
-          ∙ put-is s (g .allowance) (g .name .now) (g .content .now),
+          ∙ let-in s (a .allowance) (reading-of s (x .0 .0)) (put-into (a .name .now) (a .content .now))
+          (sym (ap (answered s) (x .1)) ∙ c7 .admitted-named .ensures .0) ∙ put-is s (a .allowance) (a .name .now) (a .content .now),
       c .before .before .put-from .ensures .1,
     )
 
@@ -39,10 +44,14 @@ same-length-2 c = search needs
 
 returns-2 : tie.Need-returns-2
 returns-2 c =
-    let g = c .before .before .before .before .before .before .before .before .args in
-    let s = g .image .now in (
-      shut s (g .allowance) _ (put-into (g .name .now) (g .content .now)) (sym (ap (answered s) (c .before .x2 .given .1)) ∙ c .before .before .before .admitted-named .ensures .0) ∙ put-is s (g .allowance) (g .name .now) (g .content .now),
-      rw (c .before .x2 .given .1) at (c .before .before .before .admitted-named .ensures .1),
+    let c3 = c .before .before .before in
+    let a = c3 .before .before .before .before .before .args in
+    let s = a .image .now in
+    let x = c .before .x2 .given .1 in
+    let d = c3 .admitted-named .ensures in (
+      shut s (a .allowance) _ (put-into (a .name .now) (a .content .now)) (sym (ap (answered s) x) ∙ d .0)
+          ∙ put-is s (a .allowance) (a .name .now) (a .content .now),
+      rw x at (d .1),
     )
 
 pub put-spec : {M : Type 1} → statement M

@@ -21,8 +21,9 @@ replace-requires : tie.Need-replace-requires
 replace-requires c κs =
     let c7 = c .before .before .before .before .before .before .before in
     let a = c7 .args in
+    let p = c7 .pre in
     let roomy = flag (c .before .before .has-room .ensures) (c .before .if1 .taken) in
-    (c7 .pre .0, c7 .pre .1, room-fits (reading-of (a .image .now) (a .s)) (a .name .now) (length (a .content .now)) roomy, refl)
+    (p .0, p .1, room-fits (reading-of (a .image .now) (a .s)) (a .name .now) (length (a .content .now)) roomy, refl, p .2)
 
 ended-requires : tie.Need-ended-requires
 ended-requires c κs = search needs

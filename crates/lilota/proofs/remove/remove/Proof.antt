@@ -1,9 +1,10 @@
--- What the door refuses is refused; else the call goes on with what was read.
+-- What the door refuses is refused; else the call goes on with the file that was found.
 use mathlib.Core.Path.{sym, ap, _∙_}
 use Rattle.spec.specs.Answers.{file-of, removing}
 use Rattle.reading.specs.Read.{answered, reading-of}
 use Rattle.lilota.specs.Carry.{shut, let-in}
 use Rattle.lilota.specs.Calls.{remove-is}
+use Rattle.lilota.specs.Look.{done-with}
 use borrow.Author.Needs.{needs}
 use Rattle.lilota.proofs.remove.remove.Statement.{statement}
 use Rattle.lilota.proofs.remove.remove.Tie as tie
@@ -11,26 +12,30 @@ use Rattle.lilota.proofs.remove.remove.Tie as tie
 admitted-named-requires : tie.Need-admitted-named-requires
 admitted-named-requires c κs = search needs
 
-enum-known-x : tie.Need-enum-known-x
-enum-known-x c = search needs
+enum-told : tie.Need-enum-told
+enum-told c = search needs
 
 remove-from-requires : tie.Need-remove-from-requires
-remove-from-requires c κs = (rw (c .before .before .x .given .1) at (c .before .before .before .before .admitted-named .ensures .1)) .0
+remove-from-requires c κs = (rw (c .before .enum-told .given .1) at (c .before .before .before .admitted-named .ensures .2)) .whole
 
-enum-known-x-2 : tie.Need-enum-known-x-2
-enum-known-x-2 c = search needs
+enum-known-x : tie.Need-enum-known-x
+enum-known-x c = search needs
 
 same-length : tie.Need-same-length
 same-length c = search needs
 
 returns : tie.Need-returns
 returns c =
-    let g = c .before .before .before .before .before .before .before .before .before .before .before .args in
-    let s = g .image .now in (
+    let c6 = c .before .before .before .before .before .before in
+    let a = c6 .before .before .before .before .args in
+    let s = a .image .now in
+    let n = a .name .now in
+    let d = c6 .admitted-named in
+    let x = c .before .before .before .before .enum-told .given in (
       c .before .before .remove-from .ensures .0
-          ∙ let-in s (g .allowance) (reading-of s (c .before .before .before .before .before .x .given .0 .0)) (file-of (g .name .now) removing)
-          (sym (ap (answered s) (c .before .before .before .before .before .x .given .1)) ∙ c .before .before .before .before .before .before .before .admitted-named .ensures .0)
-          ∙ remove-is s (g .allowance) (g .name .now),
+          ∙ done-with s (x .0 .0) ((rw (x .1) at (d .ensures .1)) .0) (d .result .file) (a .allowance) n removing (rw (x .1) at (d .ensures .2))
+          ∙ let-in s (a .allowance) (reading-of s (x .0 .0)) (file-of n removing) (sym (ap (answered s) (x .1)) ∙ d .ensures .0)
+          ∙ remove-is s (a .allowance) n,
       c .before .before .remove-from .ensures .1,
     )
 
@@ -39,20 +44,22 @@ same-length-2 c = search needs
 
 returns-2 : tie.Need-returns-2
 returns-2 c =
-    let g = c .before .before .before .before .before .before .before .args in
-    let s = g .image .now in (
-      shut s (g .allowance) _ (file-of (g .name .now) removing) (sym (ap (answered s) (c .before .x2 .given .1)) ∙ c .before .before .before .admitted-named .ensures .0) ∙ remove-is s (g .allowance) (g .name .now),
-      rw (c .before .x2 .given .1) at (c .before .before .before .admitted-named .ensures .1),
-    )
+    let c3 = c .before .before .before in
+    let a = c3 .before .before .before .before .args in
+    let s = a .image .now in
+    let n = a .name .now in
+    let x = c .before .x .given .1 in
+    let d = c3 .admitted-named .ensures in
+    (shut s (a .allowance) _ (file-of n removing) (sym (ap (answered s) x) ∙ d .0) ∙ remove-is s (a .allowance) n, rw x at (d .1))
 
 pub remove-spec : {M : Type 1} → statement M
 remove-spec =
     tie.close
     (tie.spec
     admitted-named-requires
-    enum-known-x
+    enum-told
     remove-from-requires
-    enum-known-x-2
+    enum-known-x
     same-length
     returns
     same-length-2

@@ -3,7 +3,7 @@ use mathlib.Core.Path.{ap}
 use Rattle.reading.specs.Cursor.{left}
 use Rattle.reading.specs.Fold.{passes, fold-end}
 use Rattle.reading.specs.Tally.{none-yet, passed, end-inside}
-use Rattle.reading.specs.Gather.{Gathering, gathering-start, gathering-end}
+use Rattle.reading.specs.Gather.{Gathering, gathering-start, gathered-repeats, gathered-found}
 use Rattle.reading.proofs.Others.{other-step}
 use borrow.Author.Needs.{needs}
 use native.Mathlib.Omega.{arith}
@@ -11,10 +11,10 @@ use Rattle.reading.proofs.gather.gather.Statement.{statement}
 use Rattle.reading.proofs.gather.gather.Tie as tie
 
 abbrev Inv-loop : tie.InvT-loop
-Inv-loop image start table₀ g₀ table g = Gathering image start (g .cursor) (g .tally) (g .repeats) table
+Inv-loop image start wanted table₀ g₀ table g = Gathering image start wanted g table
 
 abbrev μ-loop : tie.MeasureT-loop
-μ-loop image start table₀ g₀ table g = left (g .cursor)
+μ-loop image start wanted table₀ g₀ table g = left (g .cursor)
 
 nothing-yet-requires : tie.Need-nothing-yet-requires Inv-loop μ-loop
 nothing-yet-requires c κs = search needs
@@ -38,14 +38,15 @@ returns c =
       fold-end passed _ _ none-yet _ _ (inv .passing .fold) (adv .result) (adv .ensures .0) z,
       inv .passing .spots,
       end-inside _ _ (adv .result) (adv .ensures .1),
-      gathering-end (adv .result) inv (adv .ensures .0) z,
+      gathered-repeats (adv .result) inv (adv .ensures .0) z,
+      gathered-found (adv .result) inv (adv .ensures .0) z,
     )
 
 gather-one-requires : tie.Need-gather-one-requires Inv-loop μ-loop
 gather-one-requires c κs =
     let c4 = c .before .before .before .before in let c6 = c4 .before .before in
     let w = passes (c4 .advance .ensures) (c .before .before .s .given .1) in
-    (c6 .before .before .before .pre .0, record { before = _; state = c6 .loop .inv; passes = w })
+    (c6 .before .before .before .pre .0, record { state = c6 .loop .inv; passes = w })
 
 gather-plain-requires : tie.Need-gather-plain-requires Inv-loop μ-loop
 gather-plain-requires c κs =

@@ -9,12 +9,12 @@ use Rattle.reading.proofs.gather.gather_plain.Statement.{statement}
 use Rattle.reading.proofs.gather.gather_plain.Tie as tie
 
 abbrev Inv-loop : tie.InvT-loop
-Inv-loop image start table₀ g₀ table g =
-    Cursor-sound image start × Gathering image start (g .cursor) (g .tally) (g .repeats) table × (2 ≤ g .tally .records)
+Inv-loop image start table₀ wanted g₀ table g =
+    Cursor-sound image start × Gathering image start wanted g table × (2 ≤ g .tally .records)
     × (left (g .cursor) ≤ left (g₀ .cursor))
 
 abbrev μ-loop : tie.MeasureT-loop
-μ-loop image start table₀ g₀ table g = left (g .cursor)
+μ-loop image start table₀ wanted g₀ table g = left (g .cursor)
 
 loop-holds : tie.Need-loop-holds Inv-loop μ-loop
 loop-holds c =
@@ -44,7 +44,7 @@ gather-file-requires c κs =
     let inv = c6 .before .before .loop .inv in
     let w = rw (c4 .s .given .1) at (c6 .near .ensures) in (
       inv .0,
-      record { before = _; state = inv .1; passes = w .0 },
+      record { state = inv .1; passes = w .0 },
       record { two = inv .2; unmarked = w .1; file = flag (c .before .before .is-file .ensures) (c .before .if1 .taken) },
     )
 
@@ -78,7 +78,7 @@ loop-again-2 c =
     let inv = c8 .before .before .loop .inv in
     let w = rw (c6 .s .given .1) at (c8 .near .ensures) in
     let g =
-    gathering-dead (record { before = _; state = inv .1; passes = w .0 }) (inv .2) (w .1)
+    gathering-dead (record { state = inv .1; passes = w .0 }) (inv .2) (w .1)
     (flag (c3 .before .is-file .ensures) (c3 .if1 .left)) (c .noted-plain .ensures) in
     (inv .0, g .0, g .1, omega (arith, inv .3, w .0 .onward .less))
 

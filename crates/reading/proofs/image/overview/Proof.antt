@@ -29,6 +29,7 @@ returns c =
       rw (c .survey-of .ensures)
           (seen (a .image .now) (a .h) (start .pre .0) (start .pre .1 .1) (c4 .gather .result .pass) (rw q at (e .0)) (e .1) (e .2)),
       e .3 ∙ ap (λ (k : Cursor). repeats-of (rest (a .image .now) k .entries)) q,
+      rw q at (e .4),
     )
 
 pub overview-spec : {M : Type 1} → statement M

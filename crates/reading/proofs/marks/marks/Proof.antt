@@ -32,11 +32,11 @@ wide-requires c κs = search needs
 mixed-requires : tie.Need-mixed-requires Inv-loop μ-loop
 mixed-requires c κs = search needs
 
-shared-slice-read-printable : tie.Need-shared-slice-read-printable Inv-loop μ-loop
-shared-slice-read-printable c = search needs
+shared-slice-read-is-printable : tie.Need-shared-slice-read-is-printable Inv-loop μ-loop
+shared-slice-read-is-printable c = search needs
 
-printable-requires : tie.Need-printable-requires Inv-loop μ-loop
-printable-requires c κs = search needs
+is-printable-requires : tie.Need-is-printable-requires Inv-loop μ-loop
+is-printable-requires c κs = search needs
 
 both-requires : tie.Need-both-requires Inv-loop μ-loop
 both-requires c κs = search needs
@@ -53,7 +53,7 @@ loop-again c =
     let s = c7 .before .before .args .name .now in
     let l = c7 .loop in
     let q = c3 .mixed .ensures .0 ∙ ap (mixed (l .h)) (c3 .before .wide .ensures .0) in
-    let f = c .both .ensures ∙ ap (λ (b : Bool). l .fine && b) (c .before .printable .ensures) in (
+    let f = c .both .ensures ∙ ap (λ (b : Bool). l .fine && b) (c .before .is-printable .ensures) in (
       omega arith,
       omega arith,
       l .inv .2 ∙ hash-next (l .h) s (l .i) (omega arith) ∙ rw q,
@@ -82,6 +82,7 @@ returns c =
       fine = c .before .both2 .ensures ∙ name-ok-by s (l .fine) (good .result) (start .pre) a (good .ensures);
       bits = c .signature-by .ensures .0 ∙ ap signature-by h;
       inside = c .signature-by .ensures .1;
+      hash = h;
     }
 
 pub marks-spec : {M : Type 1} → statement M
@@ -94,8 +95,8 @@ marks-spec =
     shared-slice-read-wide
     wide-requires
     mixed-requires
-    shared-slice-read-printable
-    printable-requires
+    shared-slice-read-is-printable
+    is-printable-requires
     both-requires
     add-i
     loop-less

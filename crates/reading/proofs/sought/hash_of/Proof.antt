@@ -1,0 +1,35 @@
+-- hash_of: the part that is lent is the record's name.
+use mathlib.Core.Path.{ap, _∙_}
+use Rattle.reading.specs.FileLaws.{name-part}
+use Rattle.reading.specs.Filter.{hash-from}
+use borrow.Author.Needs.{needs}
+use Rattle.reading.proofs.sought.hash_of.Statement.{statement}
+use Rattle.reading.proofs.sought.hash_of.Tie as tie
+
+add-at : tie.Need-add-at
+add-at c = search needs
+
+add-end : tie.Need-add-end
+add-end c = search needs
+
+sub-hash : tie.Need-sub-hash
+sub-hash c = search needs
+
+part-hash-start : tie.Need-part-hash-start
+part-hash-start c = search needs
+
+part-hash-end : tie.Need-part-hash-end
+part-hash-end c = search needs
+
+hash-requires : tie.Need-hash-requires
+hash-requires c κs = search needs
+
+returns : tie.Need-returns
+returns c =
+    let a = c .before .before .before .before .before .args in
+    c .hash .ensures .0 ∙ ap (hash-from 0) (name-part (a .image .now) (a .e .at) (a .e .n))
+
+pub hash-of-spec : {M : Type 1} → statement M
+hash-of-spec =
+    tie.close
+    (tie.spec add-at add-end sub-hash part-hash-start part-hash-end hash-requires returns)

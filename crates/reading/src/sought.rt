@@ -1,0 +1,79 @@
+// The file of a name, found in the pass of a judgement: the pass keeps the first file whose name has the same hash.
+use crate::Cursor;
+use crate::Found;
+use crate::Spot;
+use crate::files::file_named;
+use crate::files::has_name;
+use crate::files::is_file;
+use crate::filter::hash;
+ghost use mathlib.Core.Path.{_≡_};
+ghost use mathlib.Core.Bool.{_&&_};
+ghost use Rattle.spec.specs.Basics.{keep, first-such};
+ghost use Rattle.spec.specs.Files.{has-name};
+ghost use Rattle.reading.specs.Cursor.{Cursor-sound};
+ghost use Rattle.reading.specs.Rest.{rest, entry-of};
+ghost use Rattle.reading.specs.Fold.{Whole};
+ghost use Rattle.reading.specs.FileLaws.{is-file};
+ghost use Rattle.reading.specs.Seek.{found-in, Found-whole};
+ghost use Rattle.reading.specs.Filter.{hash-from};
+ghost use Rattle.reading.specs.Sought.{hash-of, has-hash, found-or, Sought};
+
+// What is found; or e, where it is the first that fits.
+pub fn found_or(fits: bool, f: Found, e: Spot) -> Found
+    ensures { λ r. ⌜ r ≡ found-or fits f e ⌝ }
+{
+    if fits {
+        return match f {
+            Found::At(x) => Found::At(x),
+            Found::Nothing => Found::At(e),
+        };
+    }
+    f
+}
+
+// The hash of the record's name.
+fn hash_of(image: &[u8], e: Spot) -> u64
+    requires { ⌜ Whole (now image) e ⌝ }
+    ensures { λ r. ⌜ r ≡ hash-of (entry-of (now (image .entry)) e) ⌝ }
+{
+    let at = e.at + 8;
+    let end = at + e.n;
+    hash(&image[at..end])
+}
+
+// The record is a file, and its name has this hash.
+fn fits(image: &[u8], wanted: u64, e: Spot) -> bool
+    requires { ⌜ Whole (now image) e ⌝ }
+    ensures { λ r. ⌜ r ≡ (is-file (entry-of (now (image .entry)) e) && has-hash wanted (entry-of (now (image .entry)) e)) ⌝ }
+{
+    if is_file(image, e) {
+        return hash_of(image, e) == wanted;
+    }
+    false
+}
+
+// What is found, with one record more.
+pub fn found_with(image: &[u8], wanted: u64, f: Found, e: Spot) -> Found
+    requires { ⌜ Whole (now image) e ⌝ }
+    ensures { λ r. ⌜ r
+        ≡ found-or (is-file (entry-of (now (image .entry)) e) && has-hash wanted (entry-of (now (image .entry)) e)) f e ⌝ }
+{
+    found_or(fits(image, wanted, e), f, e)
+}
+
+// The file of this name: f, which has the name's hash, unless the two names only share it.
+pub fn file_of(image: &[u8], start: Cursor, name: &[u8], f: Found) -> Found
+    requires { ⌜ Cursor-sound (now image) start
+        × Sought (now image) (hash-from 0 (now name)) (rest (now image) start .entries) f ⌝ }
+    ensures { λ r. ⌜ (found-in (now (image .entry)) r
+        ≡ first-such (has-name (now (name .entry))) (keep is-file (rest (now (image .entry)) start .entries)))
+        × Found-whole (now (image .entry)) r ⌝ }
+{
+    let Found::At(e) = f else {
+        return Found::Nothing;
+    };
+    if has_name(image, e, name) {
+        return Found::At(e);
+    }
+    file_named(image, start, name)
+}
