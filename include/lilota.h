@@ -137,6 +137,67 @@ uint32_t lilota_remove(uint8_t *image, size_t length,
 uint32_t lilota_sweep(uint8_t *image, size_t length, size_t allowance,
                       size_t *moves, size_t *steps);
 
+/*
+ * Planned steps, for a flash that is not in the processor's address space: the
+ * image is a copy of it in memory. Each of the four calls below reads the image
+ * and changes nothing in it. It hands out the steps that the direct call would
+ * do, in their order, from the step with the number first on (0 the first),
+ * into three lent slices: kinds[i] is 1 to program a byte or 2 to erase a
+ * sector, addresses[i] is where, and bytes[i] the byte, 255 for an erase. It
+ * hands out as many as fit the shortest slice and gives back how many (handed).
+ * Slots that get nothing stay as they were.
+ *
+ * The answer and the other numbers are those of the direct call with an
+ * allowance of SIZE_MAX; steps is the number of all steps, handed out or not.
+ * With first at or past that number nothing is handed out. On a refusal handed
+ * and every other number are 0, and no slot is changed.
+ *
+ * A list of steps that is longer than the slices is handed out window after
+ * window, with first growing by handed, and every window is planned from the
+ * image as it was before the first step: carry the steps out in the flash, and
+ * leave the image as it is until the last one is done. The first k steps leave
+ * in the flash what the direct call with allowance k leaves in the image.
+ *
+ * The slices must not overlap each other, the image, name or content.
+ */
+
+/* Plans lilota_put. Answers: 22, 5, 6, 16, 28, 0. */
+uint32_t lilota_plan_put(const uint8_t *image, size_t length,
+                         const uint8_t *name, size_t name_length,
+                         const uint8_t *content, size_t content_length,
+                         size_t first,
+                         uint32_t *kinds, size_t kinds_length,
+                         uint32_t *addresses, size_t addresses_length,
+                         uint32_t *bytes, size_t bytes_length,
+                         size_t *handed, size_t *steps);
+
+/* Plans lilota_remove. Answers: 22, 5, 6, 16, 2, 0. */
+uint32_t lilota_plan_remove(const uint8_t *image, size_t length,
+                            const uint8_t *name, size_t name_length,
+                            size_t first,
+                            uint32_t *kinds, size_t kinds_length,
+                            uint32_t *addresses, size_t addresses_length,
+                            uint32_t *bytes, size_t bytes_length,
+                            size_t *handed, size_t *steps);
+
+/* Plans lilota_sweep. Answers: 22, 5, 6, 16, 28, 0. */
+uint32_t lilota_plan_sweep(const uint8_t *image, size_t length, size_t first,
+                           uint32_t *kinds, size_t kinds_length,
+                           uint32_t *addresses, size_t addresses_length,
+                           uint32_t *bytes, size_t bytes_length,
+                           size_t *handed, size_t *moves, size_t *steps);
+
+/*
+ * Plans lilota_mount. Head, tail and files are those of the image that the
+ * steps leave. Answers: 22, 5, 6, 0.
+ */
+uint32_t lilota_plan_mount(const uint8_t *image, size_t length, size_t first,
+                           uint32_t *kinds, size_t kinds_length,
+                           uint32_t *addresses, size_t addresses_length,
+                           uint32_t *bytes, size_t bytes_length,
+                           size_t *handed, size_t *head, size_t *tail,
+                           size_t *files, size_t *steps);
+
 #ifdef __cplusplus
 }
 #endif

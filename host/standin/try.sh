@@ -1,6 +1,7 @@
 #!/usr/bin/env bash
 # The testers themselves, tried without the proved library: the stand-in passes, and
-# each of its faults is noticed by the comparison and by the cut test.
+# each of its faults is noticed by the comparison and, unless it is the planner's, by the
+# cut test.
 set -euo pipefail
 cd "$(dirname "$0")/.."
 
@@ -12,10 +13,14 @@ cargo build --release --offline --quiet --target-dir "$built" -p compare
 "$built/release/compare" | tail -n 1
 "$built/release/cuts" | tail -n 1
 
-faults=$(sed -n '/const ALL/,/];/s/^ *Fault::\([A-Za-z0-9]*\),$/\1/p' model/src/faults.rs)
-for fault in $faults; do
-    for tester in compare "cuts 400000"; do
-        # $tester is a name with its arguments
+# the faults that a list of this name in a file of the model has
+listed() { sed -n "/const $1/,/];/s/^ *Fault::\([A-Za-z0-9]*\),$/\1/p" "model/src/$2"; }
+
+# the fault is noticed by each of these testers, which are names with their arguments
+noticed() {
+    fault=$1
+    shift
+    for tester in "$@"; do
         # a run fails too if an image that it aims at was not seen: only what it found counts
         printed=$(STANDIN_FAULT="$fault" "$built"/release/$tester 2>/dev/null || true)
         if ! grep -q "^DIFFERS\|^VIOLATION" <<<"$printed"; then
@@ -24,4 +29,12 @@ for fault in $faults; do
         fi
     done
     echo "$fault is noticed"
+}
+
+for fault in $(listed ALL faults.rs); do
+    noticed "$fault" compare "cuts 400000"
+done
+# histories have no plans
+for fault in $(listed PLANNER planner.rs); do
+    noticed "$fault" compare
 done

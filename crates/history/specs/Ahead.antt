@@ -18,8 +18,7 @@ use Rattle.spec.specs.Place.{fits, fits-all, place-after, address}
 use Rattle.spec.specs.Write.{put-steps}
 use Rattle.spec.specs.Move.{Work, begin, reread, close-steps, moved-on, move}
 use Rattle.spec.specs.History.{Ledger}
-use Rattle.laws.specs.Lists.{keep-yes, keep-no}
-use Rattle.history.specs.Lists.{each-map}
+use Rattle.laws.specs.Lists.{keep-yes, keep-no, each-map}
 use Rattle.history.specs.Store.{alive, live-alive}
 use Rattle.history.specs.Kinds.{Ok, Rested}
 use Rattle.history.specs.Settled.{after-some}

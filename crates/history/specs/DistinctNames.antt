@@ -8,8 +8,8 @@ use Rattle.spec.specs.Basics.{Each}
 use Rattle.spec.specs.Numbers.{Numbers, Outcome}
 use Rattle.spec.specs.History.{Request, Call, outcome, steps-left, next-byte, File, Ledger, is-named, has, not-named, without, with-file, put-done, remove-done, fed, ledger}
 use Rattle.spec.specs.Demand.{Distinct, Maps}
-use Rattle.history.specs.Lists.{any-none, any-none-each, each-keep, each-all, each-map, each-both}
-use Rattle.laws.specs.Lists.{keep-yes, keep-no, first-yes, first-no}
+use Rattle.history.specs.Lists.{each-keep, each-all}
+use Rattle.laws.specs.Lists.{keep-yes, keep-no, first-yes, first-no, any-none, any-none-each, each-map, each-both}
 use Rattle.history.specs.Store.{same-sym}
 use Rattle.history.specs.OkLaws.{same-refl}
 

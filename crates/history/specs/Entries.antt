@@ -6,7 +6,8 @@ use mathlib.Core.Path.{_≡_, refl, sym, ap, ap₂, _∙_, subst}
 use mathlib.Core.List.{List, [], _∷_, _++_}
 use Rattle.spec.specs.Basics.{Each}
 use Rattle.spec.specs.Record.{Rec, Entry}
-use Rattle.history.specs.Lists.{some-behind, cons-first, cons-rest}
+use Rattle.laws.specs.Lists.{cons-first, cons-rest}
+use Rattle.history.specs.Lists.{some-behind}
 use Rattle.history.specs.Lay.{rsize, sizes, entries-of, Fine, All-fine}
 use Rattle.history.specs.StraightEdit.{sizes-append, fine-append, fine-left, fine-right}
 

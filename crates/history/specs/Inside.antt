@@ -18,7 +18,7 @@ use Rattle.spec.specs.Head.{head}
 use Rattle.spec.specs.Reading.{legal, judged, read-at, reading}
 use Rattle.spec.specs.Mount.{settled}
 use Rattle.spec.specs.Door.{settled-reading}
-use Rattle.history.specs.Lists.{each-append}
+use Rattle.laws.specs.Lists.{each-append}
 use Rattle.laws.specs.Steps.{Programs}
 use Rattle.history.specs.Erase.{erases-length}
 use Rattle.laws.specs.Answer.{gave, passed}

@@ -7,37 +7,9 @@ use mathlib.Core.Bool.{Bool, true, false}
 use mathlib.Core.List.{List, [], _∷_, _++_}
 use lib.ListN.{length}
 use Rattle.spec.specs.Basics.{any, all, keep, Each}
-use Rattle.laws.specs.Lists.{any-yes, any-no, keep-yes, keep-no}
+use Rattle.laws.specs.Lists.{any-yes, any-no, keep-yes, keep-no, each-map, each-both}
 
 module _ {A : Type 0} where
-  -- equal lists have equal first elements
-  pub cons-first : {x y : A} {xs ys : List A} → x ∷ xs ≡ y ∷ ys → x ≡ y
-  cons-first h = cc
-
-  -- and equal rests
-  pub cons-rest : {x y : A} {xs ys : List A} → x ∷ xs ≡ y ∷ ys → xs ≡ ys
-  cons-rest h = cc
-
-  -- none passes
-  pub any-none : (p : A → Bool) (xs : List A) → Each (λ x. p x ≡ false) xs → any p xs ≡ false
-  any-none p [] h = refl
-  any-none p (x ∷ xs) h = any-no p x xs (h .0) ∙ any-none p xs (h .1)
-
-  -- none passes, so each does not
-  pub any-none-each : (p : A → Bool) (xs : List A) → any p xs ≡ false → Each (λ x. p x ≡ false) xs
-  any-none-each p [] h = tt
-  any-none-each p (x ∷ xs) h = go (p x) refl h (any-none-each p xs)
-    where
-      go : (b : Bool) → p x ≡ b → elim b as (λ b. Bool) [ true ↦ true | false ↦ any p xs ] ≡ false
-          → (any p xs ≡ false → Each (λ x. p x ≡ false) xs) → Each (λ x. p x ≡ false) (x ∷ xs)
-      go true k e f = absurd (let z : _≡_ {A = ℕ} 0 1 = cc in omega arith)
-      go false k e f = (k, f e)
-
-  -- from one fact to another, on each
-  pub each-map : {P Q : A → Type 0} (xs : List A) → ((x : A) → P x → Q x) → Each P xs → Each Q xs
-  each-map [] f h = tt
-  each-map (x ∷ xs) f h = (f x (h .0), each-map xs f (h .1))
-
   -- tests that agree on each
   pub keep-same : (p q : A → Bool) (xs : List A) → Each (λ x. p x ≡ q x) xs → keep p xs ≡ keep q xs
   keep-same p q [] h = refl
@@ -51,11 +23,6 @@ module _ {A : Type 0} where
   abbrev pub Pairwise : (A → A → Type 0) → List A → Type 0
   Pairwise S [] = Unit {0}
   Pairwise S (x ∷ xs) = Each (S x) xs × Pairwise S xs
-
-  -- two facts on each
-  pub each-both : (P Q : A → Type 0) (xs : List A) → Each P xs → Each Q xs → Each (λ x. P x × Q x) xs
-  each-both P Q [] p q = tt
-  each-both P Q (x ∷ xs) p q = ((p .0, q .0), each-both P Q xs (p .1) (q .1))
 
   -- what holds of each and itself, and of any two both ways, holds of all pairs
   pub all-pairs : (R S : A → A → Type 0) → ((x : A) → R x x) → ((x y : A) → S x y → R x y) → ((x y : A) → S x y → R y x) → (xs : List A)
@@ -163,21 +130,6 @@ module _ {A : Type 0} where
   pub each-at : (P : A → Type 0) (xs ys : List A) (e : A) → Each P (xs ++ (e ∷ ys)) → P e
   each-at P [] ys e h = h .0
   each-at P (x ∷ xs) ys e h = each-at P xs ys e (h .1)
-
-  -- of each in two lists
-  pub each-append : (P : A → Type 0) (xs ys : List A) → Each P xs → Each P ys → Each P (xs ++ ys)
-  each-append P [] ys p q = q
-  each-append P (x ∷ xs) ys p q = (p .0, each-append P xs ys (p .1) q)
-
-  -- so of each in the first
-  pub each-left : (P : A → Type 0) (xs ys : List A) → Each P (xs ++ ys) → Each P xs
-  each-left P [] ys h = tt
-  each-left P (x ∷ xs) ys h = (h .0, each-left P xs ys (h .1))
-
-  -- and of each in the second
-  pub each-right : (P : A → Type 0) (xs ys : List A) → Each P (xs ++ ys) → Each P ys
-  each-right P [] ys h = h
-  each-right P (x ∷ xs) ys h = each-right P xs ys (h .1)
 
   -- one less
   pub pairwise-without : (S : A → A → Type 0) (xs ys : List A) (e : A) → Pairwise S (xs ++ (e ∷ ys)) → Pairwise S (xs ++ ys)

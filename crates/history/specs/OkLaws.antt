@@ -11,8 +11,8 @@ use Rattle.spec.specs.Basics.{same, keep, first-such}
 use Rattle.spec.specs.Record.{name-ok, Entry, name-of, content-of}
 use Rattle.spec.specs.Files.{named, named-as, has-named, has-name, file-named}
 use Rattle.spec.specs.History.{File, Ledger, not-named, without, with-file}
-use Rattle.laws.specs.Lists.{keep-no, keep-yes, first-yes, first-no, same-is}
-use Rattle.history.specs.Lists.{each-map, each-end, each-swap, each-insert, each-without, each-at, each-append, each-all}
+use Rattle.laws.specs.Lists.{keep-no, keep-yes, first-yes, first-no, same-is, each-map, each-append}
+use Rattle.history.specs.Lists.{each-end, each-swap, each-insert, each-without, each-at, each-all}
 use Rattle.history.specs.Lists.{pairwise-end, pairwise-without, pairwise-before, pairwise-behind, pairwise-insert, any-last}
 use Rattle.laws.specs.Tests.{not-both}
 use Rattle.history.specs.Store.{same-sym, alive, Apart, Unique, Well-named, fc-alive, f8-alive, dead-apart, dead-named, files-alive}

@@ -17,8 +17,8 @@ use Rattle.spec.specs.Place.{fits-all, place-after, address, other-name, larges
 use Rattle.spec.specs.Place.{room}
 use Rattle.spec.specs.History.{Ledger}
 use Rattle.spec.specs.Progress.{to-pass}
-use Rattle.laws.specs.Lists.{keep-yes, keep-no}
-use Rattle.history.specs.Lists.{keep-same, keep-append, keep-all, keep-swap, each-map, each-keep, pairwise-before, pairwise-behind}
+use Rattle.laws.specs.Lists.{keep-yes, keep-no, each-map}
+use Rattle.history.specs.Lists.{keep-same, keep-append, keep-all, keep-swap, each-keep, pairwise-before, pairwise-behind}
 use Rattle.history.specs.Store.{alive, files-alive, same-sym, Unique}
 use Rattle.history.specs.Ledger.{Absent}
 use Rattle.history.specs.Kinds.{Rested}

@@ -26,7 +26,7 @@ use Rattle.history.specs.LaidEdit.{laid-fine}
 use Rattle.history.specs.Kinds.{Starts, Rested}
 use Rattle.history.specs.Rules.{fine-finished, starts-ruled}
 use Rattle.history.specs.LaidRead.{start-reads}
-use Rattle.history.specs.Lists.{any-none}
+use Rattle.laws.specs.Lists.{any-none}
 
 -- ---- each repair alone
 

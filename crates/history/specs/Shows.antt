@@ -18,8 +18,8 @@ use Rattle.spec.specs.Numbers.{Numbers, part-of}
 use Rattle.spec.specs.Answers.{Plan, numbers-of, carry-out, found, file-plan, getting, get-plan, listing, list-plan, get, list, looking}
 use Rattle.spec.specs.History.{File, Ledger, is-named, has}
 use Rattle.spec.specs.Demand.{Distinct, Maps, Lists, Listed, Indexed, Got, Shows}
-use Rattle.history.specs.Lists.{Pairwise, each-map, each-keep, any-none-each}
-use Rattle.laws.specs.Lists.{keep-yes, keep-no, first-yes, first-no}
+use Rattle.history.specs.Lists.{Pairwise, each-keep}
+use Rattle.laws.specs.Lists.{keep-yes, keep-no, first-yes, first-no, each-map, any-none-each}
 use Rattle.laws.specs.Tests.{not-both}
 use Rattle.history.specs.Indexes.{each-index, index-each, each-split, index-below, at-index, past-end}
 use Rattle.history.specs.Store.{alive, Unique, files-alive}

@@ -13,7 +13,8 @@ use Rattle.spec.specs.Record.{name-ok, Entry, name-of}
 use Rattle.spec.specs.Files.{same-name, named, named-as, has-named, live, superseded, files, doubled}
 use Rattle.spec.specs.Reading.{marked, second-ok, marks-ok, name-legal, names-ok, single}
 use Rattle.laws.specs.Tests.{and-left, and-no, or-left, or-right}
-use Rattle.history.specs.Lists.{any-none, all-each, keep-same, each-map, each-both, Pairwise, all-pairs}
+use Rattle.laws.specs.Lists.{any-none, each-map, each-both}
+use Rattle.history.specs.Lists.{all-each, keep-same, Pairwise, all-pairs}
 
 -- ---- names
 

@@ -58,7 +58,7 @@ search-even (suc k) at s e = go (start-here s || clean-here s) (long 1 s) refl r
 -- ---- the bytes
 
 -- CLEAN, with 80 as A0
-clean-two : (b : ℕ) → is-clean b ≡ true → (b ≡ 0xA0) ⊎ (b ≡ 0x80)
+pub clean-two : (b : ℕ) → is-clean b ≡ true → (b ≡ 0xA0) ⊎ (b ≡ 0x80)
 unfolding is-clean
 clean-two b h = go _ refl where
   go : (t : Bool) → eqb b 0xA0 ≡ t → (b ≡ 0xA0) ⊎ (b ≡ 0x80)

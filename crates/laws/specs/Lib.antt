@@ -23,3 +23,5 @@ pub mod Settled
 pub mod Answer
 pub mod Door
 pub mod Refusing
+-- ---- planned steps
+pub mod Planner

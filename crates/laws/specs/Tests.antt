@@ -1,10 +1,15 @@
 -- Tests: two of them together, one that comes out both ways, and what a test picks.
 use mathlib.Core.Path.{_≡_, refl, sym, _∙_}
-use mathlib.Core.Bool.{Bool, true, false, _&&_, _||_, false≢true}
+use mathlib.Core.Bool.{Bool, true, false, _&&_, _||_, not, false≢true}
 
 -- a test does not come out both ways
 pub not-both : (b : Bool) → b ≡ false → b ≡ true → ⊥
 not-both b p q = false≢true (sym p ∙ q)
+
+-- a test that is not so
+pub not-true : (t : Bool) → not t ≡ true → t ≡ false
+not-true true e = absurd (false≢true e)
+not-true false e = refl
 
 pub wrong : {A : Type 0} → false ≡ true → A
 wrong e = absurd (false≢true e)

@@ -7,3 +7,6 @@ pub mod Look
 pub mod Put
 pub mod Mount
 pub mod Sweep
+pub mod Planned
+pub mod PlanMount
+pub mod PlanSweep

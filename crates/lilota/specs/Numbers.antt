@@ -1,6 +1,6 @@
 -- What the public calls' answers say in document 01's words: its number and values, for each case of each enum.
 use Prim.Native.Nat.{ℕ, _+_, _≤_}
-use mathlib.Core.Path.{_≡_, refl, _∙_}
+use mathlib.Core.Path.{_≡_, refl, ap, _∙_}
 use mathlib.Core.Bool.{true}
 use mathlib.Core.List.{List}
 use lib.ListN.{length}
@@ -90,20 +90,31 @@ report head tail files = record { head = head; tail = tail; files = files }
 abbrev pub extent : ℕ → ℕ → Extent
 extent offset length = record { offset = offset; length = length }
 
+pub written-numbers : (w : Written) (n k : ℕ) → n ≡ written w .answer → k ≡ written w .steps → of-write n k ≡ written w
+written-numbers (Written.Done i) n k p q = λ j. of-write (p j) (q j)
+written-numbers (Written.Cut i) n k p q = λ j. of-write (p j) (q j)
+written-numbers (Written.Refused x) n k p q = λ j. of-write (p j) (q j)
+
+pub mounted-numbers : (w : Mounted) (a k : ℕ) (r : Report) → a ≡ mounted w .answer → r ≡ mounted w .report → k ≡ mounted w .steps
+    → of-mount a r k ≡ mounted w
+mounted-numbers (Mounted.Done x y) a k r p q s = λ j. of-mount (p j) (q j) (s j)
+mounted-numbers (Mounted.Cut x) a k r p q s = λ j. of-mount (p j) (q j) (s j)
+mounted-numbers (Mounted.Refused x) a k r p q s = λ j. of-mount (p j) (q j) (s j)
+
+pub swept-numbers : (w : Swept) (n i k : ℕ) → n ≡ swept w .answer → i ≡ swept w .moves → k ≡ swept w .steps → of-sweep n i k ≡ swept w
+swept-numbers (Swept.Done a b) n i k p q r = λ j. of-sweep (p j) (q j) (r j)
+swept-numbers (Swept.Cut a b) n i k p q r = λ j. of-sweep (p j) (q j) (r j)
+swept-numbers (Swept.Refused x) n i k p q r = λ j. of-sweep (p j) (q j) (r j)
+
+-- with the image
 pub written-given : (w : Written) (n k : ℕ) (t : Image) (o : Outcome) → n ≡ written w .answer → k ≡ written w .steps → outcome-of (written w) t ≡ o
     → outcome-of (of-write n k) t ≡ o
-written-given (Written.Done i) n k t o p q e = (λ j. outcome-of (of-write (p j) (q j)) t) ∙ e
-written-given (Written.Cut i) n k t o p q e = (λ j. outcome-of (of-write (p j) (q j)) t) ∙ e
-written-given (Written.Refused x) n k t o p q e = (λ j. outcome-of (of-write (p j) (q j)) t) ∙ e
+written-given w n k t o p q e = ap (λ (x : Numbers). outcome-of x t) (written-numbers w n k p q) ∙ e
 
 pub mounted-given : (w : Mounted) (a k : ℕ) (r : Report) (i : Image) (o : Outcome) → a ≡ mounted w .answer → r ≡ mounted w .report
     → k ≡ mounted w .steps → outcome-of (mounted w) i ≡ o → outcome-of (of-mount a r k) i ≡ o
-mounted-given (Mounted.Done x y) a k r i o p q s e = (λ j. outcome-of (of-mount (p j) (q j) (s j)) i) ∙ e
-mounted-given (Mounted.Cut x) a k r i o p q s e = (λ j. outcome-of (of-mount (p j) (q j) (s j)) i) ∙ e
-mounted-given (Mounted.Refused x) a k r i o p q s e = (λ j. outcome-of (of-mount (p j) (q j) (s j)) i) ∙ e
+mounted-given w a k r i o p q s e = ap (λ (x : Numbers). outcome-of x i) (mounted-numbers w a k r p q s) ∙ e
 
 pub swept-given : (w : Swept) (n i k : ℕ) (t : Image) (o : Outcome) → n ≡ swept w .answer → i ≡ swept w .moves → k ≡ swept w .steps
     → outcome-of (swept w) t ≡ o → outcome-of (of-sweep n i k) t ≡ o
-swept-given (Swept.Done a b) n i k t o p q r e = (λ j. outcome-of (of-sweep (p j) (q j) (r j)) t) ∙ e
-swept-given (Swept.Cut a b) n i k t o p q r e = (λ j. outcome-of (of-sweep (p j) (q j) (r j)) t) ∙ e
-swept-given (Swept.Refused x) n i k t o p q r e = (λ j. outcome-of (of-sweep (p j) (q j) (r j)) t) ∙ e
+swept-given w n i k t o p q r e = ap (λ (x : Numbers). outcome-of x t) (swept-numbers w n i k p q r) ∙ e

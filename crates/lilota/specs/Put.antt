@@ -1,5 +1,5 @@
 -- Put: from what the code found to the definitions' room, steps and outcome.
-use Prim.Native.Nat.{ℕ, _+_}
+use Prim.Native.Nat.{ℕ, _+_, _≤_}
 use native.Mathlib.Omega.{arith}
 use mathlib.Core.Path.{_≡_, refl, sym, ap, _∙_}
 use mathlib.Core.Bool.{Bool, true, false}
@@ -75,14 +75,24 @@ ready image s n d asked w l f z =
           omega (arith, placed-inside (s .place) (size-of n d) p f, p .short);
     }
 
+-- the same by the place alone
+pub ready-place : (image : Image) (s : Survey) (n d asked : ℕ) → Settled image s → n ≤ 63 → fits (s .place) (size-of n d) ≡ true → asked ≡ 0
+    → Ready (s .place) (s .place .length) n d asked
+ready-place image s n d asked w l f z =
+    let r = ready image s n d asked w l f z in
+    record { sound = r .sound; whole = refl; taken = r .taken; named = r .named; gap = r .gap; few = r .few }
+
 -- ---- the outcome
 
-module _ (image : Image) (k : ℕ) (name content : List ℕ) where
+module _ (name content : List ℕ) where
   -- the steps, if there is room (t)
   abbrev put-if : Reading → Bool → Answer Plan
   put-if r t = checked t (numbered 28) (give (doing (put-steps (r .place) (file-named name (r .entries)) name content)))
 
-  pub put-room : (r : Reading) (t : Bool) → t ≡ room-in r name (length content)
-      → carry-out image k (put-if r t) ≡ carry-out image k (put-into name content r)
+  pub room-plan : (r : Reading) (t : Bool) → t ≡ room-in r name (length content) → put-if r t ≡ put-into name content r
   unfolding put-into
-  put-room r t e = ap (λ (b : Bool). carry-out image k (put-if r b)) e
+  room-plan r t e = ap (put-if r) e
+
+  pub put-room : (image : Image) (k : ℕ) (r : Reading) (t : Bool) → t ≡ room-in r name (length content)
+      → carry-out image k (put-if r t) ≡ carry-out image k (put-into name content r)
+  put-room image k r t e = ap (carry-out image k) (room-plan r t e)

@@ -3,13 +3,20 @@ use crate::format;
 use crate::get::get_place;
 use crate::list::list_place;
 use crate::mount::mount;
+use crate::plan_mount::plan_mount;
+use crate::plan_put::plan_put;
+use crate::plan_remove::plan_remove;
+use crate::plan_sweep::plan_sweep;
 use crate::put::put;
 use crate::remove::remove;
 use crate::sweep::sweep;
 ghost use mathlib.Core.Path.{_≡_};
 ghost use Rattle.spec.specs.Numbers.{outcome-of, of-write, of-mount, of-sweep, of-get, of-list};
 ghost use Rattle.spec.specs.Answers.{format, mount, put, get, list, remove, sweep};
+ghost use Rattle.spec.specs.Planner.{Writing, planned};
+ghost use Rattle.window.specs.Handed.{slices};
 ghost use Rattle.lilota.specs.Numbers.{report, extent};
+ghost use Rattle.lilota.specs.Planned.{handing};
 
 #[no_mangle]
 pub extern "C" fn lilota_format(image: &mut [u8], allowance: usize, steps: &mut usize) -> u32
@@ -116,6 +123,111 @@ pub extern "C" fn lilota_sweep(
 {
     let w = sweep(image, allowance);
     *moves = w.moves();
+    *steps = w.steps();
+    w.answer()
+}
+
+#[no_mangle]
+pub extern "C" fn lilota_plan_put(
+    image: &[u8],
+    name: &[u8],
+    content: &[u8],
+    first: usize,
+    kinds: &mut [u32],
+    addresses: &mut [u32],
+    bytes: &mut [u32],
+    handed: &mut usize,
+    steps: &mut usize,
+) -> u32
+    ensures { λ r. ⌜ (handing (of-write r (now (steps .exit))) (now (handed .exit))
+        (slices (now (kinds .exit)) (now (addresses .exit)) (now (bytes .exit)))
+        ≡ planned (Writing.put (now (name .entry)) (now (content .entry))) (now (image .entry)) first
+        (slices (now (kinds .entry)) (now (addresses .entry)) (now (bytes .entry))))
+        × (now (image .exit) ≡ now (image .entry)) ⌝ }
+{
+    let p = plan_put(image, name, content, first, kinds, addresses, bytes);
+    let w = p.answer;
+    *handed = p.handed;
+    *steps = w.steps();
+    w.answer()
+}
+
+#[no_mangle]
+pub extern "C" fn lilota_plan_remove(
+    image: &[u8],
+    name: &[u8],
+    first: usize,
+    kinds: &mut [u32],
+    addresses: &mut [u32],
+    bytes: &mut [u32],
+    handed: &mut usize,
+    steps: &mut usize,
+) -> u32
+    ensures { λ r. ⌜ (handing (of-write r (now (steps .exit))) (now (handed .exit))
+        (slices (now (kinds .exit)) (now (addresses .exit)) (now (bytes .exit)))
+        ≡ planned (Writing.remove (now (name .entry))) (now (image .entry)) first
+        (slices (now (kinds .entry)) (now (addresses .entry)) (now (bytes .entry))))
+        × (now (image .exit) ≡ now (image .entry)) ⌝ }
+{
+    let p = plan_remove(image, name, first, kinds, addresses, bytes);
+    let w = p.answer;
+    *handed = p.handed;
+    *steps = w.steps();
+    w.answer()
+}
+
+#[no_mangle]
+pub extern "C" fn lilota_plan_sweep(
+    image: &[u8],
+    first: usize,
+    kinds: &mut [u32],
+    addresses: &mut [u32],
+    bytes: &mut [u32],
+    handed: &mut usize,
+    moves: &mut usize,
+    steps: &mut usize,
+) -> u32
+    ensures { λ r. ⌜ (handing (of-sweep r (now (moves .exit)) (now (steps .exit))) (now (handed .exit))
+        (slices (now (kinds .exit)) (now (addresses .exit)) (now (bytes .exit)))
+        ≡ planned Writing.sweep (now (image .entry)) first
+        (slices (now (kinds .entry)) (now (addresses .entry)) (now (bytes .entry))))
+        × (now (image .exit) ≡ now (image .entry)) ⌝ }
+{
+    let p = plan_sweep(image, first, kinds, addresses, bytes);
+    let w = p.answer;
+    *handed = p.handed;
+    *moves = w.moves();
+    *steps = w.steps();
+    w.answer()
+}
+
+#[no_mangle]
+pub extern "C" fn lilota_plan_mount(
+    image: &[u8],
+    first: usize,
+    kinds: &mut [u32],
+    addresses: &mut [u32],
+    bytes: &mut [u32],
+    handed: &mut usize,
+    head: &mut usize,
+    tail: &mut usize,
+    files: &mut usize,
+    steps: &mut usize,
+) -> u32
+    ensures { λ r. ⌜ (handing
+        (of-mount r (report (now (head .exit)) (now (tail .exit)) (now (files .exit))) (now (steps .exit)))
+        (now (handed .exit)) (slices (now (kinds .exit)) (now (addresses .exit)) (now (bytes .exit)))
+        ≡ planned Writing.mount (now (image .entry)) first
+        (slices (now (kinds .entry)) (now (addresses .entry)) (now (bytes .entry))))
+        × (now (image .exit) ≡ now (image .entry)) ⌝ }
+{
+    let p = plan_mount(image, first, kinds, addresses, bytes);
+    let w = p.answer;
+    let x = w.report();
+    *handed = p.handed;
+    *head = x.head;
+    *tail = x.tail;
+    *files = x.files;
     *steps = w.steps();
     w.answer()
 }

@@ -6,6 +6,11 @@ mod door;
 pub mod get;
 pub mod list;
 pub mod mount;
+pub mod plan_mount;
+pub mod plan_put;
+pub mod plan_remove;
+pub mod plan_sweep;
+mod planned;
 pub mod put;
 pub mod remove;
 pub mod sweep;
@@ -13,13 +18,20 @@ pub mod sweep;
 use carry::ended;
 use door::good_length;
 use flash::Meter;
+use reading::Found;
 use spec::Extent;
 use spec::Refusal;
 use spec::Report;
+use spec::Status;
+use writing::Old;
 use writing::format::format_image;
 ghost use mathlib.Core.Path.{_≡_};
+ghost use lib.ListN.{length};
 ghost use Rattle.spec.specs.Numbers.{outcome-of};
 ghost use Rattle.spec.specs.Answers.{format};
+ghost use Rattle.laws.specs.Length.{In-range};
+ghost use Rattle.reading.specs.Seek.{found-in, Found-whole};
+ghost use Rattle.writing.specs.Old.{old-of, Lies};
 ghost use Rattle.lilota.specs.Numbers.{written, Written-told};
 
 // What a call that writes answers: all its steps are done; it was cut, after so many; or it is refused.
@@ -41,6 +53,24 @@ pub enum Swept {
     Done { moves: usize, steps: usize },
     Cut { moves: usize, steps: usize },
     Refused(Refusal),
+}
+
+// What a planned put or remove answers: as the call itself does with enough allowance; and how many steps it handed out.
+pub struct PlannedWrite {
+    pub answer: Written,
+    pub handed: usize,
+}
+
+// What a planned mount answers: as the call itself does with enough allowance; and how many steps it handed out.
+pub struct PlannedMount {
+    pub answer: Mounted,
+    pub handed: usize,
+}
+
+// What a planned sweep answers, and how many steps it handed out.
+pub struct PlannedSweep {
+    pub answer: Swept,
+    pub handed: usize,
 }
 
 // Where a file's bytes stand. The answer is 0 for a file that is there.
@@ -68,4 +98,19 @@ pub fn format(image: &mut [u8], allowance: usize) -> Written
         return ended(format_image(image, m));
     }
     Written::Refused(Refusal { number: 22 })
+}
+
+// The file that a put replaces, done or planned: the one that was found.
+fn old_file(image: &[u8], f: Found) -> Old
+    requires { ⌜ Found-whole (now image) f × In-range (length (now image)) ⌝ }
+    ensures { λ r. ⌜ (r ≡ old-of (found-in (now (image .entry)) f)) × Lies r (length (now (image .entry))) ⌝ }
+{
+    let Found::At(e) = f else {
+        return Old::None;
+    };
+    let a = e.at + 2;
+    Old::At {
+        at: e.at,
+        status: Status::from_byte(image[a]),
+    }
 }

@@ -2,14 +2,13 @@
 use crate::Written;
 use crate::carry::ended;
 use crate::door::admitted_named;
+use crate::old_file;
 use flash::Meter;
 use reading::Found;
 use reading::Read;
 use reading::Survey;
 use reading::room::has_room;
 use spec::Refusal;
-use spec::Status;
-use writing::Old;
 use writing::write_file;
 ghost use mathlib.Core.Path.{_≡_};
 ghost use mathlib.Core.Bool.{true};
@@ -20,29 +19,11 @@ ghost use Rattle.spec.specs.Place.{fits};
 ghost use Rattle.spec.specs.Write.{put-steps};
 ghost use Rattle.spec.specs.Numbers.{outcome-of};
 ghost use Rattle.spec.specs.Answers.{carry-out, put-into, put};
-ghost use Rattle.laws.specs.Length.{In-range};
 ghost use Rattle.flash.specs.Did.{Did};
 ghost use Rattle.record.specs.Within.{Name-length};
-ghost use Rattle.reading.specs.Seek.{found-in, Found-whole};
 ghost use Rattle.reading.specs.Read.{reading-of, File-told};
 ghost use Rattle.reading.specs.Accepted.{Settled};
-ghost use Rattle.writing.specs.Old.{old-of, Lies};
 ghost use Rattle.lilota.specs.Numbers.{written, Written-told};
-
-// The file that a put replaces: the one that was found.
-fn old_file(image: &[u8], f: Found) -> Old
-    requires { ⌜ Found-whole (now image) f × In-range (length (now image)) ⌝ }
-    ensures { λ r. ⌜ (r ≡ old-of (found-in (now (image .entry)) f)) × Lies r (length (now (image .entry))) ⌝ }
-{
-    let Found::At(e) = f else {
-        return Old::None;
-    };
-    let a = e.at + 2;
-    Old::At {
-        at: e.at,
-        status: Status::from_byte(image[a]),
-    }
-}
 
 // Put's steps, where there is room.
 fn replace(image: &mut [u8], s: Survey, f: Found, name: &[u8], content: &[u8], m: Meter) -> Meter

@@ -94,44 +94,53 @@ cleaned-behind : {s t : Image} {m r : Meter} (a k : ℕ) → a + 1 < k → (c : 
 cleaned-behind {s} a k h true d = ⊎-elim (λ e. ap (drop k) e ∙ drop-set-lt k s (a + 1) 0 h) (λ e. ap (drop k) e) (did-one d)
 cleaned-behind {s} {t} {m} a k h false d = ap (drop k) (d .bytes ∙ ap (run s) (take-nil (m .allowance - m .asked)))
 
--- ---- the loop over the d bytes from at on, at the i-th of them
+-- ---- the d bytes from at on, from the i-th of them
 
 abbrev pub data-from : ℕ → ℕ → Image → List ℕ
 data-from at d s = take d (drop at s)
 
+abbrev pub cleaning-from : Image → ℕ → ℕ → ℕ → List Step
+cleaning-from s at d i = cleaning (at + i) (drop i (data-from at d s))
+
+module _ (s : Image) (at d : ℕ) (h : at + d ≤ length s) where
+  data-length : length (data-from at d s) ≡ d
+  data-length = length-take-le d (drop at s) (rw length-drop (omega arith))
+
+  pub from-first : clean-steps d at (data-from at d s) ≡ cleaning-from s at d 0
+  from-first = rw (add-zero, data-length)
+
+  pub from-next : (i : ℕ) → i + 1 < d → cleaning-from s at d i ≡ mark-steps (at + i) (drop (at + i) s) ++ cleaning-from s at d (i + 8)
+  from-next i l =
+      clean-next (at + i) (drop i (data-from at d s)) (rw (length-drop, data-length) (omega arith))
+      ∙ ap₂ _++_ (sym (mark-as-was s at d i l)) (rw (add-assoc, drop-drop 8 i (data-from at d s)))
+
+  pub from-none : (i : ℕ) → d ≤ i + 1 → cleaning-from s at d i ≡ []
+  from-none i l = clean-none (at + i) (drop i (data-from at d s)) (rw (length-drop, data-length) (omega arith))
+
+-- ---- the loop over them, at the i-th
+
 pub record Cleaning (s : Image) (at d : ℕ) (m : Meter) (t : Image) (q : Meter) (i : ℕ) : Type 0 where
-  pub left : Toward s m (clean-steps d at (data-from at d s)) t q (cleaning (at + i) (drop i (data-from at d s)))
+  pub left : Toward s m (clean-steps d at (data-from at d s)) t q (cleaning-from s at d i)
   pub later : drop (at + i) t ≡ drop (at + i) s
 
 module _ {s : Image} {at d : ℕ} {m : Meter} where
   pub cleaning-start : at + d ≤ length s → Cleaning s at d m s m 0
-  cleaning-start h =
-      let e : length (data-from at d s) ≡ d = length-take-le d (drop at s) (rw length-drop (omega arith)) in
-      record {
-        left = toward-same (λ u r f. f) (rw (add-zero, e));
-        later = refl;
-      }
+  cleaning-start h = record { left = toward-same (λ u r f. f) (from-first s at d h); later = refl }
 
   module _ {t : Image} {q : Meter} {i : ℕ} (w : Cleaning s at d m t q i) where
     pub cleaning-more : {u : Image} {r : Meter} → at + d ≤ length s → i + 1 < d → Did t q (mark-steps (at + i) (drop (at + i) t)) u r
         → Cleaning s at d m u r (i + 8)
     cleaning-more h l f =
-        let n : 0 < length (drop i (data-from at d s)) = rw (length-drop, length-take-le d (drop at s) (rw length-drop (omega arith))) (omega arith) in
-        let e : mark-steps (at + i) (drop (at + i) t) ≡ mark-steps (at + i) (drop i (data-from at d s)) = ap (mark-steps (at + i)) (w .later)
-        ∙ mark-as-was s at d i l in
+        let e : mark-steps (at + i) (drop (at + i) s) ≡ mark-steps (at + i) (drop (at + i) t) = ap (mark-steps (at + i)) (sym (w .later)) in
         record {
-          left =
-              toward-more (w .left) (clean-next (at + i) (drop i (data-from at d s)) n
-              ∙ ap₂ _++_ (sym e) (rw (add-assoc, drop-drop 8 i (data-from at d s)))) f;
+          left = toward-more (w .left) (from-next s at d h i l ∙ ap (λ (a : List Step). a ++ cleaning-from s at d (i + 8)) e) f;
           later =
               cleaned-behind (at + i) (at + (i + 8)) (omega arith) (mark-here (drop (at + i) t)) f
               ∙ later-on (at + i) (at + (i + 8)) s t (omega arith) (w .later);
         }
 
     pub cleaning-end : at + d ≤ length s → d ≤ i + 1 → Did s m (clean-steps d at (data-from at d s)) t q
-    cleaning-end h l =
-        toward-end (w .left) (clean-none (at + i) (drop i (data-from at d s))
-        (rw (length-drop, length-take-le d (drop at s) (rw length-drop (omega arith))) (omega arith)))
+    cleaning-end h l = toward-end (w .left) (from-none s at d h i l)
 
 -- ---- (c), of the whole record X
 

@@ -26,14 +26,22 @@ left-behind s x y = vacated (length s) (entry-of s x) (entry-of s y)
 
 -- ---- (d) ends at N or before Y's sector
 
-module _ (N : ℕ) (y : Entry) where
-  pub end-at-zero : y .at ≡ 0 → N ≡ vacated-end N y
-  unfolding vacated-end
-  end-at-zero h = rw (eq-eqb (y .at) 0 h, vacated-end)
+-- with Y at address a
+unfoldable pub left-end : ℕ → ℕ → ℕ
+left-end N a = elim (eqb a 0) [ true ↦ N | false ↦ floor a ]
 
-  pub end-at-floor : (y .at ≡ 0 → ⊥) → floor (y .at) ≡ vacated-end N y
-  unfolding vacated-end
-  end-at-floor h = rw (ne-eqb (y .at) 0 h, vacated-end)
+module _ (N a : ℕ) where
+  pub end-at-zero : a ≡ 0 → N ≡ left-end N a
+  unfolding left-end
+  end-at-zero h = rw (eq-eqb a 0 h, left-end)
+
+  pub end-at-floor : (a ≡ 0 → ⊥) → floor a ≡ left-end N a
+  unfolding left-end
+  end-at-floor h = rw (ne-eqb a 0 h, left-end)
+
+pub end-is : (N : ℕ) (y : Entry) → left-end N (y .at) ≡ vacated-end N y
+unfolding left-end vacated-end
+end-is N y = refl
 
 -- ---- (e), by Y's low byte
 

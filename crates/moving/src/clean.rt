@@ -31,7 +31,7 @@ fn is_low(b: u8) -> bool
 }
 
 // Two bytes that could be taken for a head's magic, or for a record's.
-fn is_mark(b: u8, c: u8) -> bool
+pub fn is_mark(b: u8, c: u8) -> bool
     ensures { λ r. ⌜ r ≡ is-mark b c ⌝ }
 {
     is_low(b) && c == HIGH

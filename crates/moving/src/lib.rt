@@ -17,13 +17,13 @@ ghost use mathlib.Core.Path.{_≡_};
 ghost use mathlib.Core.List.{[], _∷_};
 ghost use Prim.Native.Nat.{_+_, _*_, _≤_, _<_};
 ghost use lib.ListN.{length};
-ghost use Rattle.spec.specs.Move.{to-clean-step, vacated-end, vacated-steps, start-steps, forget-steps, close-steps};
+ghost use Rattle.spec.specs.Move.{to-clean-step, vacated-steps, start-steps, forget-steps, close-steps};
 ghost use Rattle.laws.specs.Length.{In-range};
 ghost use Rattle.flash.specs.Did.{Did};
 ghost use Rattle.flash.specs.Meters.{Can-count, Asked-most};
 ghost use Rattle.reading.specs.Rest.{entry-of};
 ghost use Rattle.reading.specs.Fold.{Whole};
-ghost use Rattle.moving.specs.Close.{left-behind};
+ghost use Rattle.moving.specs.Close.{left-end, left-behind};
 
 // The head that a move or a repair leaves, and the meter.
 pub struct NewHead {
@@ -40,16 +40,16 @@ pub fn to_clean(image: &mut [u8], y: Spot, m: Meter) -> Meter
     program(image, y.at, CLEAN, m)
 }
 
-// Where the sectors that X leaves end: before Y's sector, or at the image's end if Y is at 0 after a turn.
-fn vacated_end(image: &[u8], y: Spot) -> usize
-    requires { ⌜ Whole (now image) y ⌝ }
-    ensures { λ r. ⌜ (let s = now (image .entry) in r ≡ vacated-end (length s) (entry-of s y)) ⌝ }
-    ensures { λ r. ⌜ r ≤ length (now (image .entry)) ⌝ }
+// Where the sectors that X leaves end, in an image of length n with Y at this address: before Y's sector, or at n if Y is at 0
+// after a turn.
+pub fn vacated_end(n: usize, at: usize) -> usize
+    requires { ⌜ at ≤ n ⌝ }
+    ensures { λ r. ⌜ (r ≡ left-end n at) × (r ≤ n) ⌝ }
 {
-    if y.at == 0 {
-        return image.len();
+    if at == 0 {
+        return n;
     }
-    floor(y.at)
+    floor(at)
 }
 
 // (d) The sectors from X's to the one before Y's are erased.
@@ -60,7 +60,7 @@ fn vacate(image: &mut [u8], x: Spot, y: Spot, m: Meter) -> Meter
     ensures { λ r. ⌜ (let s = now (image .entry) in Did s m (vacated-steps (left-behind s x y)) (now (image .exit)) r) ⌝ }
     ensures { λ r. ⌜ Asked-most m r (length (now (image .entry))) ⌝ }
 {
-    let to = vacated_end(image, y);
+    let to = vacated_end(image.len(), y.at);
     erase_sectors(image, floor(x.at), to, m)
 }
 
@@ -86,7 +86,7 @@ fn forget(image: &mut [u8], x: Spot, y: Spot, m: Meter) -> Meter
         Did s m (forget-steps (entry-of s x) (left-behind s x y)) (now (image .exit)) r) ⌝ }
     ensures { λ r. ⌜ Asked-most m r 1 ⌝ }
 {
-    let to = vacated_end(image, y);
+    let to = vacated_end(image.len(), y.at);
     if floor(x.at) + SECTOR <= to {
         return m;
     }

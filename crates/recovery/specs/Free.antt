@@ -24,11 +24,11 @@ use Rattle.reading.specs.Read.{first-cursor}
 use Rattle.reading.specs.Survey.{Seen}
 use Rattle.moving.specs.Untouched.{later-on}
 use Rattle.recovery.specs.DirtySectors.{dirty-erased, dirty-same}
-use Rattle.recovery.specs.Repairs.{steps-1}
+use Rattle.planning.specs.Repairs.{steps-1}
 
 -- ---- the sectors behind those that were erased are judged as before
 
-keep-both : (p : ℕ → Bool) (a b : List ℕ) → map erase (keep p (a ++ b)) ≡ map erase (keep p a) ++ map erase (keep p b)
+pub keep-both : (p : ℕ → Bool) (a b : List ℕ) → map erase (keep p (a ++ b)) ≡ map erase (keep p a) ++ map erase (keep p b)
 keep-both p [] b = refl
 keep-both p (x ∷ a) b = go (p x) refl (keep-both p a b) where
   go : (t : Bool) → p x ≡ t → map erase (keep p (a ++ b)) ≡ map erase (keep p a) ++ map erase (keep p b)
@@ -57,7 +57,7 @@ module _ (s : Image) (p : Place) where
   unfolding erase-steps free-sectors
   run-turned e = rw (erase-steps, free-sectors, e)
 
-  run-both : p .turned ≡ false → erase-steps s p ≡ dirty-erased s (sectors 0 (floor (p .head)) ++ sectors (ceiling (p .tail)) (p .length))
+  pub run-both : p .turned ≡ false → erase-steps s p ≡ dirty-erased s (sectors 0 (floor (p .head)) ++ sectors (ceiling (p .tail)) (p .length))
   unfolding erase-steps free-sectors
   run-both e = rw (erase-steps, free-sectors, e)
 

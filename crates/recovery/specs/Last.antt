@@ -26,7 +26,7 @@ use Rattle.reading.specs.Tally.{none-yet, noted, tally}
 use Rattle.reading.specs.RuleLaws.{count-is}
 use Rattle.reading.specs.Read.{Tallied, first-cursor}
 use Rattle.reading.specs.Survey.{Seen}
-use Rattle.recovery.specs.Repairs.{steps-3}
+use Rattle.planning.specs.Repairs.{steps-3}
 
 -- ---- by its status
 

@@ -1,6 +1,5 @@
 pub mod Readable
 pub mod DirtySectors
-pub mod Repairs
 pub mod Free
 pub mod Pair
 pub mod Last

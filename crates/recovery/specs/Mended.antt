@@ -20,7 +20,7 @@ use Rattle.reading.specs.Rest.{rest}
 use Rattle.reading.specs.Bridge.{shown, reading-is}
 use Rattle.laws.specs.Settled.{close-filled}
 use Rattle.reading.specs.Read.{first-cursor}
-use Rattle.recovery.specs.Repairs.{steps-1, pair-steps, pair-head, steps-2, head-2, steps-3, repair-1-is, repair-2-is, repair-3-is, repair-4-is}
+use Rattle.planning.specs.Repairs.{steps-1, pair-steps, pair-head, steps-2, head-2, steps-3, repair-1-is, repair-2-is, repair-3-is, repair-4-is}
 use Rattle.recovery.specs.Pair.{Move-finished}
 use Rattle.recovery.specs.Mending.{Mending, mending-more, mending-stop}
 

@@ -23,7 +23,7 @@ use Rattle.reading.specs.TallyLaws.{first-is, second-is}
 use Rattle.reading.specs.RuleLaws.{count-is}
 use Rattle.reading.specs.Read.{first-cursor}
 use Rattle.reading.specs.Survey.{Seen}
-use Rattle.recovery.specs.Repairs.{pair-steps, pair-head, steps-2, head-2}
+use Rattle.planning.specs.Repairs.{pair-steps, pair-head, steps-2, head-2}
 
 -- what repair 2 did, and the head that it left
 pub record Move-finished (s : Image) (h : ℕ) (m : Meter) (t : Image) (head : ℕ) (r : Meter) : Type 0 where
@@ -33,7 +33,7 @@ pub record Move-finished (s : Image) (h : ℕ) (m : Meter) (t : Image) (head : �
 -- ---- by the second record's low byte
 
 module _ (N h : ℕ) (x y : Entry) where
-  pair-by : (t u : Bool) → is-clean (y .it .low) ≡ t → is-start (y .it .low) ≡ u
+  pub pair-by : (t u : Bool) → is-clean (y .it .low) ≡ t → is-start (y .it .low) ≡ u
       → (pair-steps N x y ≡ elim t [ true ↦ close-steps N x y (y .it .low) | false ↦ elim u [ true ↦ program (x .at + 1) 0x00 ∷ [] | false ↦ [] ] ])
       × (pair-head h y ≡ elim t [ true ↦ y .at | false ↦ elim u [ true ↦ y .at | false ↦ h ] ])
   unfolding pair-steps pair-head
@@ -43,12 +43,12 @@ module _ (N h : ℕ) (x y : Entry) where
 
 -- ---- the first two records, by the tally
 
-few : (N h : ℕ) (es : List Entry) → length es < 2 → (steps-2 N es ≡ []) × (head-2 h es ≡ h)
+pub few : (N h : ℕ) (es : List Entry) → length es < 2 → (steps-2 N es ≡ []) × (head-2 h es ≡ h)
 few N h [] l = (refl, refl)
 few N h (x ∷ []) l = (refl, refl)
 few N h (x ∷ (y ∷ es)) l = absurd (omega arith)
 
-two : (s : Image) (N h : ℕ) (es : List Entry) (t : Tally) → t ≡ tally none-yet es → Each (Stands s) es → 2 ≤ length es
+pub two : (s : Image) (N h : ℕ) (es : List Entry) (t : Tally) → t ≡ tally none-yet es → Each (Stands s) es → 2 ≤ length es
     → (steps-2 N es ≡ pair-steps N (entry-of s (t .first)) (entry-of s (t .second))) × (head-2 h es ≡ pair-head h (entry-of s (t .second)))
 two s N h [] t q f l = absurd (omega arith)
 two s N h (x ∷ []) t q f l = absurd (omega arith)

@@ -20,10 +20,10 @@ ghost use Rattle.flash.specs.Did.{Did};
 ghost use Rattle.flash.specs.Meters.{Can-count, Asked-most};
 ghost use Rattle.reading.specs.FreeLaws.{In-image};
 ghost use Rattle.recovery.specs.Readable.{Readable};
-ghost use Rattle.recovery.specs.Repairs.{steps-1};
+ghost use Rattle.planning.specs.Repairs.{steps-1};
 
 // The first start of a sector that is not below a.
-fn ceiling(a: usize) -> usize
+pub fn ceiling(a: usize) -> usize
     requires { ⌜ In-range a ⌝ }
     ensures { λ r. ⌜ r ≡ ceiling a ⌝ }
     ensures { λ r. ⌜ In-range r ⌝ }

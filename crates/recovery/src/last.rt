@@ -24,7 +24,7 @@ ghost use Rattle.reading.specs.Fold.{Whole};
 ghost use Rattle.reading.specs.Read.{Tallied, first-cursor};
 ghost use Rattle.reading.specs.Survey.{Torn-inside};
 ghost use Rattle.recovery.specs.Readable.{Readable};
-ghost use Rattle.recovery.specs.Repairs.{steps-3};
+ghost use Rattle.planning.specs.Repairs.{steps-3};
 
 // A torn record becomes a dead one with no name and no data: nine steps, always all.
 fn build_void(part: &mut [u8], m: Meter) -> Meter

@@ -42,7 +42,7 @@ fn next_move(image: &mut [u8], place: Place, m: Meter) -> MoveEnd
 // The moves of a sweep at most.
 const MOST: usize = 5;
 
-fn at_most(n: usize) -> usize
+pub fn at_most(n: usize) -> usize
     ensures { λ r. ⌜ r ≡ min 5 n ⌝ }
 {
     if n < MOST {

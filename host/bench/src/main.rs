@@ -5,6 +5,7 @@ mod colliding;
 mod images;
 mod options;
 mod papers;
+mod plans;
 mod stack;
 mod table;
 mod timing;
@@ -23,7 +24,7 @@ const QUICK: Effort = Effort { runs: 5, seconds: 0.0005, cold: false };
 const FEW: Effort = Effort { runs: 5, seconds: 0.0005, cold: false };
 
 /// The sections of docs/BENCHMARKS.md that are written.
-const SECTIONS: [&str; 6] = ["run", "aim", "summary", "cold", "colliding", "stack"];
+const SECTIONS: [&str; 7] = ["run", "aim", "summary", "cold", "colliding", "stack", "plans"];
 
 /// The library and what it is measured against.
 struct Both {
@@ -115,6 +116,7 @@ fn write_papers(o: &Options, both: &Both, commit: &str) {
     let cold = measure_cold(o, both);
     let colliding = measure_colliding(both);
     let stack = measure_stack(o, both);
+    let plans = plans::measured(&both.library, &shapes(o), effort(o));
     let run = format!(
         "Library of commit {commit}; {}. This program had the processor for {share:.0} in 100 of the time.\n",
         machine()
@@ -134,6 +136,7 @@ fn write_papers(o: &Options, both: &Both, commit: &str) {
         table::aim(&cold),
         table::colliding(&colliding),
         table::stack(&stack),
+        plans::table(&plans),
     ];
     let sections: Vec<(&str, String)> = SECTIONS.into_iter().zip(texts).collect();
     papers::write(&page, &sections);
@@ -149,6 +152,7 @@ fn print_tables(o: &Options, both: &Both) {
         What::Cold => println!("{}", table::rows(&measure_cold(o, both))),
         What::Colliding => println!("{}", table::colliding(&measure_colliding(both))),
         What::Stack => println!("{}", table::stack(&measure_stack(o, both))),
+        What::Plans => println!("{}", plans::table(&plans::measured(&both.library, &shapes(o), effort(o)))),
     }
 }
 

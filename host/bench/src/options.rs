@@ -2,7 +2,7 @@
 use crate::cases::Kind;
 use crate::images::Fill;
 
-pub const USAGE: &str = "bench [--quick] [--papers COMMIT] [--cold | --colliding | --stack]
+pub const USAGE: &str = "bench [--quick] [--papers COMMIT] [--cold | --colliding | --stack | --plans]
       [--size 64K|1M|16M] [--files N] [--fill empty|full] [--call CALL]
   --quick       fewer and shorter runs
   --papers      measures everything and writes docs/BENCHMARKS-ROWS.md and the tables of docs/BENCHMARKS.md; COMMIT is
@@ -10,6 +10,7 @@ pub const USAGE: &str = "bench [--quick] [--papers COMMIT] [--cold | --colliding
   --cold        times with cold caches, in place of warm ones
   --colliding   times on images of colliding names
   --stack       the stack that each call needs
+  --plans       a sweep planned in windows (K1) against the direct one
   the others keep those rows alone; several go with a comma between, as in --size 64K,1M
   CALL: mount, get, list, put, put-long, remove, sweep, mount-put, mount-move, mount-clean";
 
@@ -24,6 +25,7 @@ pub enum What {
     Cold,
     Colliding,
     Stack,
+    Plans,
 }
 
 /// Which rows are measured, and how.
@@ -60,6 +62,7 @@ impl Options {
                 "--cold" => o.what = What::Cold,
                 "--colliding" => o.what = What::Colliding,
                 "--stack" => o.what = What::Stack,
+                "--plans" => o.what = What::Plans,
                 "--size" => o.sizes = each(&list()?, size)?,
                 "--files" => o.files = each(&list()?, |x| x.parse().ok().filter(|&files| files > 0))?,
                 "--fill" => o.fills = each(&list()?, |x| FILLS.into_iter().find(|f| f.word() == x))?,
@@ -95,6 +98,7 @@ mod tests {
         let some = parsed("--quick --size 64K,16M --call mount-put,get --fill full --files 3").unwrap();
         assert_eq!((some.quick, some.sizes, some.files), (true, vec![64 << 10, 16 << 20], vec![3]));
         assert_eq!((some.calls, some.fills), (vec![Kind::MountPut, Kind::Get], vec![Fill::Full]));
+        assert_eq!(parsed("--plans --size 16M").unwrap().what, What::Plans);
         let cold = parsed("--cold --papers f11801c").unwrap();
         assert_eq!((cold.what, cold.papers.as_deref()), (What::Cold, Some("f11801c")));
     }

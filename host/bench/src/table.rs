@@ -38,7 +38,7 @@ pub fn size(n: usize) -> String {
 }
 
 /// A number with about three digits that count.
-fn number(x: f64) -> String {
+pub fn number(x: f64) -> String {
     match x {
         x if x < 10.0 => format!("{x:.2}"),
         x if x < 100.0 => format!("{x:.1}"),
@@ -46,16 +46,16 @@ fn number(x: f64) -> String {
     }
 }
 
-fn micros(s: Spread) -> String {
+pub fn micros(s: Spread) -> String {
     number(s.median * 1e6)
 }
 
-fn spread(s: Spread) -> String {
+pub fn spread(s: Spread) -> String {
     format!("{} ({} to {})", number(s.median), number(s.least), number(s.most))
 }
 
 /// A table of these columns; those behind the first `words` are numbers.
-fn table(columns: &[&str], words: usize, rows: impl Iterator<Item = Vec<String>>) -> String {
+pub fn table(columns: &[&str], words: usize, rows: impl Iterator<Item = Vec<String>>) -> String {
     let line = |cells: &[String]| format!("| {} |\n", cells.join(" | "));
     let mut text = line(&columns.iter().map(|c| c.to_string()).collect::<Vec<_>>());
     let under = (0..columns.len()).map(|i| if i < words { "---" } else { "---:" });

@@ -24,7 +24,7 @@ pub struct Spread {
 }
 
 impl Spread {
-    fn of(values: impl Iterator<Item = f64>) -> Spread {
+    pub fn of(values: impl Iterator<Item = f64>) -> Spread {
         let mut values: Vec<f64> = values.collect();
         values.sort_by(f64::total_cmp);
         Spread { median: values[values.len() / 2], least: values[0], most: values[values.len() - 1] }
@@ -68,14 +68,14 @@ fn clock() -> f64 {
 }
 
 /// The bytes that a call writes, as stretches of the image before it.
-struct Undo<'a> {
+pub struct Undo<'a> {
     before: &'a [u8],
     stretches: Vec<(usize, usize)>,
 }
 
 impl Undo<'_> {
     /// Stretches of whole words, joined where they touch.
-    fn new<'a>(before: &'a [u8], after: &[u8]) -> Undo<'a> {
+    pub fn new<'a>(before: &'a [u8], after: &[u8]) -> Undo<'a> {
         let mut stretches: Vec<(usize, usize)> = Vec::new();
         for (i, (old, new)) in before.chunks(8).zip(after.chunks(8)).enumerate() {
             if old != new {
@@ -89,7 +89,7 @@ impl Undo<'_> {
         Undo { before, stretches }
     }
 
-    fn restore(&self, img: &mut [u8]) {
+    pub fn restore(&self, img: &mut [u8]) {
         for &(from, to) in &self.stretches {
             img[from..to].copy_from_slice(&self.before[from..to]);
         }

@@ -1,4 +1,7 @@
 //! The calls of liblilota.a.
+mod plans;
+
+pub use plans::Plans;
 use std::path::Path;
 
 testing::c_library!(lilota_format lilota_mount lilota_put lilota_get lilota_list lilota_remove lilota_sweep);

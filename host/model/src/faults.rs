@@ -1,6 +1,7 @@
 //! Wrong models, one error at a time, to show that the testers notice them: those of
 //! document 01's "Errors that look right", K14's clauses, each left out or turned, K6's
-//! room rule with a part left out, and names told apart by K2's table alone.
+//! room rule with a part left out, names told apart by K2's table alone, and a planner
+//! (K1) that is not the direct call's.
 //! None is seeded by default.
 use std::cell::Cell;
 
@@ -69,6 +70,24 @@ pub enum Fault {
     /// K14: a cut reaches inside the program step behind an undone erase. No fault of a
     /// library: the other reading of "its next program step".
     CutPastErase,
+    /// K1: a step in the middle is not planned.
+    StepLeftOut,
+    /// K1: a marker is planned behind its record.
+    MarkerLate,
+    /// K1: an erase's byte is 00.
+    EraseAs00,
+    /// K1: a window that doesn't begin at step 0 begins one too far.
+    WindowTooFar,
+    /// K1: a start past the end hands out the last step again.
+    EndAgain,
+    /// K1: each slice gets as many as fit itself.
+    SlicesAlone,
+    /// K1: slots that get nothing are cleared.
+    SlotsCleared,
+    /// K1: a refusal clears the slots.
+    RefusalClears,
+    /// K1: the steps given back are those handed out.
+    WindowCounted,
 }
 
 impl Fault {

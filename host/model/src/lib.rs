@@ -1,5 +1,5 @@
-//! Document 01 with requests K14 and K6 of document 02, read literally, as a program:
-//! what each call answers and leaves.
+//! Document 01 with requests K14, K6 and K1 of document 02, read literally, as a
+//! program: what each call answers and leaves.
 //!
 //! One module for each section of 01; quoted text is the documents' own, a request's
 //! where it is named.
@@ -21,6 +21,7 @@ pub mod head;
 pub mod log;
 pub mod place;
 pub mod plan;
+pub mod planner;
 pub mod repair;
 pub mod rules;
 pub mod sweep;
@@ -34,4 +35,5 @@ pub use geometry::*;
 pub use head::{find_head, walk};
 pub use place::{put_room, sizes_behind, Place, Placed};
 pub use plan::{planned, Ask, Plan};
+pub use planner::{hand_out, plan_out, Handing};
 pub use rules::{read_image, settled};

@@ -3,6 +3,8 @@
 //! in STANDIN_FAULT it is wrong in that way, and a comparison must notice.
 //!
 //! Nothing here is proved and nothing of it is delivered.
+mod plans;
+
 use model::faults::{self, Fault};
 use model::Reply;
 use std::panic::{catch_unwind, AssertUnwindSafe};
@@ -15,7 +17,7 @@ fn fault() -> Option<Fault> {
     static FAULT: OnceLock<Option<Fault>> = OnceLock::new();
     *FAULT.get_or_init(|| {
         let name = std::env::var("STANDIN_FAULT").ok()?;
-        let found = Fault::ALL.into_iter().find(|f| format!("{f:?}") == name);
+        let found = Fault::ALL.into_iter().chain(Fault::PLANNER).find(|f| format!("{f:?}") == name);
         Some(found.unwrap_or_else(|| panic!("no fault {name}")))
     })
 }
@@ -39,8 +41,8 @@ unsafe fn slice<'a>(at: *const u8, length: usize) -> &'a [u8] {
 }
 
 /// # Safety
-/// As `slice`, and nothing else has these bytes.
-unsafe fn slice_mut<'a>(at: *mut u8, length: usize) -> &'a mut [u8] {
+/// As `slice`, of any type, and nothing else has these.
+unsafe fn slice_mut<'a, T>(at: *mut T, length: usize) -> &'a mut [T] {
     if length == 0 {
         &mut []
     } else {

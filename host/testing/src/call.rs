@@ -63,17 +63,21 @@ impl Call {
         }
     }
 
+    /// What is asked of the model; none if the call does no step.
+    pub fn ask(&self) -> Option<Ask<'_>> {
+        match self {
+            Call::Put(name, data, _) => Some(Ask::Put(name, data)),
+            Call::Remove(name, _) => Some(Ask::Remove(name)),
+            Call::Sweep(_) => Some(Ask::Sweep),
+            Call::Mount(_) => Some(Ask::Mount),
+            Call::Format(_) => Some(Ask::Format),
+            Call::Get(_) | Call::List(_) => None,
+        }
+    }
+
     /// The model's plan of it; none if it is refused, or does no step.
     pub fn plan(&self, img: &[u8]) -> Option<Plan> {
-        let ask = match self {
-            Call::Put(name, data, _) => Ask::Put(name, data),
-            Call::Remove(name, _) => Ask::Remove(name),
-            Call::Sweep(_) => Ask::Sweep,
-            Call::Mount(_) => Ask::Mount,
-            Call::Format(_) => Ask::Format,
-            Call::Get(_) | Call::List(_) => return None,
-        };
-        planned(img, ask).ok()
+        planned(img, self.ask()?).ok()
     }
 
     /// The steps that this call does with every allowance it could want.

@@ -16,6 +16,7 @@ pub mod images;
 pub mod ledger;
 pub mod maker;
 pub mod odd;
+pub mod planner;
 pub mod progress;
 pub mod rng;
 pub mod stuck;

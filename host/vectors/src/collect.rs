@@ -3,6 +3,7 @@ use crate::emit::{equation, Vector};
 use crate::held::{plain, told, Told};
 use crate::histories;
 use crate::orders::{self, ORDERS};
+use crate::plans;
 use crate::required::{REQUIRED, SOURCES};
 use crate::rooms::{self, ROOM_STATES};
 use model::*;
@@ -22,8 +23,8 @@ pub const EACH: u64 = 3;
 const RARE: u64 = 12;
 const HISTORIES: u64 = 80;
 /// A program step costs antt as much as its address: no long step lists.
-const MOST_STEPS: u64 = 150;
-const MOST_TEXT: usize = 9_000;
+pub const MOST_STEPS: u64 = 150;
+pub const MOST_TEXT: usize = 9_000;
 
 pub struct Collection {
     pub vectors: Vec<Vector>,
@@ -93,7 +94,8 @@ impl Collection {
         let tags = REQUIRED.iter().chain(&BYTE_TAGS).chain(&ROOM_TAGS).chain(&ROOM_STATES).chain(&ORDERS);
         let tags = tags.map(|t| format!("tag {t}"));
         let sources = SOURCES.iter().map(|s| format!("source {s}"));
-        answers.chain(tags).chain(sources).filter(|w| self.count(w) < EACH).collect()
+        let lacking = answers.chain(tags).chain(sources).filter(|w| self.count(w) < EACH);
+        lacking.chain(plans::lacking(self)).collect()
     }
 
     /// The coverage: calls by answers, then tags, sources and histories.
@@ -282,6 +284,7 @@ pub fn collect() -> Collection {
     rooms::add(&mut r, &mut c);
     histories::add(&mut r, &mut c, HISTORIES);
     orders::add(&mut c);
+    plans::add(&mut c);
     c
 }
 

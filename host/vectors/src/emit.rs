@@ -97,7 +97,7 @@ fn extent(x: &Extent) -> String {
 }
 
 /// The numbers of a reply, each under its name.
-fn numbers(call: &Call, r: &Reply) -> String {
+pub fn numbers(call: &Call, r: &Reply) -> String {
     let (answer, steps) = (r.answer, r.steps);
     match call {
         Call::Mount(_) => format!("(of-mount {answer} {} {steps})", report(&r.report)),
@@ -151,7 +151,9 @@ pub fn file(vectors: &[(usize, &Vector)]) -> String {
          use Rattle.spec.specs.History.{Request, put, remove, sweep, mount, get, list}\n\
          use Rattle.spec.specs.Numbers.{of-write, of-mount, of-sweep, of-get, of-list}\n\
          use Rattle.spec.specs.Run.{fill, lit, build, call, file, entry, report, extent}\n\
-         use Rattle.spec.specs.Run.{check, check-format, check-part, check-place, check-room, check-history}\n",
+         use Rattle.spec.specs.Run.{check, check-format, check-part, check-place, check-room, check-history}\n\
+         use Rattle.spec.specs.Planner as Planner\n\
+         use Rattle.spec.specs.Run.{lent, check-plan, check-in-turn}\n",
     );
     for (i, v) in vectors {
         write!(s, "\nv{i} : {} ≡ true\nunfolding {}\nv{i} = refl\n", v.text, v.function).unwrap();

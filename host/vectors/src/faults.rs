@@ -2,6 +2,7 @@
 use crate::computed::{check_edited, shared, Edit};
 use crate::emit::Vector;
 use crate::inside_faults::INSIDE_FAULTS;
+use crate::plan_faults::PLAN_FAULTS;
 use crate::room_faults::ROOM_FAULTS;
 use std::path::Path;
 
@@ -239,7 +240,8 @@ pub fn run(spec: &Path, vectors: &[Vector], jobs: usize, only: Option<&str>) -> 
         .iter()
         .chain(INSIDE_FAULTS)
         .chain(ROOM_FAULTS)
-        .filter(|f| only.is_none_or(|what| f.what == what))
+        .chain(PLAN_FAULTS)
+        .filter(|f| only.is_none_or(|what| f.what.starts_with(what)))
         .collect();
     let results = shared(&faults, jobs, |job, fault| {
         let chosen = aimed(vectors, fault.aim);

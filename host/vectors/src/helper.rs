@@ -1,5 +1,6 @@
 //! The test helper Run.antt: what a vector computes. It unfolds every name of the
 //! definitions that can be unfolded.
+use crate::plans;
 use scratch::read;
 use std::path::Path;
 
@@ -172,5 +173,6 @@ pub fn text(specs: &Path) -> Result<String, String> {
             uses += &format!("use Rattle.spec.specs.{m} as {m}\n");
         }
     }
-    Ok(format!("{HEAD}{uses}{}", BODY.replace("NAMES", &names.join(" "))))
+    let body = [BODY, plans::HELPER].concat().replace("NAMES", &names.join(" "));
+    Ok(format!("{HEAD}{uses}{body}"))
 }

@@ -2,7 +2,7 @@
 //!   vectors all [SPEC] [--jobs N] [--only WHAT]       every vector; which differ
 //!   vectors faults [SPEC] [--jobs N] [--only FAULT]   wrong definitions; each must be noticed
 //! SPEC is the folder of the definitions (../crates/spec). WHAT is a tag, a source, a
-//! call, or a call with its answer ("put 28"); FAULT is one of the faults' names. Everything is made in scratch folders
+//! call, or a call with its answer ("put 28"); FAULT is a fault's name, or its first words. Everything is made in scratch folders
 //! and repeats from run to run. rt is taken from RT, or from PATH.
 mod collect;
 mod computed;
@@ -13,6 +13,8 @@ mod helper;
 mod histories;
 mod inside_faults;
 mod orders;
+mod plan_faults;
+mod plans;
 mod required;
 mod room_faults;
 mod rooms;

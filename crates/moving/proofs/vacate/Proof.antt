@@ -1,5 +1,9 @@
 -- The sectors from the start of X's.
 use native.Mathlib.Omega.{arith}
+use mathlib.Core.Path.{_∙_}
+use lib.ListN.{length}
+use Rattle.reading.specs.Rest.{entry-of}
+use Rattle.moving.specs.Close.{end-is}
 use borrow.Author.Needs.{needs}
 use Rattle.moving.proofs.vacate.Statement.{statement}
 use Rattle.moving.proofs.vacate.Tie as tie
@@ -19,7 +23,10 @@ same-length c = search needs
 returns : tie.Need-returns
 returns c =
     let c3 = c .before .before .before in
-    (rw (c3 .floor .ensures .0, c3 .before .before .vacated-end .ensures .0) at (c .before .before .erase-sectors .ensures .0), omega arith)
+    let c5 = c3 .before .before in
+    let a = c5 .before .before .args in
+    let ends = c5 .vacated-end .ensures .0 ∙ end-is (length (a .image .now)) (entry-of (a .image .now) (a .y)) in
+    (rw (c3 .floor .ensures .0, ends) at (c .before .before .erase-sectors .ensures .0), omega arith)
 
 pub vacate-spec : {M : Type 1} → statement M
 vacate-spec =

@@ -1,4 +1,5 @@
-//! The library against the model: answers, numbers and all bytes of the image.
+//! The library against the model: answers, numbers and all bytes of the image; and its
+//! plans (K1), the slots of the slices too.
 //!   compare [IMAGES [SEED]]
 use testing::argument;
 use testing::c_calls::Library;
@@ -11,10 +12,12 @@ fn main() {
     let (images, seed) = (argument(1, 12_000), argument(2, 1));
     let store = Library::new(library::functions());
     println!("library: {}", library::path().display());
-    let mut comparison = Comparison::new(&store);
+    let planner = library::Plans::default();
+    let mut comparison = Comparison::with_plans(&store, &planner);
     comparison.run(seed, images, images > SHORT);
-    println!("{}", comparison.tally.report());
-    if comparison.tally.differ > 0 || comparison.tally.calls == 0 {
+    let plans = comparison.plans().expect("with plans");
+    println!("{}\n{}", plans.report(), comparison.tally.report());
+    if comparison.tally.differ + plans.differ > 0 || comparison.tally.calls == 0 || plans.calls == 0 {
         std::process::exit(1);
     }
 }

@@ -3,13 +3,18 @@ mod arbitrary;
 mod colliding;
 mod fixed;
 mod mounting;
+mod planning;
+mod plans;
 mod tally;
 mod writing;
 
 use crate::call::{Call, Store};
 use crate::cut::{self, Made};
+use crate::planner::Planner;
 use crate::rng::Rng;
 use model::Reply;
+use planning::Planning;
+pub use plans::{Plans, PLAN_ANSWERS, PLAN_TAGS};
 pub use tally::Tally;
 pub use writing::name_for;
 
@@ -21,11 +26,23 @@ const EARLY: u64 = 3_000;
 pub struct Comparison<'s, S: Store> {
     store: &'s S,
     pub tally: Tally,
+    /// none for a store without plans
+    planning: Option<Planning<'s>>,
 }
 
 impl<'s, S: Store> Comparison<'s, S> {
     pub fn new(store: &'s S) -> Self {
-        Comparison { store, tally: Tally::default() }
+        Comparison { store, tally: Tally::default(), planning: None }
+    }
+
+    /// With the plans of its writing calls (K1).
+    pub fn with_plans(store: &'s S, planner: &'s dyn Planner) -> Self {
+        Comparison { planning: Some(Planning::new(planner)), ..Comparison::new(store) }
+    }
+
+    /// What was tried of plans.
+    pub fn plans(&self) -> Option<&Plans> {
+        self.planning.as_ref().map(|p| &p.tally)
     }
 
     /// Rounds of random images until there were so many, with all that is aimed after
@@ -64,13 +81,16 @@ impl<'s, S: Store> Comparison<'s, S> {
     }
 
     pub fn given_up(&self) -> bool {
-        self.tally.differ >= ENOUGH
+        self.tally.differ + self.plans().map_or(0, |plans| plans.differ) >= ENOUGH
     }
 
     /// Counts an image of this source.
     fn image(&mut self, source: &'static str) {
         self.tally.images += 1;
         *self.tally.sources.entry(source).or_default() += 1;
+        if let Some(planning) = &mut self.planning {
+            planning.image(source);
+        }
     }
 
     /// One call on a copy of the image, by the store and by the model. Gives what
@@ -84,6 +104,9 @@ impl<'s, S: Store> Comparison<'s, S> {
             let told = self.store.call(&mut left, call);
             if told.as_ref() != Ok(&reply) || left != expected {
                 self.tally.differs(call, img, (&reply, &expected), (&told, &left));
+            }
+            if let Some(planning) = &mut self.planning {
+                planning.call(self.store, img, call);
             }
         }
         (reply, expected)

@@ -89,7 +89,7 @@ impl Tally {
 }
 
 /// The call; of a put's content the length alone, which may be anything.
-fn described(call: &Call) -> String {
+pub fn described(call: &Call) -> String {
     match call {
         Call::Put(name, data, k) => format!("Put({name:02x?}, {} bytes, {k})", data.len()),
         other => format!("{other:02x?}"),

@@ -38,7 +38,7 @@ returns c =
     let roomy = sym (flag (c6 .has-room .ensures) (c5 .if1 .taken)) in
     rw (c .ended .ensures) (
       carried (a .allowance) refl refl (c .before .before .before .replace .ensures)
-          ∙ put-room (a .image .now) (a .allowance) (a .name .now) (a .content .now) (reading-of (a .image .now) (a .s)) true roomy,
+          ∙ put-room (a .name .now) (a .content .now) (a .image .now) (a .allowance) (reading-of (a .image .now) (a .s)) true roomy,
       spent-told (c .before .before .before .replace .result),
     )
 
@@ -50,7 +50,7 @@ returns-2 c =
     let a = c .before .before .before .before .before .before .args in
     let full = sym (flag (c .before .has-room .ensures) (c .if1 .left)) in (
       refused (a .image .now) (a .allowance) (numbered 28)
-          ∙ put-room (a .image .now) (a .allowance) (a .name .now) (a .content .now) (reading-of (a .image .now) (a .s)) false full,
+          ∙ put-room (a .name .now) (a .content .now) (a .image .now) (a .allowance) (reading-of (a .image .now) (a .s)) false full,
       no-room,
     )
 

@@ -2,7 +2,7 @@
 use mathlib.Core.Path.{sym, _∙_}
 use native.Mathlib.Omega.{arith}
 use Rattle.recovery.specs.Pair.{finish-few, finish-clean, finish-start, finish-plain}
-use Rattle.recovery.specs.Repairs.{clean-told}
+use Rattle.recovery.specs.Readable.{clean-told}
 use borrow.Author.Needs.{needs}
 use Rattle.recovery.proofs.finish.finish_move.Statement.{statement}
 use Rattle.recovery.proofs.finish.finish_move.Tie as tie

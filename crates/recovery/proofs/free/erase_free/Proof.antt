@@ -2,7 +2,7 @@
 use native.Mathlib.Omega.{arith}
 use Rattle.flash.specs.Did.{did-none}
 use Rattle.recovery.specs.Free.{head-missing, head-other, head-cleaned}
-use Rattle.recovery.specs.Repairs.{clean-told}
+use Rattle.recovery.specs.Readable.{clean-told}
 use borrow.Author.Needs.{needs}
 use Rattle.recovery.proofs.free.erase_free.Statement.{statement}
 use Rattle.recovery.proofs.free.erase_free.Tie as tie

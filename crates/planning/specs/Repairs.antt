@@ -1,6 +1,6 @@
 -- The four repairs, each as its steps and the head it leaves, of the image and the reading that it meets.
 use Prim.Native.Nat.{ℕ, _+_}
-use mathlib.Core.Path.{_≡_, refl, sym, ap, _∙_}
+use mathlib.Core.Path.{_≡_, refl}
 use mathlib.Core.Bool.{Bool, true, false}
 use mathlib.Core.List.{List, [], _∷_, _++_}
 use Rattle.spec.specs.Step.{Image, Step, program}
@@ -11,10 +11,9 @@ use Rattle.spec.specs.Reading.{head-clean}
 use Rattle.spec.specs.Move.{Work, after, start-steps, close-steps}
 use Rattle.spec.specs.Mount.{erase-steps, head-low, repair-1, repair-2, last-steps, torn-wrap-steps, repair-3, drop-steps, repair-4}
 
--- what the code asks of a low byte that it read, and what its test says
-pub clean-told : {low own : ℕ} {r t : Bool} → low ≡ own → r ≡ is-clean low → r ≡ t → is-clean own ≡ t
-clean-told e f g = ap is-clean (sym e) ∙ sym f ∙ g
+-- ---- the steps of each, as far as they are no list of the definition
 
+-- 1
 unfoldable pub steps-1 : Image → Reading → List Step
 steps-1 image r =
     elim (head-clean (r .entries)) [
@@ -22,7 +21,7 @@ steps-1 image r =
       | false ↦ []
     ]
 
--- of the first record x and the second y
+-- 2, of the first record x and the second y
 unfoldable pub pair-steps : ℕ → Entry → Entry → List Step
 pair-steps N x y =
     elim (is-clean (y .it .low)) [
@@ -43,6 +42,7 @@ head-2 h [] = h
 head-2 h (x ∷ []) = h
 head-2 h (x ∷ (y ∷ es)) = pair-head h y
 
+-- 3
 abbrev pub steps-3 : Image → Reading → List Step
 steps-3 image r = last-steps image (r .entries) ++ torn-wrap-steps (r .ending)
 

@@ -4,8 +4,8 @@ use native.Mathlib.Omega.{arith}
 use Rattle.reading.specs.Seek.{found-in}
 use Rattle.lilota.specs.Put.{old-is}
 use borrow.Author.Needs.{needs}
-use Rattle.lilota.proofs.put.old_file.Statement.{statement}
-use Rattle.lilota.proofs.put.old_file.Tie as tie
+use Rattle.lilota.proofs.old_file.Statement.{statement}
+use Rattle.lilota.proofs.old_file.Tie as tie
 
 enum-known-f : tie.Need-enum-known-f
 enum-known-f c = search needs

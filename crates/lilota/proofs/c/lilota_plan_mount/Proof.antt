@@ -1,0 +1,49 @@
+-- The numbers of the plan's answer, through pointers.
+use mathlib.Core.Path.{refl}
+use Rattle.lilota.specs.Planned.{mounted-handed}
+use borrow.Author.Needs.{needs}
+use Rattle.lilota.proofs.c.lilota_plan_mount.Statement.{statement}
+use Rattle.lilota.proofs.c.lilota_plan_mount.Tie as tie
+
+plan-mount-requires : tie.Need-plan-mount-requires
+plan-mount-requires c κs = search needs
+
+report-requires : tie.Need-report-requires
+report-requires c κs = search needs
+
+steps-requires : tie.Need-steps-requires
+steps-requires c κs = search needs
+
+answer-requires : tie.Need-answer-requires
+answer-requires c κs = search needs
+
+same-length : tie.Need-same-length
+same-length c = search needs
+
+same-length-2 : tie.Need-same-length-2
+same-length-2 c = search needs
+
+same-length-3 : tie.Need-same-length-3
+same-length-3 c = search needs
+
+returns : tie.Need-returns
+returns c =
+    let c2 = c .before .before in
+    let c9 = c2 .before .before .before .before .before .before .before in
+    let done = c9 .plan-mount in (
+      mounted-handed (done .result .answer) _ _ _ _ _ _ (c .answer .ensures) (c2 .report .ensures) (c .before .steps .ensures) (done .ensures .0),
+      refl,
+    )
+
+pub lilota-plan-mount-spec : {M : Type 1} → statement M
+lilota-plan-mount-spec =
+    tie.close
+    (tie.spec
+    plan-mount-requires
+    report-requires
+    steps-requires
+    answer-requires
+    same-length
+    same-length-2
+    same-length-3
+    returns)

@@ -1,0 +1,66 @@
+-- The repairs that the first reading plans are the definition's, and so is the report.
+use native.Mathlib.Omega.{arith}
+use Rattle.planner.specs.Mount.{torn-told}
+use Rattle.lilota.specs.PlanMount.{marks-are, mount-out}
+use borrow.Author.Needs.{needs}
+use Rattle.lilota.proofs.plan_mount.plan_mount_from.Statement.{statement}
+use Rattle.lilota.proofs.plan_mount.plan_mount_from.Tie as tie
+
+shortest-requires : tie.Need-shortest-requires
+shortest-requires c κs = search needs
+
+planned-report-requires : tie.Need-planned-report-requires
+planned-report-requires c κs =
+    let p = c .before .before .before .before .before .pre in
+    (p .0 .surveyed, marks-are (p .1))
+
+from-requires : tie.Need-from-requires
+from-requires c κs = search needs
+
+hand-mend-requires : tie.Need-hand-mend-requires
+hand-mend-requires c κs =
+    let c10 = c .before .before .before .before .before .before .before .before .before .before in
+    let a = c10 .args in
+    let p = c10 .pre in (
+      (p .0 .surveyed, torn-told (a .image .now) (a .s) (p .0), omega (arith, c .from .ensures .1, p .0 .led .small)),
+      marks-are (p .1),
+    )
+
+planned-mount-requires : tie.Need-planned-mount-requires
+planned-mount-requires c κs = search needs
+
+same-length : tie.Need-same-length
+same-length c = search needs
+
+same-length-2 : tie.Need-same-length-2
+same-length-2 c = search needs
+
+same-length-3 : tie.Need-same-length-3
+same-length-3 c = search needs
+
+returns : tie.Need-returns
+returns c =
+    let c7 = c .before .before .before .before .before .before .before in
+    let c8 = c7 .before in
+    let c12 = c8 .before .before .before .before in
+    let c13 = c12 .before in
+    let c18 = c13 .before .before .before .before .before in
+    let from = c8 .from .ensures in
+    rw (c .planned-mount .ensures, c13 .shortest .ensures) (
+      mount-out (c18 .pre .1) (c18 .args .first) (c12 .planned-report .ensures) (from .0) (from .1) (c7 .hand-mend .ensures),
+      tt,
+    )
+
+pub plan-mount-from-spec : {M : Type 1} → statement M
+plan-mount-from-spec =
+    tie.close
+    (tie.spec
+    shortest-requires
+    planned-report-requires
+    from-requires
+    hand-mend-requires
+    planned-mount-requires
+    same-length
+    same-length-2
+    same-length-3
+    returns)

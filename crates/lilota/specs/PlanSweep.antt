@@ -1,0 +1,84 @@
+-- A planned sweep: from the moves that were handed out to what the definition hands out.
+use Prim.Native.Nat.{ℕ, _-_, _%_, min}
+use native.Mathlib.Omega.{arith}
+use mathlib.Core.Path.{_≡_, sym, ap, ap₂, _∙_}
+use mathlib.Core.Bool.{Bool, false, not}
+use mathlib.Core.Option.{none}
+use mathlib.Core.List.{List}
+use lib.ListN.{length}
+use Rattle.spec.specs.Step.{Image, Step}
+use Rattle.spec.specs.Basics.{Answer, give, checked, concat, numbered}
+use Rattle.spec.specs.Record.{Entry}
+use Rattle.spec.specs.Chain.{Reading, reading-from}
+use Rattle.spec.specs.Sweep.{no-room, sweep-moves}
+use Rattle.spec.specs.Door.{admitted}
+use Rattle.spec.specs.Numbers.{of-sweep}
+use Rattle.spec.specs.Answers.{Plan, sweeping, sweep-of}
+use Rattle.spec.specs.Planner.{Slices, shortest, hand-out}
+use Rattle.laws.specs.Door.{admitted-gives}
+use Rattle.planning.specs.Planned.{walked}
+use Rattle.planning.specs.Walked.{sweep-as-walked}
+use Rattle.reading.specs.declared.Cursor.{Cursor}
+use Rattle.reading.specs.declared.Survey.{Survey}
+use Rattle.reading.specs.Rest.{rest}
+use Rattle.reading.specs.Read.{first-cursor, reading-of}
+use Rattle.reading.specs.RuleLaws.{count-is}
+use Rattle.reading.specs.Standing.{stands}
+use Rattle.reading.specs.Accepted.{Accepted, place-sound}
+use Rattle.window.specs.declared.Window.{Window}
+use Rattle.planner.specs.Moves.{Walkable}
+use Rattle.planner.specs.Sweep.{Moves-handed}
+use Rattle.lilota.specs.Planned.{handing, planned-out}
+
+-- the moves of a sweep, all of them
+swept-out : {s t : Slices} {w r : Window} {n : ℕ} (ms : List (List Step)) (first : ℕ) → w .first ≡ first → w .passed ≡ 0
+    → Moves-handed s w ms t n r
+    → handing (of-sweep 0 n (r .passed)) (min (shortest s) (r .passed - r .first)) t ≡ hand-out (give (sweeping ms)) first s
+swept-out {s} {t} {w} {r} {n} ms first f z h =
+    let steps : r .passed ≡ length (concat ms) = omega (arith, h .handed .count) in
+    ap₂ (λ (i k : ℕ). handing (of-sweep 0 i k) (min (shortest s) (r .passed - r .first)) t) (h .count) steps
+    ∙ planned-out (sweeping ms) first f z (h .handed)
+
+module _ (image : Image) (s : Survey) (w : Accepted image s) where
+  abbrev all : List Entry
+  all = rest image (first-cursor image (s .place .head)) .entries
+
+  -- the engine's moves are the definition's
+  walked-is : give (reading-of image s) ≡ admitted image
+      → walked (min 5 (s .tally .records)) all (s .place) all none ≡ sweep-moves image (reading-of image s)
+  walked-is e =
+      let g = admitted-gives image (reading-of image s) (sym e) in
+      ap (λ (i : ℕ). walked (min 5 i) all (s .place) all none) (count-is (w .surveyed .tallied))
+      ∙ sym (sweep-as-walked image (reading-of image s) (g .0) (g .1))
+
+  pub walkable : Walkable (length image) (s .place)
+  walkable =
+      let even = stands image (s .place .head) (w .led) .even in
+      let q : s .place .tail ≡ reading-from image (s .place .head) .place .tail = ap (λ (x : Reading). x .place .tail) (w .same) in
+      record {
+        whole = w .surveyed .place .whole;
+        sound = place-sound image s w;
+        even = ap (λ (i : ℕ). i % 8) q ∙ even;
+        eights = w .led .eights;
+      }
+
+  -- 28, or the moves
+  pub sweep-out : (t : Bool) → t ≡ no-room (reading-from image (s .place .head)) (reading-from image (s .place .head) .entries)
+      → checked (not t) (numbered 28) (give (sweeping (sweep-moves image (reading-of image s)))) ≡ sweep-of image (reading-of image s)
+  unfolding sweep-of
+  sweep-out t e =
+      ap (λ (b : Bool). checked (not b) (numbered 28) (give (sweeping (sweep-moves image (reading-of image s)))))
+      (e ∙ ap (λ (x : Reading). no-room x (x .entries)) (sym (w .same)))
+
+  -- the moves that were handed out, as the definition hands them out
+  pub moves-out : {a b : Slices} {v r : Window} {n k : ℕ} {c : Cursor} (first : ℕ) → give (reading-of image s) ≡ admitted image
+      → false ≡ no-room (reading-from image (s .place .head)) (reading-from image (s .place .head) .entries)
+      → k ≡ min 5 (s .tally .records) → c ≡ first-cursor image (s .place .head) → v .first ≡ first → v .passed ≡ 0
+      → Moves-handed a v (walked k (rest image c .entries) (s .place) (rest image c .entries) none) b n r
+      → handing (of-sweep 0 n (r .passed)) (min (shortest a) (r .passed - r .first)) b ≡
+      hand-out (sweep-of image (reading-of image s)) first a
+  moves-out {a} first e room most start f z h =
+      let same = ap₂ (λ (i : ℕ) (d : Cursor). walked i (rest image d .entries) (s .place) (rest image d .entries) none) most start in
+      swept-out _ first f z h
+      ∙ ap (λ (ms : List (List Step)). hand-out (give (sweeping ms)) first a) (same ∙ walked-is e)
+      ∙ ap (λ (x : Answer Plan). hand-out x first a) (sweep-out false room)

@@ -1,0 +1,9 @@
+pub mod Close
+pub mod Place
+pub mod Walk
+pub mod Copy
+pub mod Moves
+pub mod Sweep
+pub mod Repairs
+pub mod Superseded
+pub mod Mount

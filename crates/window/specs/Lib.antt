@@ -1,0 +1,5 @@
+pub mod Handed
+pub mod Bytes
+pub mod Build
+pub mod File
+pub mod Windows
