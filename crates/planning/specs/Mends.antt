@@ -221,17 +221,6 @@ module _ (im : Image) (r : Reading) (n : good-length (length im) ≡ true) (e : 
       ap (λ (w : Work). w .reading) all
       ∙ ap (λ (us : List Entry). record { place = r-2 .place; entries = us; ending = Ending.Tail }) (dropped-is es es)
 
-  -- so mount's plan: its steps, h, T and the count of live files
-  pub mount-as-planned : mount-of im r
-      ≡ give (record {
-        steps = planned-mend im r;
-        moves = [];
-        done = of-mount 0 (report-of (mended-reading r)) (length (planned-mend im r));
-      })
-  mount-as-planned =
-      ap₂ (λ (ss : List Step) (s : Reading). give (record { steps = ss; moves = []; done = of-mount 0 (report-of s) (length ss) }))
-      mended-as-planned mended-reads-planned
-
   -- the image after these steps, of the same length, on which that is read on from the head in it
   pub mended-image : mended im r .image ≡ run im (mended im r .steps)
   mended-image =

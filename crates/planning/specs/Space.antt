@@ -19,7 +19,8 @@ use Rattle.spec.specs.Record.{Entry, size}
 use Rattle.spec.specs.Next.{next}
 use Rattle.spec.specs.Chain.{Reading, read, from-head, reading-from}
 use Rattle.spec.specs.Files.{live, files}
-use Rattle.spec.specs.Space.{Space, sizes, live-bytes, others, marker-of, marker-bytes, dead-bytes, free-bytes, behind-marker, lost-bytes, space-by, space-of}
+use Rattle.spec.specs.declared.Space.{Space}
+use Rattle.spec.specs.Space.{sizes, live-bytes, others, marker-of, marker-bytes, dead-bytes, free-bytes, behind-marker, lost-bytes, space-by, space-of}
 use Rattle.laws.specs.Lists.{keep-yes, keep-no}
 use Rattle.laws.specs.Fits.{Fits, allowed-fits}
 use Rattle.planning.specs.Row.{stretch-length, Row, row-none, row-more, row-end}

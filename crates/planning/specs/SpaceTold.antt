@@ -16,7 +16,8 @@ use Rattle.spec.specs.Files.{live}
 use Rattle.spec.specs.Reading.{reading}
 use Rattle.spec.specs.Sweep.{sweep-moves}
 use Rattle.spec.specs.Door.{settled-reading}
-use Rattle.spec.specs.Space.{Space, sizes, live-bytes, others, marker-bytes, free-bytes, lost-bytes}
+use Rattle.spec.specs.declared.Space.{Space}
+use Rattle.spec.specs.Space.{sizes, live-bytes, others, marker-bytes, free-bytes, lost-bytes}
 use Rattle.laws.specs.Length.{good}
 use Rattle.planning.specs.Planned.{mended-reading}
 use Rattle.planning.specs.Known.{accepted-known}

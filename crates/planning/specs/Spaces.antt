@@ -21,18 +21,20 @@ use Rattle.spec.specs.Move.{Work, begin, after, move}
 use Rattle.spec.specs.Mount.{mended}
 use Rattle.spec.specs.Sweep.{no-room, stuck, moves, sweep-moves}
 use Rattle.spec.specs.Door.{accepted, admitted, admitted-named, settled-reading}
-use Rattle.spec.specs.Answers.{Plan, doing, mount-of, mount-plan, put-into, put-plan, sweeping, sweep-of, sweep-plan}
-use Rattle.spec.specs.Space.{Space, space-by, space-of, space-left, put-work, swept, Telling, mount, put, sweep, left-by}
+use Rattle.spec.specs.Numbers.{of-mount}
+use Rattle.spec.specs.Answers.{Plan, report-of, mount-work, mount-of, mount-plan, putting, put-into, put-plan, sweeping, sweep-of, sweep-plan}
+use Rattle.spec.specs.declared.Space.{Space}
+use Rattle.spec.specs.Space.{space-by, space-of, space-left, put-work, swept, sweep-work}
 use Rattle.laws.specs.Length.{Good, good}
-use Rattle.laws.specs.Answer.{gave, passed}
+use Rattle.laws.specs.Answer.{gave, passed, given-is}
 use Rattle.laws.specs.Door.{settled-gives, accepted-gives, admitted-gives, named-gives}
 use Rattle.laws.specs.Steps.{run-append}
-use Rattle.planning.specs.Planned.{move-steps, moved-reading, mended-reading}
+use Rattle.planning.specs.Planned.{move-steps, moved-reading, planned-mend, mended-reading}
 use Rattle.planning.specs.Reads.{Reads}
 use Rattle.planning.specs.Places.{copied-head}
 use Rattle.planning.specs.Rested.{Rested, rested-reading, settled-rested}
 use Rattle.planning.specs.Moves.{Move, moved}
-use Rattle.planning.specs.Mends.{mended-reads-planned, mended-image, mended-left}
+use Rattle.planning.specs.Mends.{mended-as-planned, mended-reads-planned, mended-image, mended-left}
 use Rattle.planning.specs.Puts.{put-left, put-length, put-rested}
 use Rattle.planning.specs.Space.{total, marker-told, space-told, space-sum}
 
@@ -42,6 +44,12 @@ use Rattle.planning.specs.Space.{total, marker-told, space-told, space-s
 unfoldable pub swept-reading : ℕ → Reading → Reading
 swept-reading zero r = r
 swept-reading (suc k) r = elim (stuck r) [ true ↦ r | false ↦ swept-reading k (moved-reading r) ]
+
+-- the calls that give the record back
+pub data Telling : Type 0 where
+  mount : Telling
+  put : List ℕ → List ℕ → Telling
+  sweep : Telling
 
 abbrev pub left-reading : Telling → Reading → Reading
 left-reading mount r = mended-reading r
@@ -55,13 +63,14 @@ space-read r = space-by r (marker-told r)
 -- ---- one work
 
 -- the work w on the image im left this reading
-record Leaves (im : Image) (ss : List Step) (r : Reading) (w : Work) : Type 0 where
-  image : w .image ≡ run im ss
-  told : space-left w ≡ space-read r
-  sum : total (space-left w) ≡ length im
+pub record Leaves (im : Image) (ss : List Step) (r : Reading) (w : Work) : Type 0 where
+  pub image : w .image ≡ run im ss
+  pub told : space-left w ≡ space-read r
+  pub sum : total (space-left w) ≡ length im
 
 rested-leaves : {im : Image} {ss : List Step} {r : Reading} {w : Work} → length (run im ss) ≡ length im → Rested (run im ss) r
     → w .image ≡ run im ss → w .reading .place .head ≡ r .place .head → Leaves im ss r w
+unfolding space-left
 rested-leaves {im} {ss} {r} {w} len v i h =
     let at : space-left w ≡ space-of (run im ss) (r .place .head) = ap₂ space-of i h in
     let inside : r .place .head ≤ length (run im ss) = omega (arith, v .inside) in
@@ -73,9 +82,9 @@ rested-leaves {im} {ss} {r} {w} len v i h =
 
 -- ---- mount
 
-mount-leaves : (im : Image) (r : Reading) (n : good-length (length im) ≡ true) (e : reading im ≡ give r)
+pub mount-leaves : (im : Image) (r : Reading) (n : good-length (length im) ≡ true) (e : reading im ≡ give r)
     → Leaves im (mended im r .steps) (mended-reading r) (mended im r)
-unfolding mended-reading
+unfolding mended-reading space-left
 mount-leaves im r n e =
     let left = mended-left im r n e in
     let is : mended im r .reading ≡ mended-reading r = mended-reads-planned im r n e in
@@ -87,6 +96,20 @@ mount-leaves im r n e =
       sum = space-sum inside (left .2) tail ∙ left .0;
     }
 
+-- so mount's plan, from the first reading: its steps, h, T, the count of live files and the record
+pub mount-as-planned : (im : Image) (r : Reading) → good-length (length im) ≡ true → reading im ≡ give r
+    → mount-of im r
+    ≡ give (record {
+      steps = planned-mend im r;
+      moves = [];
+      done = of-mount 0 (report-of (mended-reading r)) (space-read (mended-reading r)) (length (planned-mend im r));
+    })
+mount-as-planned im r n e =
+    let ss = mended-as-planned im r n e in
+    let is = mended-reads-planned im r n e in
+    let told = mount-leaves im r n e .told in
+    λ i. give (record { steps = ss i; moves = []; done = of-mount 0 (report-of (is i)) (told i) (length (ss i)) })
+
 -- ---- put
 
 -- a phase that keeps the head
@@ -96,7 +119,7 @@ unfolding after
 after-left w [] h a b = (refl, a)
 after-left w (s ∷ ss) h a b = (refl, b)
 
-put-leaves : (im : Image) (r : Reading) (name content : List ℕ) → Good (length im) → Rested im r → name-ok name ≡ true
+pub put-leaves : (im : Image) (r : Reading) (name content : List ℕ) → Good (length im) → Rested im r → name-ok name ≡ true
     → room (r .place) name (size-of (length name) (length content)) (r .entries) ≡ true
     → Leaves im (put-steps (r .place) (file-named name (r .entries)) name content) (put-left name content r) (put-work name content im r)
 put-leaves im r name content g w n f =
@@ -142,7 +165,7 @@ sweeps (suc k) im r g w = go _ refl (sweeps k) where
       (subst (λ (v : Work). Swept im (v .steps ∷ moves k (v .image) (v .reading)) (swept-reading k (moved-reading r)) (swept k (v .image) (v .reading)))
       (sym (m .is)) all)
 
-sweep-leaves : (im : Image) (r : Reading) → Good (length im) → Rested im r
+pub sweep-leaves : (im : Image) (r : Reading) → Good (length im) → Rested im r
     → Leaves im (concat (sweep-moves im r)) (left-reading sweep r) (swept (min 5 (length (r .entries))) im r)
 sweep-leaves im r g w =
     let s = sweeps (min 5 (length (r .entries))) im r g w in
@@ -155,19 +178,20 @@ plan-of mount im = mount-plan im
 plan-of (put name content) im = put-plan name content im
 plan-of sweep im = sweep-plan im
 
--- of a call with the plan p: what it leaves is the image after its steps, the first reading tells the four numbers there, and they sum to N
+-- of a call with the plan p: the record that it gives back is that of the image after its steps, the first reading tells it, and it sums to N
 pub record Tells (c : Telling) (im : Image) (p : Plan) : Type 0 where
   pub work : Work
-  pub leaves : left-by c im ≡ give work
   pub image : work .image ≡ run im (p .steps)
+  pub record-of : p .done .space ≡ space-left work
   pub first : Reading
   pub reads : reading im ≡ give first
-  pub told : space-left work ≡ space-read (left-reading c first)
-  pub sum : total (space-left work) ≡ length im
+  pub told : p .done .space ≡ space-read (left-reading c first)
+  pub sum : total (p .done .space) ≡ length im
 
-tells-by : (c : Telling) (im : Image) (p : Plan) (r : Reading) (w : Work) → left-by c im ≡ give w → reading im ≡ give r
+tells-by : (c : Telling) (im : Image) (p : Plan) (r : Reading) (w : Work) → reading im ≡ give r → p .done .space ≡ space-left w
     → Leaves im (p .steps) (left-reading c r) w → Tells c im p
-tells-by c im p r w l e v = record { work = w; leaves = l; image = v .image; first = r; reads = e; told = v .told; sum = v .sum }
+tells-by c im p r w e q v =
+    record { work = w; image = v .image; record-of = q; first = r; reads = e; told = q ∙ v .told; sum = ap total q ∙ v .sum }
 
 -- THE theorem: "on the image mount leaves they sum to N", on every image that mount accepts; and on what put and sweep leave
 pub tells : (c : Telling) (im : Image) (p : Plan) → plan-of c im ≡ give p → Tells c im p
@@ -177,33 +201,25 @@ tells mount im p e =
     let r : Reading = a .value in
     let b = accepted-gives im r (a .from) in
     let q : mount-of im r ≡ give p = a .on in
-    let is : mended im r .steps ≡ p .steps = cc in
-    tells-by mount im p r (mended im r) (ap (λ (x : Answer Reading). onward x (λ r. give (mended im r))) (a .from)) (b .1)
-    (subst (λ (ss : List Step). Leaves im ss (mended-reading r) (mended im r)) is (mount-leaves im r (b .0) (b .1)))
+    let is : mount-work (mended im r) ≡ p = given-is q in
+    tells-by mount im p r (mended im r) (b .1) (ap (λ (z : Plan). z .done .space) (sym is))
+    (subst (λ (z : Plan). Leaves im (z .steps) (mended-reading r) (mended im r)) is (mount-leaves im r (b .0) (b .1)))
 tells (put name content) im p e =
-    let a = gave (admitted-named name im) (put-into name content) p e in
+    let a = gave (admitted-named name im) (put-into name content im) p e in
     let r : Reading = a .value in
-    let ss : List Step = put-steps (r .place) (file-named name (r .entries)) name content in
+    let w : Work = put-work name content im r in
     let given : Bool = room (r .place) name (size-of (length name) (length content)) (r .entries) in
-    let put-leaving : Reading → Answer Work =
-    λ r. checked (room (r .place) name (size-of (length name) (length content)) (r .entries)) (numbered 28) (give (put-work name content im r)) in
     let b = named-gives im r name (a .from) in
-    let d = passed given (numbered 28) (doing ss) p (a .on) in
-    tells-by (put name content) im p r (put-work name content im r)
-    (ap (λ (x : Answer Reading). onward x put-leaving) (a .from) ∙ ap (λ (t : Bool). checked t (numbered 28) (give (put-work name content im r))) (d .0))
-    (settled-gives im r (b .2) .0)
-    (subst (λ (us : List Step). Leaves im us (put-left name content r) (put-work name content im r)) (ap (λ (z : Plan). z .steps) (d .1))
+    let d = passed given (numbered 28) (putting name content im r) p (a .on) in
+    tells-by (put name content) im p r w (settled-gives im r (b .2) .0) (ap (λ (z : Plan). z .done .space) (sym (d .1)))
+    (subst (λ (z : Plan). Leaves im (z .steps) (put-left name content r) w) (d .1)
     (put-leaves im r name content (good (length im) (b .0)) (settled-rested im r (b .2)) (b .1) (d .0)))
 tells sweep im p e =
     let a = gave (admitted im) (sweep-of im) p e in
     let r : Reading = a .value in
-    let w : Work = swept (min 5 (length (r .entries))) im r in
-    let sweep-leaving : Reading → Answer Work =
-    λ r. checked (not (no-room r (r .entries))) (numbered 28) (give (swept (min 5 (length (r .entries))) im r)) in
+    let w : Work = sweep-work im r in
     let b = admitted-gives im r (a .from) in
-    let d = passed (not (no-room r (r .entries))) (numbered 28) (sweeping (sweep-moves im r)) p (a .on) in
-    tells-by sweep im p r w
-    (ap (λ (x : Answer Reading). onward x sweep-leaving) (a .from) ∙ ap (λ (t : Bool). checked t (numbered 28) (give w)) (d .0))
-    (settled-gives im r (b .1) .0)
-    (subst (λ (us : List Step). Leaves im us (left-reading sweep r) w) (ap (λ (z : Plan). z .steps) (d .1))
+    let d = passed (not (no-room r (r .entries))) (numbered 28) (sweeping im r) p (a .on) in
+    tells-by sweep im p r w (settled-gives im r (b .1) .0) (ap (λ (z : Plan). z .done .space) (sym (d .1)))
+    (subst (λ (z : Plan). Leaves im (z .steps) (left-reading sweep r) w) (d .1)
     (sweep-leaves im r (good (length im) (b .0)) (settled-rested im r (b .1))))

@@ -3,24 +3,19 @@
 use Rattle.spec.specs.Prelude.{ℕ, zero, suc, _+_, _-_, min, true, false, not, Option, none, some, List, [], _∷_, length, eqb}
 use Rattle.spec.specs.declared.Next.{Next}
 use Rattle.spec.specs.declared.Place.{Place}
+use Rattle.spec.specs.declared.Space.{Space}
 use Rattle.spec.specs.Step.{Image}
-use Rattle.spec.specs.Basics.{Answer, give, numbered, checked, onward, keep}
+use Rattle.spec.specs.Basics.{keep}
 use Rattle.spec.specs.Geometry.{floor}
-use Rattle.spec.specs.Record.{size-of, Entry, size}
+use Rattle.spec.specs.Record.{Entry, size}
 use Rattle.spec.specs.Chain.{Chain, from-head, Reading, reading-from}
 use Rattle.spec.specs.Files.{live, files, file-named}
-use Rattle.spec.specs.Place.{room}
 use Rattle.spec.specs.Write.{put-steps}
 use Rattle.spec.specs.Move.{Work, begin, after, move}
-use Rattle.spec.specs.Mount.{mended}
-use Rattle.spec.specs.Sweep.{no-room, stuck}
-use Rattle.spec.specs.Door.{accepted, admitted, admitted-named}
+use Rattle.spec.specs.Sweep.{stuck}
 
-pub record Space : Type 0 where
-  pub live : ℕ
-  pub dead : ℕ
-  pub free : ℕ
-  pub lost : ℕ
+abbrev pub no-space : Space
+no-space = record { live = 0; dead = 0; free = 0; lost = 0 }
 
 -- ---- what is counted
 
@@ -90,7 +85,7 @@ space-of image h = space-by (reading-from image h) (marker-of h (from-head image
 
 -- ---- "on the image mount leaves"; "Sweep and put return the same record on success, for the image they leave"
 
-abbrev pub space-left : Work → Space
+unfoldable pub space-left : Work → Space
 space-left w = space-of (w .image) (w .reading .place .head)
 
 -- put's work: its steps, in one phase
@@ -103,17 +98,6 @@ unfoldable pub swept : ℕ → Image → Reading → Work
 swept zero image r = begin image r
 swept (suc k) image r = elim (stuck r) [ true ↦ begin image r | false ↦ let w = move (begin image r) in swept k (w .image) (w .reading) ]
 
--- the calls that give the record back
-pub data Telling : Type 0 where
-  mount : Telling
-  put : List ℕ → List ℕ → Telling
-  sweep : Telling
-
--- what each leaves "on success", or its refusal: the plans of the calls have these tests
-abbrev pub left-by : Telling → Image → Answer Work
-left-by mount image = onward (accepted image) (λ r. give (mended image r))
-left-by (put name content) image =
-    onward (admitted-named name image)
-    (λ r. checked (room (r .place) name (size-of (length name) (length content)) (r .entries)) (numbered 28) (give (put-work name content image r)))
-left-by sweep image =
-    onward (admitted image) (λ r. checked (not (no-room r (r .entries))) (numbered 28) (give (swept (min 5 (length (r .entries))) image r)))
+-- what a sweep leaves
+abbrev pub sweep-work : Image → Reading → Work
+sweep-work image r = swept (min 5 (length (r .entries))) image r
