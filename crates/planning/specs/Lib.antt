@@ -60,4 +60,5 @@ pub mod LedMarkers
 pub mod CallMarkers
 pub mod SweepCounts
 pub mod PutCounts
-pub mod SpaceTold
+pub mod Walls
+pub mod Strides

@@ -63,7 +63,7 @@ good-name n h =
     )
 
 -- with room the record fits
-room-fits : (p : Place) (name : List ℕ) (s : ℕ) (es : List Entry) → room p name s es ≡ true → fits p s ≡ true
+pub room-fits : (p : Place) (name : List ℕ) (s : ℕ) (es : List Entry) → room p name s es ≡ true → fits p s ≡ true
 unfolding room fits-all
 room-fits p name s es h = go (fits p s) refl where
   go : (t : Bool) → fits p s ≡ t → fits p s ≡ true

@@ -14,6 +14,7 @@ pub mod room;
 mod rules;
 pub mod scan;
 mod skip;
+pub mod space;
 
 use spec::Ending;
 use spec::Place;
@@ -66,6 +67,12 @@ pub enum Item {
 pub enum Nearby {
     Record { spot: Spot, next: Cursor },
     Other,
+}
+
+// The sizes of the live records, and of the records that stand before the turn.
+pub struct Sums {
+    pub live: usize,
+    pub upper: usize,
 }
 
 // What is looked for among the files.
