@@ -11,4 +11,6 @@ pub mod Sweep
 pub mod Repairs
 pub mod Superseded
 pub mod Mount
+pub mod Space
+pub mod Strides
 pub mod Windows

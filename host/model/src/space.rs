@@ -1,13 +1,10 @@
 //! Request K3: "live bytes (sizes of live records), dead bytes (other chain records, plus
 //! 8 for a wrap marker), free bytes (the free run) and lost bytes (head's sector below the
 //! head, plus what lies after a wrap marker up to N)".
-use crate::calls::{accepted, read};
 use crate::chain::{read_chain, Chain};
-use crate::flash::carry_out;
+use crate::flash::{carry_out, Step};
 use crate::geometry::*;
 use crate::plan::{planned, Ask};
-use crate::repair::mount_steps;
-use crate::sweep::sweep_steps;
 
 #[derive(Clone, Copy, PartialEq, Eq, Debug, Default)]
 pub struct Space {
@@ -36,36 +33,19 @@ pub fn space(c: &Chain, n: u64) -> Space {
     }
 }
 
-/// The chain of the image that a call leaves at answer 0, on from the head that it left,
-/// with the number of its steps; or its refusal.
-fn left(img: &[u8], ask: Ask) -> Result<(u64, Chain), u32> {
-    match ask {
-        Ask::Mount => {
-            accepted(img, None)?;
-            let (steps, c) = mount_steps(img)?;
-            Ok((steps.len() as u64, c))
-        }
-        Ask::Put(name, _) => {
-            let steps = planned(img, ask)?.steps;
-            let mut after = img.to_vec();
-            carry_out(&mut after, &steps, u64::MAX);
-            let c = read_chain(&after, read(img, Some(name))?.head).expect("a put leaves a legal chain");
-            Ok((steps.len() as u64, c))
-        }
-        Ask::Sweep => {
-            let sweep = sweep_steps(img, read(img, None)?).ok_or(28u32)?;
-            Ok((sweep.steps.len() as u64, sweep.left))
-        }
-        Ask::Format | Ask::Remove(_) => unreachable!("this call gives no such record"),
-    }
+/// Of the image that these steps leave, on from this head.
+pub(crate) fn space_after(img: &[u8], steps: &[Step], head: u64) -> Space {
+    let mut after = img.to_vec();
+    carry_out(&mut after, steps, u64::MAX);
+    read_chain(&after, head).map_or(Space::default(), |c| space(&c, img.len() as u64))
 }
 
 /// The record that mount, put or sweep gives back on this image: "on success .. on the
 /// image mount leaves"; "sweep and put return the same record on success, for the image
 /// they leave". "On a refusal or a cut they are zero."
 pub fn space_told(img: &[u8], ask: Ask, allowance: u64) -> Space {
-    match left(img, ask) {
-        Ok((steps, c)) if steps <= allowance => space(&c, img.len() as u64),
+    match planned(img, ask) {
+        Ok(plan) if plan.steps.len() as u64 <= allowance => plan.done.space,
         _ => Space::default(),
     }
 }
