@@ -43,13 +43,16 @@ static void load(void)
 static void boot(const char *story)
 {
     size_t head = 0, tail = 0, files = 0, steps = 0;
+    struct lilota_space space;
     uint32_t answer;
     printf("%s\n", story);
-    answer = lilota_mount(image, LENGTH, SIZE_MAX, &head, &tail, &files, &steps);
+    answer = lilota_mount(image, LENGTH, SIZE_MAX, &head, &tail, &files, &space, &steps);
     if (told("  mount", answer) != LILOTA_DONE)
         return;
     printf("  %u steps, head %u, tail %u, %u files\n", (unsigned)steps, (unsigned)head, (unsigned)tail,
            (unsigned)files);
+    printf("  bytes: %u live, %u dead, %u free, %u lost\n", (unsigned)space.live, (unsigned)space.dead,
+           (unsigned)space.free, (unsigned)space.lost);
     load();
 }
 
@@ -57,9 +60,10 @@ static void boot(const char *story)
 static void put_until(uint8_t first, size_t allowance)
 {
     uint8_t table[3] = {0, 2, 3};
+    struct lilota_space space;
     size_t steps = 0;
     table[0] = first;
-    lilota_put(image, LENGTH, NAME, NAME_LENGTH, table, sizeof table, allowance, &steps);
+    lilota_put(image, LENGTH, NAME, NAME_LENGTH, table, sizeof table, allowance, &space, &steps);
 }
 
 int main(void)

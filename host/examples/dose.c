@@ -19,8 +19,9 @@ static int told(const char *call, uint32_t answer, size_t steps)
 
 static int write_table(const char *call, const uint8_t *table, size_t size)
 {
+    struct lilota_space space;
     size_t steps = 0;
-    uint32_t answer = lilota_put(image, LENGTH, NAME, NAME_LENGTH, table, size, SIZE_MAX, &steps);
+    uint32_t answer = lilota_put(image, LENGTH, NAME, NAME_LENGTH, table, size, SIZE_MAX, &space, &steps);
     return told(call, answer, steps);
 }
 

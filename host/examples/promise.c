@@ -51,13 +51,15 @@ static int load(const char *path, uint8_t *image)
 
 static uint32_t put_new(uint8_t *image, size_t allowance, size_t *steps)
 {
-    return lilota_put(image, LENGTH, NAME, NAME_LENGTH, NEW, SIZE, allowance, steps);
+    struct lilota_space space;
+    return lilota_put(image, LENGTH, NAME, NAME_LENGTH, NEW, SIZE, allowance, &space, steps);
 }
 
 static uint32_t recover(uint8_t *image, size_t allowance, size_t *steps)
 {
     size_t head = 0, tail = 0, files = 0;
-    return lilota_mount(image, LENGTH, allowance, &head, &tail, &files, steps);
+    struct lilota_space space;
+    return lilota_mount(image, LENGTH, allowance, &head, &tail, &files, &space, steps);
 }
 
 /* Which table the pump loads from this image; none before a whole mount. */
@@ -187,10 +189,11 @@ int main(int count, char **words)
     static uint8_t image[LENGTH];
     size_t steps = 0, allowance;
     uint32_t put = LILOTA_CUT;
+    struct lilota_space space;
     if (count != 2)
         return 2;
     lilota_format(image, LENGTH, SIZE_MAX, &steps);
-    lilota_put(image, LENGTH, NAME, NAME_LENGTH, OLD, SIZE, SIZE_MAX, &steps);
+    lilota_put(image, LENGTH, NAME, NAME_LENGTH, OLD, SIZE, SIZE_MAX, &space, &steps);
     printf("cut   put  mount    its  the pump        inside the next step:                 inside mount's steps:\n");
     printf(" at  says   says  steps  loads           byte      values  loads               values  loads\n");
     for (allowance = 0; put == LILOTA_CUT; allowance++)

@@ -6,7 +6,7 @@
 mod plans;
 
 use model::faults::{self, Fault};
-use model::Reply;
+use model::{Reply, Space};
 use std::panic::{catch_unwind, AssertUnwindSafe};
 use std::sync::OnceLock;
 
@@ -28,6 +28,19 @@ fn run(call: impl FnOnce() -> Reply) -> Reply {
         None => call(),
     };
     catch_unwind(AssertUnwindSafe(seeded)).unwrap_or(Reply::refusal(TRIPPED))
+}
+
+/// `struct lilota_space`.
+#[repr(C)]
+pub struct Bytewise {
+    live: usize,
+    dead: usize,
+    free: usize,
+    lost: usize,
+}
+
+fn bytewise(s: Space) -> Bytewise {
+    Bytewise { live: s.live as usize, dead: s.dead as usize, free: s.free as usize, lost: s.lost as usize }
 }
 
 /// # Safety
@@ -69,12 +82,14 @@ pub unsafe extern "C" fn lilota_mount(
     head: *mut usize,
     tail: *mut usize,
     files: *mut usize,
+    space: *mut Bytewise,
     steps: *mut usize,
 ) -> u32 {
     let reply = run(|| model::mount(slice_mut(image, length), allowance as u64));
     *head = reply.report.head as usize;
     *tail = reply.report.tail as usize;
     *files = reply.report.files as usize;
+    *space = bytewise(reply.space);
     *steps = reply.steps as usize;
     reply.answer
 }
@@ -90,10 +105,12 @@ pub unsafe extern "C" fn lilota_put(
     content: *const u8,
     content_length: usize,
     allowance: usize,
+    space: *mut Bytewise,
     steps: *mut usize,
 ) -> u32 {
     let (name, content) = (slice(name, name_length), slice(content, content_length));
     let reply = run(|| model::put(slice_mut(image, length), name, content, allowance as u64));
+    *space = bytewise(reply.space);
     *steps = reply.steps as usize;
     reply.answer
 }
@@ -157,10 +174,12 @@ pub unsafe extern "C" fn lilota_sweep(
     length: usize,
     allowance: usize,
     moves: *mut usize,
+    space: *mut Bytewise,
     steps: *mut usize,
 ) -> u32 {
     let reply = run(|| model::sweep(slice_mut(image, length), allowance as u64));
     *moves = reply.moves as usize;
+    *space = bytewise(reply.space);
     *steps = reply.steps as usize;
     reply.answer
 }

@@ -1,7 +1,7 @@
 //! The seven calls as C functions: the signatures of include/lilota.h, and a
 //! store that calls them.
 use crate::call::{Call, Store};
-use model::{Extent, Reply, Report};
+use model::{Extent, Reply, Report, Space};
 use std::cell::Cell;
 use std::ptr;
 
@@ -9,16 +9,36 @@ type Image = *mut u8;
 type Bytes = *const u8;
 type Number = *mut usize;
 
+/// `struct lilota_space`.
+#[repr(C)]
+#[derive(Clone, Copy)]
+pub struct Bytewise {
+    pub live: usize,
+    pub dead: usize,
+    pub free: usize,
+    pub lost: usize,
+}
+
+impl Bytewise {
+    /// Stands there before a call.
+    pub const UNWRITTEN: Bytewise = Bytewise { live: UNWRITTEN, dead: UNWRITTEN, free: UNWRITTEN, lost: UNWRITTEN };
+
+    pub fn space(self) -> Space {
+        let Bytewise { live, dead, free, lost } = self;
+        Space { live: live as u64, dead: dead as u64, free: free as u64, lost: lost as u64 }
+    }
+}
+
 /// The functions of a library.
 #[derive(Clone, Copy)]
 pub struct Functions {
     pub format: unsafe extern "C" fn(Image, usize, usize, Number) -> u32,
-    pub mount: unsafe extern "C" fn(Image, usize, usize, Number, Number, Number, Number) -> u32,
-    pub put: unsafe extern "C" fn(Image, usize, Bytes, usize, Bytes, usize, usize, Number) -> u32,
+    pub mount: unsafe extern "C" fn(Image, usize, usize, Number, Number, Number, *mut Bytewise, Number) -> u32,
+    pub put: unsafe extern "C" fn(Image, usize, Bytes, usize, Bytes, usize, usize, *mut Bytewise, Number) -> u32,
     pub get: unsafe extern "C" fn(Bytes, usize, Bytes, usize, Number, Number) -> u32,
     pub list: unsafe extern "C" fn(Bytes, usize, usize, Number, Number, Number) -> u32,
     pub remove: unsafe extern "C" fn(Image, usize, Bytes, usize, usize, Number) -> u32,
-    pub sweep: unsafe extern "C" fn(Image, usize, usize, Number, Number) -> u32,
+    pub sweep: unsafe extern "C" fn(Image, usize, usize, Number, *mut Bytewise, Number) -> u32,
 }
 
 /// Stands in the numbers before a call: one that the call leaves is seen.
@@ -58,21 +78,21 @@ impl Library {
         let at = if self.goes_as_null(img) { ptr::null_mut() } else { img.as_mut_ptr() };
         let n = img.len();
         let mut out = Numbers::UNWRITTEN;
-        let Numbers { head, tail, files, moves, offset, length, size, steps } = &mut out;
+        let Numbers { head, tail, files, moves, offset, length, size, space, steps } = &mut out;
         // Safety: each pointer comes with the length of the slice that it is of,
         // or is null with length 0; the numbers are different ones.
         let answer = unsafe {
             match call {
                 Call::Format(k) => (f.format)(at, n, *k as usize, steps),
-                Call::Mount(k) => (f.mount)(at, n, *k as usize, head, tail, files, steps),
+                Call::Mount(k) => (f.mount)(at, n, *k as usize, head, tail, files, space, steps),
                 Call::Put(name, data, k) => {
                     let (name_at, data_at) = (self.pointer(name), self.pointer(data));
-                    (f.put)(at, n, name_at, name.len(), data_at, data.len(), *k as usize, steps)
+                    (f.put)(at, n, name_at, name.len(), data_at, data.len(), *k as usize, space, steps)
                 }
                 Call::Get(name) => (f.get)(at, n, self.pointer(name), name.len(), offset, length),
                 Call::List(index) => (f.list)(at, n, *index as usize, offset, length, size),
                 Call::Remove(name, k) => (f.remove)(at, n, self.pointer(name), name.len(), *k as usize, steps),
-                Call::Sweep(k) => (f.sweep)(at, n, *k as usize, moves, steps),
+                Call::Sweep(k) => (f.sweep)(at, n, *k as usize, moves, space, steps),
             }
         };
         out.reply(call, answer)
@@ -100,6 +120,7 @@ struct Numbers {
     offset: usize,
     length: usize,
     size: usize,
+    space: Bytewise,
     steps: usize,
 }
 
@@ -112,6 +133,7 @@ impl Numbers {
         offset: UNWRITTEN,
         length: UNWRITTEN,
         size: UNWRITTEN,
+        space: Bytewise::UNWRITTEN,
         steps: UNWRITTEN,
     };
 
@@ -120,13 +142,14 @@ impl Numbers {
         let report = Report { head: self.head as u64, tail: self.tail as u64, files: self.files as u64 };
         let extent = Extent { offset: self.offset as u64, length: self.length as u64 };
         let (moves, size, steps) = (self.moves as u64, self.size as u64, self.steps as u64);
-        let zeros = Reply::refusal(answer);
+        let (space, zeros) = (self.space.space(), Reply::refusal(answer));
         match call {
-            Call::Format(_) | Call::Put(..) | Call::Remove(..) => Reply { steps, ..zeros },
-            Call::Mount(_) => Reply { report, steps, ..zeros },
+            Call::Format(_) | Call::Remove(..) => Reply { steps, ..zeros },
+            Call::Put(..) => Reply { space, steps, ..zeros },
+            Call::Mount(_) => Reply { report, space, steps, ..zeros },
             Call::Get(_) => Reply { extent, ..zeros },
             Call::List(_) => Reply { extent, size, ..zeros },
-            Call::Sweep(_) => Reply { moves, steps, ..zeros },
+            Call::Sweep(_) => Reply { moves, space, steps, ..zeros },
         }
     }
 }
@@ -154,6 +177,7 @@ macro_rules! c_library {
                 head: *mut usize,
                 tail: *mut usize,
                 files: *mut usize,
+                space: *mut $crate::c_calls::Bytewise,
                 steps: *mut usize,
             ) -> u32;
             pub fn $put(
@@ -164,6 +188,7 @@ macro_rules! c_library {
                 content: *const u8,
                 content_length: usize,
                 allowance: usize,
+                space: *mut $crate::c_calls::Bytewise,
                 steps: *mut usize,
             ) -> u32;
             pub fn $get(
@@ -190,8 +215,14 @@ macro_rules! c_library {
                 allowance: usize,
                 steps: *mut usize,
             ) -> u32;
-            pub fn $sweep(image: *mut u8, length: usize, allowance: usize, moves: *mut usize, steps: *mut usize)
-                -> u32;
+            pub fn $sweep(
+                image: *mut u8,
+                length: usize,
+                allowance: usize,
+                moves: *mut usize,
+                space: *mut $crate::c_calls::Bytewise,
+                steps: *mut usize,
+            ) -> u32;
         }
 
         pub fn functions() -> $crate::c_calls::Functions {
