@@ -73,6 +73,10 @@ module _ {S A : Type 0} (f : S → Run → A) (image : List ℕ) (start : Cursor
   pub fold-start : Cursor-sound image start → Folded f image start s₀ start s₀
   fold-start h = record { sound = h; same = refl }
 
+  -- from c on to d
+  pub fold-both : {c d : Cursor} {s t : S} → Folded f image start s₀ c s → Folded f image c s d t → Folded f image start s₀ d t
+  fold-both w v = record { sound = v .sound; same = w .same ∙ v .same }
+
   module _ (c : Cursor) (s : S) (w : Folded f image start s₀ c s) where
     pub fold-end : (r : Item) → r ≡ advance image c → Not-record r → f s (done r) ≡ f s₀ (rest image start)
     fold-end r e z = sym (w .same ∙ ap (f s) (rest-done image c r e z))

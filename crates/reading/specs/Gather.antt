@@ -11,7 +11,7 @@ use Rattle.reading.specs.declared.Item.{Item}
 use Rattle.reading.specs.declared.Tally.{Tally}
 use Rattle.reading.specs.declared.Repeats.{Repeats}
 use Rattle.reading.specs.declared.Gathered.{Gathered}
-use Rattle.reading.specs.declared.Found.{Found}
+use Rattle.reading.specs.declared.Sight.{Sight}
 use Rattle.reading.specs.Cursor.{Cursor-sound, advance}
 use Rattle.reading.specs.Rest.{rest, entry-of}
 use Rattle.reading.specs.Fold.{Passes, Not-record}
@@ -24,18 +24,18 @@ use Rattle.reading.specs.FileLaws.{is-file}
 use Rattle.reading.specs.Repeats.{repeats-of}
 use Rattle.reading.specs.Prefix.{Gone, gone-none, gone-all, gone-more, front, front-and, front-more}
 use Rattle.reading.specs.Held.{Carried, carried-none, carried-same}
-use Rattle.reading.specs.Sought.{has-hash, found-or, Sought, sought-more, sought-none}
+use Rattle.reading.specs.Sought.{has-hash, not-seen, found-of, seen-or, Sought, sought-more, sought-none}
 
 abbrev pub nothing-yet : Cursor → Gathered
 nothing-yet c =
-    record { cursor = c; tally = none-yet; repeats = record { doubled = false; superseded = false }; found = Found.Nothing }
+    record { cursor = c; tally = none-yet; repeats = record { doubled = false; superseded = false }; sight = not-seen }
 
 -- of the records before g's cursor; wanted is the hash
 pub record Gathering (image : List ℕ) (start : Cursor) (wanted : ℕ) (g : Gathered) (table : List ℕ) : Type 0 where
   pub passing : Passing image start (g .cursor) (g .tally)
   pub gone : Gone image start (g .cursor) (g .tally .records)
   pub carried : Carried (front image start (g .tally .records)) (g .repeats) table
-  pub sought : Sought image wanted (front image start (g .tally .records)) (g .found)
+  pub sought : Sought image wanted (front image start (g .tally .records)) (found-of (g .sight))
 
 -- the same, and e stands at g's cursor, before next
 pub record Noting (image : List ℕ) (start : Cursor) (wanted : ℕ) (e : Spot) (next : Cursor) (g : Gathered) (table : List ℕ) : Type 0 where
@@ -60,8 +60,8 @@ module _ {image : List ℕ} {start : Cursor} {wanted : ℕ} where
     pub gathered-repeats : g .repeats ≡ repeats-of (rest image start .entries)
     gathered-repeats = w .carried .right ∙ ap repeats-of (gone-all (w .gone) r e z)
 
-    pub gathered-found : Sought image wanted (rest image start .entries) (g .found)
-    gathered-found = subst (λ (es : List Entry). Sought image wanted es (g .found)) (gone-all (w .gone) r e z) (w .sought)
+    pub gathered-found : Sought image wanted (rest image start .entries) (found-of (g .sight))
+    gathered-found = subst (λ (es : List Entry). Sought image wanted es (found-of (g .sight))) (gone-all (w .gone) r e z) (w .sought)
 
   -- one record more
   module _ {e : Spot} {c : Cursor} {g : Gathered} {table : List ℕ} (w : Noting image start wanted e c g table) where
@@ -71,9 +71,9 @@ module _ {image : List ℕ} {start : Cursor} {wanted : ℕ} where
     abbrev x : Entry
     x = entry-of image e
 
-    pub gathering-next : {u : Tally} {m : Repeats} {f : Found} {after : List ℕ} → u ≡ noted t x
-        → Carried (front-and image start (t .records) e) m after → f ≡ found-or (is-file x && has-hash wanted x) (g .found) e
-        → Gathering image start wanted (record { cursor = c; tally = u; repeats = m; found = f }) after
+    pub gathering-next : {u : Tally} {m : Repeats} {f : Sight} {after : List ℕ} → u ≡ noted t x
+        → Carried (front-and image start (t .records) e) m after → f ≡ seen-or (is-file x && has-hash wanted x) (g .sight) e
+        → Gathering image start wanted (record { cursor = c; tally = u; repeats = m; sight = f }) after
     gathering-next {u} {m} {f} {after} q h o =
         let k : t .records + 1 ≡ u .records = sym (ap (λ (y : Tally). y .records) q ∙ noted-records t x) in
         let l : front image start (t .records + 1) ≡ front-and image start (t .records) e = front-more (w .state .gone) (w .passes) in
@@ -81,7 +81,9 @@ module _ {image : List ℕ} {start : Cursor} {wanted : ℕ} where
           passing = passing-step (w .state .passing) (w .passes) q;
           gone = subst (λ (i : ℕ). Gone image start c i) k (gone-more (w .state .gone) (w .passes));
           carried = subst (λ (i : ℕ). Carried (front image start i) m after) k (rw l h);
-          sought = subst (λ (i : ℕ). Sought image wanted (front image start i) f) k (rw (l, o) (sought-more e (w .passes .whole) (w .state .sought)));
+          sought =
+              subst (λ (i : ℕ). Sought image wanted (front image start i) (found-of f)) k
+              (rw (l, o) (sought-more e (w .passes .whole) (g .sight) (w .state .sought)));
         }
 
     -- a plain one behind the second, a file or not
@@ -95,15 +97,15 @@ module _ {image : List ℕ} {start : Cursor} {wanted : ℕ} where
       same {fine} {files} q f g =
           q ∙ noted-plain-is t e files fine (c .pending) (w .passes .whole) two plain f g (w .passes .onward .pending)
 
-      pub gathering-file : {ok fine : Bool} {m : Repeats} {f : Found} {after : List ℕ} → is-file x ≡ true
+      pub gathering-file : {ok fine : Bool} {m : Repeats} {f : Sight} {after : List ℕ} → is-file x ≡ true
           → u ≡ noted-plain t e (t .files + 1) fine (c .pending) → fine ≡ (t .fine && ok) → ok ≡ name-ok (name-of x)
-          → Carried (front-and image start (t .records) e) m after → f ≡ found-or (has-hash wanted x) (g .found) e
-          → Gathering image start wanted (record { cursor = c; tally = u; repeats = m; found = f }) after × (2 ≤ u .records)
+          → Carried (front-and image start (t .records) e) m after → f ≡ seen-or (has-hash wanted x) (g .sight) e
+          → Gathering image start wanted (record { cursor = c; tally = u; repeats = m; sight = f }) after × (2 ≤ u .records)
       unfolding name-fine
       gathering-file y q a o h b = (gathering-next (same q (rw y) (rw (name-fine, y, ← o) a)) h (rw y b), more q)
 
       pub gathering-dead : is-file x ≡ false → u ≡ noted-plain t e (t .files) (t .fine) (c .pending)
-          → Gathering image start wanted (record { cursor = c; tally = u; repeats = g .repeats; found = g .found }) table
+          → Gathering image start wanted (record { cursor = c; tally = u; repeats = g .repeats; sight = g .sight }) table
           × (2 ≤ u .records)
       unfolding name-fine
       gathering-dead y q =

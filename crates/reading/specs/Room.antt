@@ -1,6 +1,7 @@
 -- Put's room rule as a fold over the files that stay: the sizes of those that begin in the head's sector are placed one after another,
 -- and the largest of all sizes is kept.
-use Prim.Native.Nat.{ℕ, _<_, max}
+use Prim.Native.Nat.{ℕ, _≤_, _<_, max}
+use native.Mathlib.Omega.{arith}
 use mathlib.Core.Path.{_≡_, refl, sym, ap, ap₂, _∙_}
 use mathlib.Core.Bool.{Bool, true, false}
 use mathlib.Core.List.{List, [], _∷_, _++_, map}
@@ -104,6 +105,40 @@ stow-by p name image e m s w q h g =
     ap (λ (k : ℕ). with-size (in-head-sector p (e .at)) k m)
     (q ∙ sym (ap₂ size-of (name-length-is image e w) (content-length-is image e w)))
     ∙ stow-other p name (entry-of image e) m h g
+
+-- ---- a record outside the head's sector: only the largest size may move
+
+-- the largest so far, with the size of a record; f: it is a file, n: of the name that is put
+abbrev pub larger : Bool → Bool → ℕ → ℕ → ℕ
+larger false n s l = l
+larger true true s l = l
+larger true false s l = max l s
+
+pub larger-not : (f n : Bool) (s l : ℕ) → s ≤ l → l ≡ larger f n s l
+larger-not false n s l h = refl
+larger-not true true s l h = refl
+larger-not true false s l h = omega arith
+
+module _ (p : Place) (name : List ℕ) (x : Entry) (m : Stowed) (far : begins-there p x ≡ false) where
+  stow-far : record { placed = m .placed; largest = larger (is-file x) (has-name name x) (size x) (m .largest) }
+      ≡ stow-files p m (others name (x ∷ []))
+  stow-far = go (is-file x) (has-name name x) refl refl where
+    go : (f n : Bool) → is-file x ≡ f → has-name name x ≡ n
+        → record { placed = m .placed; largest = larger f n (size x) (m .largest) } ≡ stow-files p m (others name (x ∷ []))
+    go false n h g = stow-no-file p name x m h
+    go true true h g = stow-replaced p name x m h g
+    go true false h g = size-compared m (size x) _ (begins-there p x) refl far ∙ stow-other p name x m h g
+
+pub stow-past : (p : Place) (name image : List ℕ) (e : Spot) (m : Stowed) (s k : ℕ) → Whole image e → s ≡ size-of (e .n) (e .d)
+    → in-head-sector p (e .at) ≡ false
+    → k ≡ larger (is-file (entry-of image e)) (has-name name (entry-of image e)) s (m .largest)
+    → record { placed = m .placed; largest = k } ≡ stow-files p m (others name (entry-of image e ∷ []))
+stow-past p name image e m s k w q far h =
+    let x = entry-of image e in
+    let z : s ≡ size x = q ∙ sym (ap₂ size-of (name-length-is image e w) (content-length-is image e w)) in
+    ap (λ (l : ℕ). record { placed = m .placed; largest = l })
+    (h ∙ ap (λ (i : ℕ). larger (is-file x) (has-name name x) i (m .largest)) z)
+    ∙ stow-far p name x m far
 
 -- ---- the loop
 

@@ -1,6 +1,6 @@
 -- The first file whose name has a hash: what the pass of a judgement keeps for a call that asks for a name, and what it tells of the name.
 use Prim.Native.Nat.{ℕ}
-use mathlib.Core.Path.{_≡_, refl, sym, ap, _∙_}
+use mathlib.Core.Path.{_≡_, refl, sym, ap, subst, _∙_}
 use mathlib.Core.Bool.{Bool, true, false, _&&_}
 use mathlib.Core.Option.{Option, none, some}
 use mathlib.Core.List.{List, [], _∷_, _++_}
@@ -13,6 +13,7 @@ use Rattle.laws.specs.Tests.{wrong}
 use Rattle.laws.specs.Lists.{same-is, keep-yes, keep-no, first-yes, first-no}
 use Rattle.reading.specs.declared.Spot.{Spot}
 use Rattle.reading.specs.declared.Found.{Found}
+use Rattle.reading.specs.declared.Sight.{Sight}
 use Rattle.reading.specs.Rest.{entry-of}
 use Rattle.reading.specs.Fold.{Whole}
 use Rattle.reading.specs.FileLaws.{is-file}
@@ -25,11 +26,23 @@ hash-of e = hash-from 0 (name-of e)
 abbrev pub has-hash : ℕ → Entry → Bool
 has-hash h e = eqb (hash-of e) h
 
--- what is found; or e, where it is the first that fits
-abbrev pub found-or : Bool → Found → Spot → Found
-found-or false f e = f
-found-or true (Found.At x) e = Found.At x
-found-or true Found.Nothing e = Found.At e
+abbrev pub not-seen : Sight
+not-seen = record { seen = 0; spot = record { at = 0; n = 0; d = 0 } }
+
+abbrev pub found-at : Bool → Spot → Found
+found-at true e = Found.Nothing
+found-at false e = Found.At e
+
+abbrev pub found-of : Sight → Found
+found-of f = found-at (eqb (f .seen) 0) (f .spot)
+
+abbrev pub seen-by : Bool → Sight → Spot → Sight
+seen-by true f e = record { seen = 1; spot = e }
+seen-by false f e = f
+
+-- what was seen; or e, where it is the first that fits
+abbrev pub seen-or : Bool → Sight → Spot → Sight
+seen-or fits f e = seen-by (fits && eqb (f .seen) 0) f e
 
 -- f is the first file among es whose name has this hash
 pub record Sought (image : List ℕ) (wanted : ℕ) (es : List Entry) (f : Found) : Type 0 where
@@ -70,25 +83,32 @@ module _ (p q : Entry → Bool) (e : Entry) where
         ∙ sym (ap (λ (o : Option Entry). or-else (q e && p e) o e) (ap (first-such p) (keep-no q x es g)))
 
 module _ {image : List ℕ} (e : Spot) (w : Whole image e) where
-  found-is : (t : Bool) (f : Found) → found-in image (found-or t f e) ≡ or-else t (found-in image f) (entry-of image e)
-  found-is true (Found.At x) = refl
-  found-is true Found.Nothing = refl
-  found-is false f = refl
+  found-is : (t s : Bool) (f : Sight) → eqb (f .seen) 0 ≡ s
+      → found-in image (found-of (seen-or t f e)) ≡ or-else t (found-in image (found-of f)) (entry-of image e)
+  found-is true true f h =
+      ap (λ (b : Bool). found-in image (found-of (seen-by b f e))) h
+      ∙ sym (ap (λ (b : Bool). or-else true (found-in image (found-at b (f .spot))) (entry-of image e)) h)
+  found-is true false f h =
+      ap (λ (b : Bool). found-in image (found-of (seen-by b f e))) h ∙ ap (λ (b : Bool). found-in image (found-at b (f .spot))) h
+      ∙ sym (ap (λ (b : Bool). or-else true (found-in image (found-at b (f .spot))) (entry-of image e)) h)
+  found-is false s f h = refl
 
-  found-whole : (t : Bool) (f : Found) → Found-whole image f → Found-whole image (found-or t f e)
-  found-whole true (Found.At x) h = h
-  found-whole true Found.Nothing h = w
-  found-whole false f h = h
+  found-whole : (t s : Bool) (f : Sight) → eqb (f .seen) 0 ≡ s → Found-whole image (found-of f)
+      → Found-whole image (found-of (seen-or t f e))
+  found-whole true true f h g = subst (λ (b : Bool). Found-whole image (found-of (seen-by b f e))) (sym h) w
+  found-whole true false f h g = subst (λ (b : Bool). Found-whole image (found-of (seen-by b f e))) (sym h) g
+  found-whole false s f h g = g
 
-  pub sought-more : {wanted : ℕ} {es : List Entry} {f : Found} → Sought image wanted es f
-      → Sought image wanted (es ++ entry-of image e ∷ []) (found-or (is-file (entry-of image e) && has-hash wanted (entry-of image e)) f e)
-  sought-more {wanted} {es} {f} h =
+  pub sought-more : {wanted : ℕ} {es : List Entry} (f : Sight) → Sought image wanted es (found-of f)
+      → Sought image wanted (es ++ entry-of image e ∷ [])
+      (found-of (seen-or (is-file (entry-of image e) && has-hash wanted (entry-of image e)) f e))
+  sought-more {wanted} {es} f h =
       let x = entry-of image e in
       let t = is-file x && has-hash wanted x in
       record {
         first =
-            found-is t f ∙ ap (λ (o : Option Entry). or-else t o x) (h .first) ∙ sym (first-last (has-hash wanted) is-file x es);
-        whole = found-whole t f (h .whole);
+            found-is t _ f refl ∙ ap (λ (o : Option Entry). or-else t o x) (h .first) ∙ sym (first-last (has-hash wanted) is-file x es);
+        whole = found-whole t _ f refl (h .whole);
       }
 
 pub sought-none : (image : List ℕ) (wanted : ℕ) → Sought image wanted [] Found.Nothing
@@ -133,4 +153,5 @@ module _ {image : List ℕ} (name : List ℕ) {es : List Entry} where
   pub named-some : {e : Spot} → Sought image (hash-from 0 name) es (Found.At e) → has-name name (entry-of image e) ≡ true
       → some (entry-of image e) ≡ first-such (has-name name) (keep is-file es)
   named-some {e} h k =
-      sym (some-narrow (has-hash (hash-from 0 name)) (has-name name) (same-hash name) (entry-of image e) k (keep is-file es) (sym (h .first)))
+      let p = has-hash (hash-from 0 name) in
+      sym (some-narrow p (has-name name) (same-hash name) (entry-of image e) k (keep is-file es) (sym (h .first)))

@@ -4,6 +4,7 @@ use crate::Found;
 use crate::Item;
 use crate::Spot;
 use crate::chain::advance;
+use crate::skip::skip_files;
 use crate::skip::skip_others;
 use spec::Status;
 ghost use mathlib.Core.Path.{_≡_};
@@ -182,7 +183,10 @@ pub fn file_indexed(image: &[u8], start: Cursor, index: usize) -> Found
     let mut c = start;
     let mut left = index;
     loop {
-        let s = advance(image, c);
+        let o = skip_files(image, c, left);
+        let here = o.cursor;
+        left = o.left;
+        let s = advance(image, here);
         let Item::Record { spot: e, next } = s else {
             return Found::Nothing;
         };

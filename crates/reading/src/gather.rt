@@ -1,7 +1,6 @@
-// The one pass of a judgement: the tally of all records, what their names tell, and the first file of a hash. Plain records are gone over by themselves, so that the
-// compiler keeps all that is carried along in registers.
+// The one pass of a judgement: the tally of all records, what their names tell, and the first file of a hash. Plain records are gone over
+// by themselves, so that the compiler keeps most of what is carried along in registers.
 use crate::Cursor;
-use crate::Found;
 use crate::FullPass;
 use crate::Gathered;
 use crate::Item;
@@ -20,8 +19,10 @@ use crate::plain::near;
 use crate::scan::none_yet;
 use crate::scan::noted;
 use crate::scan::noted_plain;
-use crate::sought::found_or;
-use crate::sought::found_with;
+use crate::sought::found_of;
+use crate::sought::not_seen;
+use crate::sought::seen_or;
+use crate::sought::seen_with;
 ghost use mathlib.Core.Path.{_≡_};
 ghost use Prim.Native.Nat.{_≤_};
 ghost use lib.ListN.{length};
@@ -47,15 +48,15 @@ fn gather_one(
 {
     let t = g.tally;
     let n = g.repeats;
-    let f = g.found;
-    let o = found_with(image, wanted, f, e);
+    let f = g.sight;
+    let o = seen_with(image, wanted, f, e);
     let m = repeats_and(image, start, t.records, table, n, e);
     let u = noted(image, t, e, next.pending);
     Gathered {
         cursor: next,
         tally: u,
         repeats: m,
-        found: o,
+        sight: o,
     }
 }
 
@@ -76,17 +77,17 @@ fn gather_file(
 {
     let t = g.tally;
     let n = g.repeats;
-    let f = g.found;
+    let f = g.sight;
     let name = marks_of(image, e);
     let s = name.signature;
-    let o = found_or(name.hash == wanted, f, e);
+    let o = seen_or(name.hash == wanted, f, e);
     let m = repeats_signed(image, start, t.records, table, n, e, s);
     let u = noted_plain(t, e, t.files + 1, both(t.fine, name.fine), next.pending);
     Gathered {
         cursor: next,
         tally: u,
         repeats: m,
-        found: o,
+        sight: o,
     }
 }
 
@@ -100,7 +101,8 @@ fn gather_plain(
 ) -> Gathered
     requires { ⌜ Cursor-sound (now image) start × Gathering (now image) start wanted first (now table)
         × (2 ≤ first .tally .records) ⌝ }
-    ensures { λ r. ⌜ Gathering (now (image .entry)) start wanted r (now (table .exit)) × (left (r .cursor) ≤ left (first .cursor)) ⌝ }
+    ensures { λ r. ⌜ Gathering (now (image .entry)) start wanted r (now (table .exit))
+        × (left (r .cursor) ≤ left (first .cursor)) ⌝ }
 {
     let mut g = first;
     loop {
@@ -114,13 +116,13 @@ fn gather_plain(
         } else {
             let t = g.tally;
             let n = g.repeats;
-            let f = g.found;
+            let f = g.sight;
             let u = noted_plain(t, e, t.files, t.fine, next.pending);
             g = Gathered {
                 cursor: next,
                 tally: u,
                 repeats: n,
-                found: f,
+                sight: f,
             };
         }
     }
@@ -130,6 +132,7 @@ fn nothing_yet(start: Cursor) -> Gathered
     ensures { λ r. ⌜ r ≡ nothing-yet start ⌝ }
 {
     let t = none_yet();
+    let f = not_seen();
     Gathered {
         cursor: start,
         tally: t,
@@ -137,7 +140,7 @@ fn nothing_yet(start: Cursor) -> Gathered
             doubled: false,
             superseded: false,
         },
-        found: Found::Nothing,
+        sight: f,
     }
 }
 
@@ -156,11 +159,12 @@ pub fn gather(image: &[u8], start: Cursor, wanted: u64) -> FullPass
         let Item::Record { spot: e, next } = s else {
             let t = g.tally;
             let n = g.repeats;
-            let f = g.found;
+            let f = g.sight;
+            let o = found_of(f);
             return FullPass {
                 pass: Pass { tally: t, end: s },
                 repeats: n,
-                found: f,
+                found: o,
             };
         };
         g = gather_one(image, start, &mut table, g, e, next, wanted);

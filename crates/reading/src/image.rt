@@ -195,8 +195,9 @@ fn named_of(image: &[u8], name: &[u8], j: Judged) -> NamedRead
 // The same as read_settled, with the file of this name.
 pub fn read_named(image: &[u8], name: &[u8]) -> NamedRead
     requires { ⌜ Workable (now image) ⌝ }
-    ensures { λ r. ⌜ (answered (now (image .entry)) (r .read) ≡ settled-reading (now (image .entry))) × Told (now (image .entry)) (r .read)
-        × Quiet (now (image .entry)) (r .read) × Named-file (now (image .entry)) (now (name .entry)) (r .read) (r .file) ⌝ }
+    ensures { λ r. ⌜ (answered (now (image .entry)) (r .read) ≡ settled-reading (now (image .entry)))
+        × Told (now (image .entry)) (r .read) × Quiet (now (image .entry)) (r .read)
+        × Named-file (now (image .entry)) (now (name .entry)) (r .read) (r .file) ⌝ }
 {
     let x = judge_for(image, hash(name));
     match x {

@@ -135,12 +135,19 @@ pub struct Pass {
     pub end: Item,
 }
 
+// Where a file was found; seen is 0 where none was. A loop carries this and not Found, for the compiler copies an enum, and the bytes
+// beside a bool, at each turn.
+pub struct Sight {
+    pub seen: usize,
+    pub spot: Spot,
+}
+
 // What is gathered at a cursor: the tally of the records before it, what their names tell, and the first file of the hash that is wanted.
 pub struct Gathered {
     pub cursor: Cursor,
     pub tally: Tally,
     pub repeats: Repeats,
-    pub found: Found,
+    pub sight: Sight,
 }
 
 // The same of a whole chain, and how the chain ends.

@@ -2,34 +2,44 @@
 // another behind the chain.
 use crate::Cursor;
 use crate::Item;
+use crate::Nearby;
 use crate::Spot;
 use crate::Survey;
 use crate::chain::advance;
 use crate::files::has_name;
 use crate::files::is_file;
 use crate::image::first_cursor;
+use crate::plain::near;
 use record::size;
 use spec::Place;
 use spec::Placed;
 use spec::floor;
 ghost use mathlib.Core.Path.{_≡_};
 ghost use mathlib.Core.List.{[], _∷_};
-ghost use Prim.Native.Nat.{_<_, _^_, max};
+ghost use Prim.Native.Nat.{_≤_, _<_, _^_, max};
 ghost use lib.ListN.{length};
 ghost use Rattle.spec.specs.Place.{address, in-head-sector, joining};
 ghost use Rattle.spec.specs.Placed.{placed};
 ghost use Rattle.record.specs.Within.{Name-length};
-ghost use Rattle.reading.specs.Cursor.{Cursor-sound};
+ghost use Rattle.spec.specs.Files.{has-name};
+ghost use Rattle.reading.specs.Cursor.{Cursor-sound, left};
 ghost use Rattle.reading.specs.Rest.{rest, entry-of};
-ghost use Rattle.reading.specs.Fold.{Whole};
+ghost use Rattle.reading.specs.Fold.{Whole, Folded};
+ghost use Rattle.reading.specs.FileLaws.{is-file};
 ghost use Rattle.reading.specs.Read.{reading-of};
 ghost use Rattle.reading.specs.Stows.{stow, stow-all};
-ghost use Rattle.reading.specs.Room.{Unsuperseded, room-in, others, with-size, stow-files, last-fit};
+ghost use Rattle.reading.specs.Room.{Unsuperseded, room-in, others, with-size, larger, stow-files, stow-of, last-fit};
 
 // Where the last size was placed, and the largest size so far.
 struct Stowed {
     placed: Placed,
     largest: usize,
+}
+
+// That, of the records before a cursor.
+struct Farther {
+    cursor: Cursor,
+    stowed: Stowed,
 }
 
 // A further size, behind what was placed.
@@ -92,6 +102,59 @@ fn stow_record(image: &[u8], place: Place, e: Spot, name: &[u8], stowed: Stowed)
     stowed
 }
 
+// The largest size, with that of a record: it counts if the record is a file of another name. Only a larger one is looked at.
+fn larger(image: &[u8], x: Spot, name: &[u8], size: usize, largest: usize) -> usize
+    requires { ⌜ Whole (now image) x ⌝ }
+    ensures { λ r. ⌜ r
+        ≡ larger (is-file (entry-of (now (image .entry)) x)) (has-name (now (name .entry)) (entry-of (now (image .entry)) x))
+        size largest ⌝ }
+{
+    if size <= largest {
+        return largest;
+    }
+    if is_file(image, x) {
+        if has_name(image, x, name) {
+            return largest;
+        }
+        return size;
+    }
+    largest
+}
+
+fn stowed_at(cursor: Cursor, first: Stowed, largest: usize) -> Farther
+    ensures { λ r. ⌜ r ≡ record { cursor = cursor; stowed = record { placed = first .placed; largest = largest } } ⌝ }
+{
+    let placed = first.placed;
+    Farther {
+        cursor: cursor,
+        stowed: Stowed {
+            placed: placed,
+            largest: largest,
+        },
+    }
+}
+
+// Over plain records from the cursor on, up to one that begins in the head's sector: nothing is placed, only the largest size moves.
+fn stow_far(image: &[u8], start: Cursor, place: Place, name: &[u8], first: Stowed) -> Farther
+    requires { ⌜ Cursor-sound (now image) start ⌝ }
+    ensures { λ r. ⌜ Folded (stow-of place (now (name .entry))) (now (image .entry)) start first (r .cursor) (r .stowed)
+        × (left (r .cursor) ≤ left start) ⌝ }
+{
+    let mut c = start;
+    let mut largest = first.largest;
+    loop {
+        let s = near(image, c);
+        let Nearby::Record { spot: e, next } = s else {
+            return stowed_at(c, first, largest);
+        };
+        if in_head_sector(place, e.at) {
+            return stowed_at(c, first, largest);
+        }
+        largest = larger(image, e, name, size(e.n, e.d), largest);
+        c = next;
+    }
+}
+
 // All files that stay, in the order of the chain.
 fn stow_chain(image: &[u8], start: Cursor, place: Place, name: &[u8], first: Stowed) -> Stowed
     requires { ⌜ Cursor-sound (now image) start ⌝ }
@@ -100,11 +163,14 @@ fn stow_chain(image: &[u8], start: Cursor, place: Place, name: &[u8], first: Sto
     let mut c = start;
     let mut stowed = first;
     loop {
-        let s = advance(image, c);
+        let f = stow_far(image, c, place, name, stowed);
+        let d = f.cursor;
+        let x = f.stowed;
+        let s = advance(image, d);
         let Item::Record { spot: e, next } = s else {
-            return stowed;
+            return x;
         };
-        stowed = stow_record(image, place, e, name, stowed);
+        stowed = stow_record(image, place, e, name, x);
         c = next;
     }
 }

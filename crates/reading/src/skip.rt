@@ -1,4 +1,4 @@
-// A search for a name: the plain records that are no files of that name are passed over by themselves.
+// A search for a name or an index: the plain records that are not the file looked for are passed over by themselves.
 use crate::Cursor;
 use crate::Nearby;
 use crate::Skipped;
@@ -8,12 +8,14 @@ use crate::files::is_file;
 use crate::plain::near;
 ghost use mathlib.Core.Path.{_≡_};
 ghost use mathlib.Core.Bool.{_&&_};
+ghost use Prim.Native.Nat.{_≤_};
 ghost use Rattle.spec.specs.Files.{has-name};
 ghost use Rattle.spec.specs.Record.{name-of};
-ghost use Rattle.reading.specs.Cursor.{Cursor-sound};
+ghost use Rattle.reading.specs.Cursor.{Cursor-sound, left};
 ghost use Rattle.reading.specs.Rest.{entry-of};
-ghost use Rattle.reading.specs.Fold.{Whole};
+ghost use Rattle.reading.specs.Fold.{Whole, Folded};
 ghost use Rattle.reading.specs.FileLaws.{is-file};
+ghost use Rattle.reading.specs.Seek.{nth-of};
 ghost use Rattle.reading.specs.Skip.{Skips-others};
 
 // The record is a file of this name.
@@ -66,4 +68,33 @@ pub fn skip_other_names(image: &[u8], start: Cursor, e: Spot, most: usize) -> Sk
     let from = e.at + 8;
     let to = from + e.n;
     skip_others(image, start, &image[from..to], most)
+}
+
+// Past plain records and as many files among them as index says; what is left of it is given back.
+pub fn skip_files(image: &[u8], start: Cursor, index: usize) -> Skipped
+    requires { ⌜ Cursor-sound (now image) start ⌝ }
+    ensures { λ r. ⌜ Folded (nth-of is-file) (now (image .entry)) start index (r .cursor) (r .left)
+        × (left (r .cursor) ≤ left start) ⌝ }
+{
+    let mut c = start;
+    let mut more = index;
+    loop {
+        let s = near(image, c);
+        let Nearby::Record { spot: e, next } = s else {
+            return Skipped {
+                cursor: c,
+                left: more,
+            };
+        };
+        if is_file(image, e) {
+            if more == 0 {
+                return Skipped {
+                    cursor: c,
+                    left: more,
+                };
+            }
+            more -= 1;
+        }
+        c = next;
+    }
 }

@@ -1,11 +1,13 @@
 // The file of a name, found in the pass of a judgement: the pass keeps the first file whose name has the same hash.
 use crate::Cursor;
 use crate::Found;
+use crate::Sight;
 use crate::Spot;
 use crate::files::file_named;
 use crate::files::has_name;
 use crate::files::is_file;
 use crate::filter::hash;
+use crate::marks::both;
 ghost use mathlib.Core.Path.{_≡_};
 ghost use mathlib.Core.Bool.{_&&_};
 ghost use Rattle.spec.specs.Basics.{keep, first-such};
@@ -16,19 +18,50 @@ ghost use Rattle.reading.specs.Fold.{Whole};
 ghost use Rattle.reading.specs.FileLaws.{is-file};
 ghost use Rattle.reading.specs.Seek.{found-in, Found-whole};
 ghost use Rattle.reading.specs.Filter.{hash-from};
-ghost use Rattle.reading.specs.Sought.{hash-of, has-hash, found-or, Sought};
+ghost use Rattle.reading.specs.Sought.{hash-of, has-hash, not-seen, found-of, seen-or, Sought};
 
-// What is found; or e, where it is the first that fits.
-pub fn found_or(fits: bool, f: Found, e: Spot) -> Found
-    ensures { λ r. ⌜ r ≡ found-or fits f e ⌝ }
+pub fn not_seen() -> Sight
+    ensures { λ r. ⌜ r ≡ not-seen ⌝ }
 {
-    if fits {
-        return match f {
-            Found::At(x) => Found::At(x),
-            Found::Nothing => Found::At(e),
+    Sight {
+        seen: 0,
+        spot: Spot { at: 0, n: 0, d: 0 },
+    }
+}
+
+pub fn found_of(f: Sight) -> Found
+    ensures { λ r. ⌜ r ≡ found-of f ⌝ }
+{
+    let e = f.spot;
+    if f.seen == 0 {
+        return Found::Nothing;
+    }
+    Found::At(e)
+}
+
+// What was seen; or e, where it is the first that fits. Field by field, so that the compiler keeps them apart.
+pub fn seen_or(fits: bool, f: Sight, e: Spot) -> Sight
+    ensures { λ r. ⌜ r ≡ seen-or fits f e ⌝ }
+{
+    if both(fits, f.seen == 0) {
+        return Sight {
+            seen: 1,
+            spot: Spot {
+                at: e.at,
+                n: e.n,
+                d: e.d,
+            },
         };
     }
-    f
+    let x = f.spot;
+    Sight {
+        seen: f.seen,
+        spot: Spot {
+            at: x.at,
+            n: x.n,
+            d: x.d,
+        },
+    }
 }
 
 // The hash of the record's name.
@@ -52,13 +85,13 @@ fn fits(image: &[u8], wanted: u64, e: Spot) -> bool
     false
 }
 
-// What is found, with one record more.
-pub fn found_with(image: &[u8], wanted: u64, f: Found, e: Spot) -> Found
+// What was seen, with one record more.
+pub fn seen_with(image: &[u8], wanted: u64, f: Sight, e: Spot) -> Sight
     requires { ⌜ Whole (now image) e ⌝ }
     ensures { λ r. ⌜ r
-        ≡ found-or (is-file (entry-of (now (image .entry)) e) && has-hash wanted (entry-of (now (image .entry)) e)) f e ⌝ }
+        ≡ seen-or (is-file (entry-of (now (image .entry)) e) && has-hash wanted (entry-of (now (image .entry)) e)) f e ⌝ }
 {
-    found_or(fits(image, wanted, e), f, e)
+    seen_or(fits(image, wanted, e), f, e)
 }
 
 // The file of this name: f, which has the name's hash, unless the two names only share it.

@@ -8,6 +8,8 @@ use std::collections::BTreeSet;
 use std::fmt;
 use std::sync::OnceLock;
 
+const LONGEST: usize = 60;
+
 /// How names collide.
 #[derive(Clone, Copy, PartialEq, Eq, Debug)]
 pub enum Kind {
@@ -35,19 +37,17 @@ impl Kind {
         self.of_lengths(r, count, |r| if mixed { 6 + r.below(55) as usize } else { length })
     }
 
-    /// So many names with such lengths, which are at least 6; of one hash, if they were to be short.
+    /// So many names with such lengths, which are at least 6; longer ones where the short ones of a hash come again, for
+    /// of six bytes a hash has some 160 names.
     pub fn of_lengths(self, r: &mut Rng, count: usize, length: impl Fn(&mut Rng) -> usize) -> Vec<Vec<u8>> {
         let mut names: Vec<Vec<u8>> = Vec::new();
         let mut known = BTreeSet::new();
         for hash in self.hashes(r, count) {
-            // of one hash there are many names
-            let mut next = || {
-                let length = length(r);
-                with_hash(r, length, hash)
-            };
-            let mut name = next();
+            let mut bytes = length(r);
+            let mut name = with_hash(r, bytes, hash);
             while !known.insert(name.clone()) {
-                name = next();
+                bytes = LONGEST.min(bytes + 1);
+                name = with_hash(r, bytes, hash);
             }
             names.push(name);
         }

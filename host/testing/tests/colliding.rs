@@ -35,6 +35,15 @@ fn names_of_one_hash() {
     }
 }
 
+/// A hash has fewer names of six bytes: the others are longer.
+#[test]
+fn more_names_than_a_hash_has_short_ones() {
+    let names = Kind::Hash.of_lengths(&mut Rng::new(1), 400, |_| 6);
+    assert_eq!(names.iter().collect::<BTreeSet<_>>().len(), 400);
+    assert!(names.iter().all(|name| good_name(name) && hash(name) == hash(&names[0])));
+    assert!((1..300).contains(&names.iter().filter(|name| name.len() == 6).count()));
+}
+
 /// All bits of a name are set by two others, neither of which does it alone.
 #[test]
 fn names_covered_by_two() {

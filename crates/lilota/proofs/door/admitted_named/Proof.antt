@@ -20,7 +20,9 @@ name-ok-requires c κs = search needs
 
 read-named-requires : tie.Need-read-named-requires
 read-named-requires c κs =
-    let g = good (length (c .before .before .before .before .before .before .args .image .now)) (flag (c .before .before .before .good-length .ensures) (c .before .before .if1 .taken)) in
+    let c2 = c .before .before in
+    let n = length (c2 .before .before .before .before .args .image .now) in
+    let g = good n (flag (c2 .before .good-length .ensures) (c2 .if1 .taken)) in
     omega (arith, g .two, g .most)
 
 returns : tie.Need-returns

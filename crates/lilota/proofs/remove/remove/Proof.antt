@@ -31,9 +31,10 @@ returns c =
     let s = a .image .now in
     let n = a .name .now in
     let d = c6 .admitted-named in
-    let x = c .before .before .before .before .enum-told .given in (
+    let x = c .before .before .before .before .enum-told .given in
+    let w = (rw (x .1) at (d .ensures .1)) .0 in (
       c .before .before .remove-from .ensures .0
-          ∙ done-with s (x .0 .0) ((rw (x .1) at (d .ensures .1)) .0) (d .result .file) (a .allowance) n removing (rw (x .1) at (d .ensures .2))
+          ∙ done-with s (x .0 .0) w (d .result .file) (a .allowance) n removing (rw (x .1) at (d .ensures .2))
           ∙ let-in s (a .allowance) (reading-of s (x .0 .0)) (file-of n removing) (sym (ap (answered s) (x .1)) ∙ d .ensures .0)
           ∙ remove-is s (a .allowance) n,
       c .before .before .remove-from .ensures .1,

@@ -1,6 +1,7 @@
 -- file_indexed: `left` files are still to be passed among the rest.
+use native.Mathlib.Omega.{arith}
 use Rattle.laws.specs.Flag.{flag}
-use Rattle.reading.specs.Fold.{passes, Folded, fold-start}
+use Rattle.reading.specs.Fold.{passes, Folded, fold-start, fold-both}
 use Rattle.reading.specs.FileLaws.{is-file}
 use Rattle.reading.specs.Seek.{nth-of, nth-over, nth-found, nth-onward, nth-skip}
 use Rattle.reading.proofs.Others.{other-step}
@@ -18,52 +19,57 @@ abbrev μ-loop : tie.MeasureT-loop
 loop-holds : tie.Need-loop-holds Inv-loop μ-loop
 loop-holds c = fold-start _ _ _ _ (c .before .pre)
 
+skip-files-requires : tie.Need-skip-files-requires Inv-loop μ-loop
+skip-files-requires c κs = c .loop .inv .sound
+
 advance-requires : tie.Need-advance-requires Inv-loop μ-loop
-advance-requires c κs = c .loop .inv .sound
+advance-requires c κs = c .before .skip-files .ensures .0 .sound
 
 enum-known-s : tie.Need-enum-known-s Inv-loop μ-loop
 enum-known-s c = c .match .keys1
 
 returns : tie.Need-returns Inv-loop μ-loop
-returns c = (
-  nth-over is-file (c .before .before .loop .inv) (c .before .advance .result) (c .before .advance .ensures .0)
-      (other-step (c .before .advance .result) (c .match .keys2)),
-  tt,
-)
+returns c =
+    let c3 = c .before .before .before in let adv = c .before .advance in
+    let w = fold-both _ _ _ _ (c3 .before .loop .inv) (c3 .skip-files .ensures .0) in
+    (nth-over is-file w (adv .result) (adv .ensures .0) (other-step (adv .result) (c .match .keys2)), tt)
 
 is-file-requires : tie.Need-is-file-requires Inv-loop μ-loop
 is-file-requires c κs = passes (c .before .before .before .advance .ensures) (c .before .s .given .1) .whole
 
 returns-2 : tie.Need-returns-2 Inv-loop μ-loop
 returns-2 c =
-    let c4 = c .before .before .before .before in let c6 = c4 .before .before in let c7 = c6 .before in
+    let c4 = c .before .before .before .before in let c6 = c4 .before .before in let c8 = c6 .before .before in
+    let w = fold-both _ _ _ _ (c8 .before .loop .inv) (c8 .skip-files .ensures .0) in
     let t = passes (c6 .advance .ensures) (c4 .s .given .1) in
-    (nth-found is-file (c7 .loop .inv) t (flag (c .before .before .is-file .ensures) (c .before .if1 .taken)) (c .if2 .taken), t .whole)
+    (nth-found is-file w t (flag (c .before .before .is-file .ensures) (c .before .if1 .taken)) (c .if2 .taken), t .whole)
 
 sub-left : tie.Need-sub-left Inv-loop μ-loop
 sub-left c = search needs
 
 loop-less : tie.Need-loop-less Inv-loop μ-loop
 loop-less c =
-    let c4 = c .before .before .before .before in
-    passes (c4 .before .before .advance .ensures) (c4 .s .given .1) .onward .less
+    let c4 = c .before .before .before .before in let c6 = c4 .before .before in
+    omega (arith, passes (c6 .advance .ensures) (c4 .s .given .1) .onward .less, c6 .before .before .skip-files .ensures .1)
 
 loop-again : tie.Need-loop-again Inv-loop μ-loop
 loop-again c =
-    let c4 = c .before .before .before .before in let c6 = c4 .before .before in let c7 = c6 .before in
+    let c4 = c .before .before .before .before in let c6 = c4 .before .before in let c8 = c6 .before .before in
+    let w = fold-both _ _ _ _ (c8 .before .loop .inv) (c8 .skip-files .ensures .0) in
     let t = passes (c6 .advance .ensures) (c4 .s .given .1) in
-    nth-onward is-file (c7 .loop .inv) t (flag (c .before .before .is-file .ensures) (c .before .if1 .taken)) (c .if2 .left)
+    nth-onward is-file w t (flag (c .before .before .is-file .ensures) (c .before .if1 .taken)) (c .if2 .left)
 
 loop-less-2 : tie.Need-loop-less-2 Inv-loop μ-loop
 loop-less-2 c =
-    let c3 = c .before .before .before in
-    passes (c3 .before .before .advance .ensures) (c3 .s .given .1) .onward .less
+    let c3 = c .before .before .before in let c5 = c3 .before .before in
+    omega (arith, passes (c5 .advance .ensures) (c3 .s .given .1) .onward .less, c5 .before .before .skip-files .ensures .1)
 
 loop-again-2 : tie.Need-loop-again-2 Inv-loop μ-loop
 loop-again-2 c =
-    let c3 = c .before .before .before in let c5 = c3 .before .before in let c6 = c5 .before in
+    let c3 = c .before .before .before in let c5 = c3 .before .before in let c7 = c5 .before .before in
+    let w = fold-both _ _ _ _ (c7 .before .loop .inv) (c7 .skip-files .ensures .0) in
     let t = passes (c5 .advance .ensures) (c3 .s .given .1) in
-    nth-skip is-file (c6 .loop .inv) t (flag (c .before .is-file .ensures) (c .if1 .left))
+    nth-skip is-file w t (flag (c .before .is-file .ensures) (c .if1 .left))
 
 pub file-indexed-spec : {M : Type 1} → statement M
 file-indexed-spec =
@@ -72,6 +78,7 @@ file-indexed-spec =
     Inv-loop
     μ-loop
     loop-holds
+    skip-files-requires
     advance-requires
     enum-known-s
     returns

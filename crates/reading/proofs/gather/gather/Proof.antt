@@ -30,16 +30,19 @@ advance-requires c κs = c .before .loop .inv .gone .sound
 enum-known-s : tie.Need-enum-known-s Inv-loop μ-loop
 enum-known-s c = c .match .keys1
 
+found-of-requires : tie.Need-found-of-requires Inv-loop μ-loop
+found-of-requires c κs = search needs
+
 returns : tie.Need-returns Inv-loop μ-loop
 returns c =
-    let c2 = c .before .before in let adv = c2 .before .advance in
-    let inv = c2 .before .before .before .loop .inv in
-    let z = other-step (adv .result) (c2 .match .keys2) in (
+    let c4 = c .before .before .before .before in let adv = c4 .before .advance in
+    let inv = c4 .before .before .before .loop .inv in
+    let z = other-step (adv .result) (c4 .match .keys2) in (
       fold-end passed _ _ none-yet _ _ (inv .passing .fold) (adv .result) (adv .ensures .0) z,
       inv .passing .spots,
       end-inside _ _ (adv .result) (adv .ensures .1),
       gathered-repeats (adv .result) inv (adv .ensures .0) z,
-      gathered-found (adv .result) inv (adv .ensures .0) z,
+      rw (c .found-of .ensures) (gathered-found (adv .result) inv (adv .ensures .0) z),
     )
 
 gather-one-requires : tie.Need-gather-one-requires Inv-loop μ-loop
@@ -81,6 +84,7 @@ gather-spec =
     loop-holds
     advance-requires
     enum-known-s
+    found-of-requires
     returns
     gather-one-requires
     gather-plain-requires

@@ -5,12 +5,12 @@ use borrow.Author.Needs.{needs}
 use Rattle.reading.proofs.gather.gather_one.Statement.{statement}
 use Rattle.reading.proofs.gather.gather_one.Tie as tie
 
-found-with-requires : tie.Need-found-with-requires
-found-with-requires c κs = c .before .before .before .pre .1 .passes .whole
+seen-with-requires : tie.Need-seen-with-requires
+seen-with-requires c κs = c .before .before .before .before .pre .1 .passes .whole
 
 repeats-and-requires : tie.Need-repeats-and-requires
 repeats-and-requires c κs =
-    let p = c .before .before .before .before .before .pre in
+    let p = c .before .before .before .before .before .before .pre in
     (p .0, p .1 .passes .whole, p .1 .state .carried)
 
 noted-requires : tie.Need-noted-requires
@@ -19,8 +19,8 @@ noted-requires c κs = search needs
 returns : tie.Need-returns
 returns c =
     let c3 = c .before .before .before in
-    let start = c3 .before .before .before .before in
-    (gathering-next (start .pre .1) (c .noted .ensures) (c .before .repeats-and .ensures) (c3 .found-with .ensures), refl)
+    let start = c3 .before .before .before .before .before in
+    (gathering-next (start .pre .1) (c .noted .ensures) (c .before .repeats-and .ensures) (c3 .seen-with .ensures), refl)
 
 pub gather-one-spec : {M : Type 1} → statement M
-gather-one-spec = tie.close (tie.spec found-with-requires repeats-and-requires noted-requires returns)
+gather-one-spec = tie.close (tie.spec seen-with-requires repeats-and-requires noted-requires returns)

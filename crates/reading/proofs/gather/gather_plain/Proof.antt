@@ -64,22 +64,22 @@ loop-again c =
 
 noted-plain-requires : tie.Need-noted-plain-requires Inv-loop μ-loop
 noted-plain-requires c κs =
-    let inv = c .before .before .before .before .before .before .before .before .before .loop .inv in
+    let inv = c .before .before .before .before .before .before .before .before .before .before .loop .inv in
     omega (arith, inv .1 .passing .few, inv .0 .inside, inv .0 .room, inv .0 .small)
 
 loop-less-2 : tie.Need-loop-less-2 Inv-loop μ-loop
 loop-less-2 c =
-    let c6 = c .before .before .before .before .before .before in
-    (rw (c6 .s .given .1) at (c6 .before .before .near .ensures)) .0 .onward .less
+    let c7 = c .before .before .before .before .before .before .before in
+    (rw (c7 .s .given .1) at (c7 .before .before .near .ensures)) .0 .onward .less
 
 loop-again-2 : tie.Need-loop-again-2 Inv-loop μ-loop
 loop-again-2 c =
-    let c3 = c .before .before .before in let c6 = c3 .before .before .before in let c8 = c6 .before .before in
-    let inv = c8 .before .before .loop .inv in
-    let w = rw (c6 .s .given .1) at (c8 .near .ensures) in
+    let c4 = c .before .before .before .before in let c7 = c4 .before .before .before in let c9 = c7 .before .before in
+    let inv = c9 .before .before .loop .inv in
+    let w = rw (c7 .s .given .1) at (c9 .near .ensures) in
     let g =
     gathering-dead (record { state = inv .1; passes = w .0 }) (inv .2) (w .1)
-    (flag (c3 .before .is-file .ensures) (c3 .if1 .left)) (c .noted-plain .ensures) in
+    (flag (c4 .before .is-file .ensures) (c4 .if1 .left)) (c .noted-plain .ensures) in
     (inv .0, g .0, g .1, omega (arith, inv .3, w .0 .onward .less))
 
 pub gather-plain-spec : {M : Type 1} → statement M

@@ -1,5 +1,6 @@
 -- What all files make of the first state is what the rest makes of the state so far.
-use Rattle.reading.specs.Fold.{passes, Folded, fold-start}
+use native.Mathlib.Omega.{arith}
+use Rattle.reading.specs.Fold.{passes, Folded, fold-start, fold-both}
 use Rattle.reading.specs.Room.{stow-of, stow-over, stow-onward}
 use Rattle.reading.proofs.Others.{other-step}
 use Rattle.reading.specs.Cursor.{left}
@@ -15,34 +16,36 @@ abbrev μ-loop : tie.MeasureT-loop
 loop-holds : tie.Need-loop-holds Inv-loop μ-loop
 loop-holds c = fold-start _ _ _ _ (c .before .before .pre)
 
+stow-far-requires : tie.Need-stow-far-requires Inv-loop μ-loop
+stow-far-requires c κs = c .loop .inv .sound
+
 advance-requires : tie.Need-advance-requires Inv-loop μ-loop
-advance-requires c κs = c .loop .inv .sound
+advance-requires c κs = c .before .before .stow-far .ensures .0 .sound
 
 enum-known-s : tie.Need-enum-known-s Inv-loop μ-loop
 enum-known-s c = c .match .keys1
 
 returns : tie.Need-returns Inv-loop μ-loop
 returns c =
-    stow-over _ _ (c .before .before .loop .inv) (c .before .advance .result) (c .before .advance .ensures .0)
-    (other-step (c .before .advance .result) (c .match .keys2))
+    let c4 = c .before .before .before .before in let adv = c .before .advance in
+    let w = fold-both _ _ _ _ (c4 .before .loop .inv) (c4 .stow-far .ensures .0) in
+    stow-over _ _ w (adv .result) (adv .ensures .0) (other-step (adv .result) (c .match .keys2))
 
 stow-record-requires : tie.Need-stow-record-requires Inv-loop μ-loop
 stow-record-requires c κs =
-    let c3 = c .before .before .before in
-    let t = passes (c3 .advance .ensures) (c .before .s .given .1) in
+    let t = passes (c .before .before .before .advance .ensures) (c .before .s .given .1) in
     (t .whole, t .onward .name, t .onward .data-len)
 
 loop-less : tie.Need-loop-less Inv-loop μ-loop
 loop-less c =
-    let c2 = c .before .before in let c4 = c2 .before .before in
-    let t = passes (c4 .advance .ensures) (c2 .s .given .1) in
-    t .onward .less
+    let t = passes (c .before .before .before .before .advance .ensures) (c .before .before .s .given .1) in
+    omega (arith, t .onward .less, c .before .before .before .before .before .before .before .stow-far .ensures .1)
 
 loop-again : tie.Need-loop-again Inv-loop μ-loop
 loop-again c =
-    let c2 = c .before .before in let c4 = c2 .before .before in let c5 = c4 .before in
-    let t = passes (c4 .advance .ensures) (c2 .s .given .1) in
-    stow-onward _ _ (c5 .loop .inv) t _ (c .stow-record .ensures)
+    let c7 = c .before .before .before .before .before .before .before in
+    let t = passes (c .before .before .before .before .advance .ensures) (c .before .before .s .given .1) in
+    stow-onward _ _ (fold-both _ _ _ _ (c7 .before .loop .inv) (c7 .stow-far .ensures .0)) t _ (c .stow-record .ensures)
 
 pub stow-chain-spec : {M : Type 1} → statement M
 stow-chain-spec =
@@ -51,6 +54,7 @@ stow-chain-spec =
     Inv-loop
     μ-loop
     loop-holds
+    stow-far-requires
     advance-requires
     enum-known-s
     returns
