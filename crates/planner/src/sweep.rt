@@ -168,7 +168,12 @@ fn hand_live(
     ensures { λ r. ⌜ Live-handed (now (image .entry)) x past place copy (slices (now (kinds .entry)) (now (addresses .entry)) (now (bytes .entry))) w
         (slices (now (kinds .exit)) (now (addresses .exit)) (now (bytes .exit))) r ⌝ }
 {
-    let Placed::At { at, place: next, .. } = place.after(size(x.n, x.d)) else {
+    let Placed::At {
+        at,
+        place: next,
+        ..
+    } = place.after(size(x.n, x.d))
+    else {
         return Moved::Stop;
     };
     let a = hand_copy(image, kinds, addresses, bytes, x, place, w);
@@ -203,7 +208,11 @@ fn hand_move(
     let cursor = v.cursor;
     let place = v.place;
     let copy = v.copy;
-    let Item::Record { spot: x, next: past } = advance(image, cursor) else {
+    let Item::Record {
+        spot: x,
+        next: past,
+    } = advance(image, cursor)
+    else {
         return Moved::Stop;
     };
     if is_live(image, start, x) {

@@ -18,13 +18,15 @@ plan-put-from-requires : tie.Need-plan-put-from-requires
 plan-put-from-requires c κs =
     let c4 = c .before .before .before .before in
     let c6 = c4 .before .before in
-    rw (c4 .x .given .1) at (c6 .admitted-named .ensures .1)
+    let read = c6 .admitted-named .ensures in
+    let a = rw (c4 .x .given .1) at (read .1) in
+    (a .0, a .1, sym (ap (answered _) (c4 .x .given .1)) ∙ read .0)
 
 enum-known-x-2 : tie.Need-enum-known-x-2
 enum-known-x-2 c = search needs
 
-refused-write-requires : tie.Need-refused-write-requires
-refused-write-requires c κs = search needs
+refused-put-requires : tie.Need-refused-put-requires
+refused-put-requires c κs = search needs
 
 same-length : tie.Need-same-length
 same-length c = search needs
@@ -45,7 +47,7 @@ returns c =
     let s = slices (a .kinds .now) (a .addresses .now) (a .bytes .now) in
     let i = a .image .now in (
       c6 .plan-put-from .ensures .0
-          ∙ let-out (reading-of i (c11 .x .given .0 .0)) (a .first) s (put-into (a .name .now) (a .content .now))
+          ∙ let-out (reading-of i (c11 .x .given .0 .0)) (a .first) s (put-into (a .name .now) (a .content .now) i)
           (sym (ap (answered i) (c11 .x .given .1)) ∙ c13 .admitted-named .ensures .0)
           ∙ put-planned i (a .first) s (a .name .now) (a .content .now),
       c6 .plan-put-from .ensures .1,
@@ -60,8 +62,8 @@ returns-2 c =
     let a = c11 .args in
     let s = slices (a .kinds .now) (a .addresses .now) (a .bytes .now) in
     let i = a .image .now in
-    rw (c .refused-write .ensures) (
-      shut-out _ (a .first) s (put-into (a .name .now) (a .content .now)) (sym (ap (answered i) (c2 .x2 .given .1)) ∙ c4 .admitted-named .ensures .0)
+    rw (c .refused-put .ensures) (
+      shut-out _ (a .first) s (put-into (a .name .now) (a .content .now) i) (sym (ap (answered i) (c2 .x2 .given .1)) ∙ c4 .admitted-named .ensures .0)
           ∙ put-planned i (a .first) s (a .name .now) (a .content .now),
       rw (c2 .x2 .given .1) at (c4 .admitted-named .ensures .1),
       refl,
@@ -75,7 +77,7 @@ plan-put-spec =
     enum-known-x
     plan-put-from-requires
     enum-known-x-2
-    refused-write-requires
+    refused-put-requires
     same-length
     same-length-2
     same-length-3
