@@ -10,8 +10,9 @@ use crate::plan_sweep::plan_sweep;
 use crate::put::put;
 use crate::remove::remove;
 use crate::sweep::sweep;
+use spec::Space;
 ghost use mathlib.Core.Path.{_≡_};
-ghost use Rattle.spec.specs.Numbers.{outcome-of, of-write, of-mount, of-sweep, of-get, of-list};
+ghost use Rattle.spec.specs.Numbers.{outcome-of, of-write, of-put, of-mount, of-sweep, of-get, of-list};
 ghost use Rattle.spec.specs.Answers.{format, mount, put, get, list, remove, sweep};
 ghost use Rattle.spec.specs.Planner.{Writing, planned};
 ghost use Rattle.window.specs.Handed.{slices};
@@ -34,10 +35,11 @@ pub extern "C" fn lilota_mount(
     head: &mut usize,
     tail: &mut usize,
     files: &mut usize,
+    space: &mut Space,
     steps: &mut usize,
 ) -> u32
     ensures { λ r. ⌜ outcome-of
-        (of-mount r (report (now (head .exit)) (now (tail .exit)) (now (files .exit))) (now (steps .exit))) (now (image .exit))
+        (of-mount r (report (now (head .exit)) (now (tail .exit)) (now (files .exit))) (now (space .exit)) (now (steps .exit))) (now (image .exit))
         ≡ mount (now (image .entry)) allowance ⌝ }
 {
     let w = mount(image, allowance);
@@ -45,6 +47,7 @@ pub extern "C" fn lilota_mount(
     *head = x.head;
     *tail = x.tail;
     *files = x.files;
+    *space = w.space();
     *steps = w.steps();
     w.answer()
 }
@@ -55,12 +58,14 @@ pub extern "C" fn lilota_put(
     name: &[u8],
     content: &[u8],
     allowance: usize,
+    space: &mut Space,
     steps: &mut usize,
 ) -> u32
-    ensures { λ r. ⌜ outcome-of (of-write r (now (steps .exit))) (now (image .exit))
+    ensures { λ r. ⌜ outcome-of (of-put r (now (space .exit)) (now (steps .exit))) (now (image .exit))
         ≡ put (now (image .entry)) (now (name .entry)) (now (content .entry)) allowance ⌝ }
 {
     let w = put(image, name, content, allowance);
+    *space = w.space();
     *steps = w.steps();
     w.answer()
 }
@@ -116,13 +121,15 @@ pub extern "C" fn lilota_sweep(
     image: &mut [u8],
     allowance: usize,
     moves: &mut usize,
+    space: &mut Space,
     steps: &mut usize,
 ) -> u32
-    ensures { λ r. ⌜ outcome-of (of-sweep r (now (moves .exit)) (now (steps .exit))) (now (image .exit))
+    ensures { λ r. ⌜ outcome-of (of-sweep r (now (moves .exit)) (now (space .exit)) (now (steps .exit))) (now (image .exit))
         ≡ sweep (now (image .entry)) allowance ⌝ }
 {
     let w = sweep(image, allowance);
     *moves = w.moves();
+    *space = w.space();
     *steps = w.steps();
     w.answer()
 }
@@ -137,9 +144,10 @@ pub extern "C" fn lilota_plan_put(
     addresses: &mut [u32],
     bytes: &mut [u32],
     handed: &mut usize,
+    space: &mut Space,
     steps: &mut usize,
 ) -> u32
-    ensures { λ r. ⌜ (handing (of-write r (now (steps .exit))) (now (handed .exit))
+    ensures { λ r. ⌜ (handing (of-put r (now (space .exit)) (now (steps .exit))) (now (handed .exit))
         (slices (now (kinds .exit)) (now (addresses .exit)) (now (bytes .exit)))
         ≡ planned (Writing.put (now (name .entry)) (now (content .entry))) (now (image .entry)) first
         (slices (now (kinds .entry)) (now (addresses .entry)) (now (bytes .entry))))
@@ -148,6 +156,7 @@ pub extern "C" fn lilota_plan_put(
     let p = plan_put(image, name, content, first, kinds, addresses, bytes);
     let w = p.answer;
     *handed = p.handed;
+    *space = w.space();
     *steps = w.steps();
     w.answer()
 }
@@ -185,9 +194,10 @@ pub extern "C" fn lilota_plan_sweep(
     bytes: &mut [u32],
     handed: &mut usize,
     moves: &mut usize,
+    space: &mut Space,
     steps: &mut usize,
 ) -> u32
-    ensures { λ r. ⌜ (handing (of-sweep r (now (moves .exit)) (now (steps .exit))) (now (handed .exit))
+    ensures { λ r. ⌜ (handing (of-sweep r (now (moves .exit)) (now (space .exit)) (now (steps .exit))) (now (handed .exit))
         (slices (now (kinds .exit)) (now (addresses .exit)) (now (bytes .exit)))
         ≡ planned Writing.sweep (now (image .entry)) first
         (slices (now (kinds .entry)) (now (addresses .entry)) (now (bytes .entry))))
@@ -197,6 +207,7 @@ pub extern "C" fn lilota_plan_sweep(
     let w = p.answer;
     *handed = p.handed;
     *moves = w.moves();
+    *space = w.space();
     *steps = w.steps();
     w.answer()
 }
@@ -212,10 +223,11 @@ pub extern "C" fn lilota_plan_mount(
     head: &mut usize,
     tail: &mut usize,
     files: &mut usize,
+    space: &mut Space,
     steps: &mut usize,
 ) -> u32
     ensures { λ r. ⌜ (handing
-        (of-mount r (report (now (head .exit)) (now (tail .exit)) (now (files .exit))) (now (steps .exit)))
+        (of-mount r (report (now (head .exit)) (now (tail .exit)) (now (files .exit))) (now (space .exit)) (now (steps .exit)))
         (now (handed .exit)) (slices (now (kinds .exit)) (now (addresses .exit)) (now (bytes .exit)))
         ≡ planned Writing.mount (now (image .entry)) first
         (slices (now (kinds .entry)) (now (addresses .entry)) (now (bytes .entry))))
@@ -228,6 +240,7 @@ pub extern "C" fn lilota_plan_mount(
     *head = x.head;
     *tail = x.tail;
     *files = x.files;
+    *space = w.space();
     *steps = w.steps();
     w.answer()
 }

@@ -87,7 +87,7 @@ module _ (image : Image) (past : Cursor) (p : Place) (c : Copied) (wall : ℕ) w
       let none-is : next-at xs (at-of c) ≡ none = sym (next-is xs c) ∙ ap at-of e in
       record {
         is = λ k all s.
-        ap (λ (o : Option ℕ). led-on s o (λ y. strode k all (led-place p y) (led-wall (length image) y wall) xs (at-of c))) none-is;
+            ap (λ (o : Option ℕ). led-on s o (λ y. strode k all (led-place p y) (led-wall (length image) y wall) xs (at-of c))) none-is;
         known = tt;
       }
 
@@ -98,46 +98,46 @@ module _ (image : Image) (past : Cursor) (p : Place) (c : Copied) (wall : ℕ) w
       let some-is : next-at xs (at-of c) ≡ some y = sym (next-is xs c) ∙ ap at-of e in
       record {
         is = λ k all s.
-        ap (λ (o : Option ℕ). led-on s o (λ y. strode k all (led-place p y) (led-wall (length image) y wall) xs (at-of c))) some-is;
+            ap (λ (o : Option ℕ). led-on s o (λ y. strode k all (led-place p y) (led-wall (length image) y wall) xs (at-of c))) some-is;
         known = w;
       }
 
 -- ---- a live X
 
 module _ (image : Image) (x : Spot) (past : Cursor) (p : Place) (c : Copied) (wall : ℕ) (whole : Whole image x) (good : Walkable (length image) p)
-    where
-  abbrev z : ℕ
-  z = size-of (x .n) (x .d)
+  where
+    abbrev z : ℕ
+    z = size-of (x .n) (x .d)
 
-  abbrev e : Entry
-  e = entry-of image x
+    abbrev e : Entry
+    e = entry-of image x
 
-  pub live-stop : fits p z ≡ false → Live-strode image x past p c wall Strode.Stop
-  live-stop f =
-      record {
-        is = λ k all l. strode-live k all p wall e (rest image past .entries) (at-of c) false l (ap (fits p) (size-is whole) ∙ f);
-        known = tt;
-      }
+    pub live-stop : fits p z ≡ false → Live-strode image x past p c wall Strode.Stop
+    live-stop f =
+        record {
+          is = λ k all l. strode-live k all p wall e (rest image past .entries) (at-of c) false l (ap (fits p) (size-is whole) ∙ f);
+          known = tt;
+        }
 
-  pub live-on : (a : ℕ) (m : Bool) (q : Place) (r : Strode) → fits p z ≡ true → address p z ≡ a → with-marker p z ≡ m → place-after p z ≡ q
-      → Over-strode image past (come-round q) (first-of c a) (elim m as (λ b. ℕ) [ true ↦ p .tail | false ↦ wall ]) r
-      → Live-strode image x past p c wall r
-  live-on a m q r f at mark after o =
-      let xs : List Entry = rest image past .entries in
-      let sz = size-is whole in
-      let place : copied-place p (size e) ≡ come-round q = ap (copied-place p) sz ∙ sym (copied-is p z) ∙ ap come-round after in
-      let put : put-wall p (size e) wall ≡ elim m as (λ b. ℕ) [ true ↦ p .tail | false ↦ wall ] =
-      ap (λ (i : ℕ). put-wall p i wall) sz ∙ put-by p z wall m mark in
-      let first : first-at (at-of c) (address p (size e)) ≡ at-of (first-of c a) =
-      ap (first-at (at-of c)) (ap (address p) sz ∙ at) ∙ sym (first-is c a) in
-      record {
-        is = λ k all l.
-        strode-live k all p wall e xs (at-of c) true l (ap (fits p) sz ∙ f)
-        ∙ (λ i. led-on (stand p wall) (next-at xs (first i))
-        (λ y. strode k all (led-place (place i) y) (led-wall (good .whole i) y (put i)) xs (first i)))
-        ∙ o .is k all (stand p wall);
-        known = o .known;
-      }
+    pub live-on : (a : ℕ) (m : Bool) (q : Place) (r : Strode) → fits p z ≡ true → address p z ≡ a → with-marker p z ≡ m → place-after p z ≡ q
+        → Over-strode image past (come-round q) (first-of c a) (elim m as (λ b. ℕ) [ true ↦ p .tail | false ↦ wall ]) r
+        → Live-strode image x past p c wall r
+    live-on a m q r f at mark after o =
+        let xs : List Entry = rest image past .entries in
+        let sz = size-is whole in
+        let place : copied-place p (size e) ≡ come-round q = ap (copied-place p) sz ∙ sym (copied-is p z) ∙ ap come-round after in
+        let put : put-wall p (size e) wall ≡ elim m as (λ b. ℕ) [ true ↦ p .tail | false ↦ wall ] =
+        ap (λ (i : ℕ). put-wall p i wall) sz ∙ put-by p z wall m mark in
+        let first : first-at (at-of c) (address p (size e)) ≡ at-of (first-of c a) =
+        ap (first-at (at-of c)) (ap (address p) sz ∙ at) ∙ sym (first-is c a) in
+        record {
+          is = λ k all l.
+              strode-live k all p wall e xs (at-of c) true l (ap (fits p) sz ∙ f)
+              ∙ (λ i. led-on (stand p wall) (next-at xs (first i))
+              (λ y. strode k all (led-place (place i) y) (led-wall (good .whole i) y (put i)) xs (first i)))
+              ∙ o .is k all (stand p wall);
+          known = o .known;
+        }
 
 -- ---- any move
 
@@ -162,11 +162,11 @@ module _ (image : Image) (all : List Entry) (u : Course) where
     stride-dead l g o =
         record {
           is = λ k.
-          ap (λ (xs : List Entry). strode (suc k) all p (u .wall) xs c) e
-          ∙ strode-dead k all p (u .wall) (entry-of image x) (rest image past .entries) c l
-          ∙ ap (λ (N : ℕ). led-on (stand p (u .wall)) (next-at (rest image past .entries) c)
-          (λ y. strode k all (led-place p y) (led-wall N y (u .wall)) (rest image past .entries) c)) (g .whole)
-          ∙ o .is k all (stand p (u .wall));
+              ap (λ (xs : List Entry). strode (suc k) all p (u .wall) xs c) e
+              ∙ strode-dead k all p (u .wall) (entry-of image x) (rest image past .entries) c l
+              ∙ ap (λ (N : ℕ). led-on (stand p (u .wall)) (next-at (rest image past .entries) c)
+              (λ y. strode k all (led-place p y) (led-wall N y (u .wall)) (rest image past .entries) c)) (g .whole)
+              ∙ o .is k all (stand p (u .wall));
           known = o .known;
         }
 

@@ -184,8 +184,17 @@ pub fn put_space(image: &[u8], s: Survey, name: &[u8], d: usize) -> Space
     let c = count(image, s);
     let old = replaced(image, s, name);
     let z = size(name.len(), d);
-    let Placed::At { marker, place: next, .. } = place.after(z) else {
+    let Placed::At {
+        marker,
+        place: next,
+        ..
+    } = place.after(z)
+    else {
         return filled(0, place, place.length);
     };
-    filled(gap(old, c.live + z), come_round(next), put_wall(marker, place.tail, c.wall))
+    filled(
+        gap(old, c.live + z),
+        come_round(next),
+        put_wall(marker, place.tail, c.wall),
+    )
 }

@@ -56,12 +56,24 @@ fn stride_over(image: &[u8], past: Cursor, place: Place, copy: Copied, wall: usi
 }
 
 // A live X: its copy, then (b) to (f); without room for it there is no move.
-fn stride_live(image: &[u8], x: Spot, past: Cursor, place: Place, copy: Copied, wall: usize) -> Strode
+fn stride_live(
+    image: &[u8],
+    x: Spot,
+    past: Cursor,
+    place: Place,
+    copy: Copied,
+    wall: usize,
+) -> Strode
     requires { ⌜ Cursor-sound (now image) past × Whole (now image) x × Below copy (length (now image)) × Walkable (length (now image)) place ⌝ }
     requires { ⌜ (x .n ≤ 63) × (x .d < 2 ^ 32) ⌝ }
     ensures { λ r. ⌜ Live-strode (now (image .entry)) x past place copy wall r ⌝ }
 {
-    let Placed::At { at, marker, place: next } = place.after(size(x.n, x.d)) else {
+    let Placed::At {
+        at,
+        marker,
+        place: next,
+    } = place.after(size(x.n, x.d))
+    else {
         return Strode::Stop;
     };
     stride_over(
@@ -82,7 +94,11 @@ fn stride(image: &[u8], start: Cursor, u: Course) -> Strode
     let cursor = v.cursor;
     let place = v.place;
     let copy = v.copy;
-    let Item::Record { spot: x, next: past } = advance(image, cursor) else {
+    let Item::Record {
+        spot: x,
+        next: past,
+    } = advance(image, cursor)
+    else {
         return Strode::Stop;
     };
     if is_live(image, start, x) {

@@ -127,6 +127,7 @@ pub struct Report {
 }
 
 // What the bytes of an image are good for, as mount, put and sweep tell it of the image that they leave.
+#[repr(C)]
 pub struct Space {
     pub live: usize,
     pub dead: usize,

@@ -2,7 +2,7 @@
 //! 8 for a wrap marker), free bytes (the free run) and lost bytes (head's sector below the
 //! head, plus what lies after a wrap marker up to N)".
 use crate::chain::{read_chain, Chain};
-use crate::flash::{carry_out, Step};
+use crate::flash::{Draft, Step};
 use crate::geometry::*;
 use crate::plan::{planned, Ask};
 
@@ -35,9 +35,9 @@ pub fn space(c: &Chain, n: u64) -> Space {
 
 /// Of the image that these steps leave, on from this head.
 pub(crate) fn space_after(img: &[u8], steps: &[Step], head: u64) -> Space {
-    let mut after = img.to_vec();
-    carry_out(&mut after, steps, u64::MAX);
-    read_chain(&after, head).map_or(Space::default(), |c| space(&c, img.len() as u64))
+    let mut after = Draft::new(img);
+    after.extend(steps.iter().copied());
+    read_chain(&after.img, head).map_or(Space::default(), |c| space(&c, img.len() as u64))
 }
 
 /// The record that mount, put or sweep gives back on this image: "on success .. on the

@@ -62,6 +62,7 @@ fn check(img: &[u8], call: &Call, seen: &mut Seen) {
     let told = space_told(img, ask, allowance);
     let mut after = img.to_vec();
     let reply = call.run(&mut after);
+    assert_eq!(told, reply.space);
     if reply.answer != 0 {
         assert_eq!(told, Space::default());
         seen.zero += 1;
@@ -79,9 +80,9 @@ fn check(img: &[u8], call: &Call, seen: &mut Seen) {
 /// The chain that is read on from the head that the call left: mount tells it, a put keeps it.
 fn head_left(before: &[u8], after: &[u8], call: &Call, reply: &Reply) -> Chain {
     let head = match call {
-        Call::Mount(_) => reply.first,
+        Call::Mount(_) => reply.report.head,
         Call::Put(..) => read_image(before).expect("accepted").head,
-        _ => swept_head(before, reply.first as usize),
+        _ => swept_head(before, reply.moves as usize),
     };
     read_chain(after, head).expect("legal")
 }

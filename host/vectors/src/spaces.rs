@@ -1,6 +1,6 @@
 //! Vectors of request K3: the four numbers of the image that mount, put or sweep leaves.
 use crate::collect::{Collection, EACH};
-use crate::emit::{pieces, request, Vector};
+use crate::emit::{equation, pieces, Vector};
 use model::*;
 use testing::aimed::{superseded, tight, unfinished_last};
 use testing::call::Call;
@@ -14,6 +14,8 @@ use testing::ALL;
 const OF_EACH: u64 = 24;
 /// A program step costs antt as much as its address: no long step lists.
 const MOST_STEPS: u64 = 110;
+/// No byte: the call is not cut inside one.
+const NO_BYTE: u64 = 256;
 const MOST_TEXT: usize = 7_000;
 /// What the vectors must hold.
 pub const SPACE_TAGS: [&str; 8] = [
@@ -27,34 +29,6 @@ pub const SPACE_TAGS: [&str; 8] = [
     "space: refused",
 ];
 pub const KINDS: [&str; 3] = ["space of mount", "space of put", "space of sweep"];
-
-/// What such a vector computes.
-pub const HELPER: &str = "
--- a refusal tells nothing
-abbrev pub space-right : Basics.Answer Move.Work → Bool → ℕ → ℕ → ℕ → ℕ → Bool
-space-right (Basics.refuse x) told live dead free lost = not told
-space-right (Basics.give w) told live dead free lost =
-    let s = Space.space-left w in
-    told && eqb (s .live) live && eqb (s .dead) dead && eqb (s .free) free && eqb (s .lost) lost
-
--- what the call leaves on this image: whether it is told, and the four numbers
-unfoldable pub check-space : List Piece → Space.Telling → Bool → ℕ → ℕ → ℕ → ℕ → Bool
-unfolding NAMES
-check-space before c told live dead free lost = space-right (Space.left-by c (build before)) told live dead free lost
-";
-
-/// The call with its arguments, as the model and as the definitions take it.
-fn asked(call: &Call) -> (Ask<'_>, String) {
-    let ask = match call {
-        Call::Mount(_) => Ask::Mount,
-        Call::Put(name, data, _) => Ask::Put(name, data),
-        Call::Sweep(_) => Ask::Sweep,
-        _ => unreachable!("no such record"),
-    };
-    let text = request(call);
-    let space = text.strip_prefix('(').map_or_else(|| format!("Space.{text}"), |rest| format!("(Space.{rest}"));
-    (ask, space)
-}
 
 fn image(r: &mut Rng) -> Vec<u8> {
     let n = r.of(&[8192, 8192, 12288]);
@@ -99,21 +73,17 @@ fn tags(before: &[u8], after: &[u8], answer: u32, s: Space) -> Vec<&'static str>
 }
 
 fn try_call(c: &mut Collection, img: &[u8], kind: &'static str, call: &Call) {
-    let (ask, text) = asked(call);
-    let told = space_told(img, ask, ALL);
     let mut after = img.to_vec();
     let reply = call.run(&mut after);
-    let tags = tags(img, &after, reply.answer, told);
+    let tags = tags(img, &after, reply.answer, reply.space);
     let lacks = |tag: &&str| c.count(&format!("tag {tag}")) < 2 * EACH;
     let refused = reply.answer != 0;
     let wanted = !refused && c.count(&format!("{kind} 0")) < OF_EACH || tags.iter().any(lacks);
-    let before = pieces(img);
-    if !wanted || reply.steps > MOST_STEPS || before.len() > MOST_TEXT {
+    if !wanted || reply.steps > MOST_STEPS || pieces(img).len() > MOST_TEXT {
         return;
     }
-    let Space { live, dead, free, lost } = told;
-    let text = format!("check-space {before} {text} {} {live} {dead} {free} {lost}", !refused);
-    c.add(Vector { function: "check-space", text, kind, answer: reply.answer, tags, source: "space" });
+    let (function, text) = equation(img, call, NO_BYTE, &reply, &after);
+    c.add(Vector { function, text, kind, answer: reply.answer, tags, source: "space" });
 }
 
 /// What has too few vectors.

@@ -15,13 +15,13 @@ sums-requires : tie.Need-sums-requires
 sums-requires c κs = rw (c .first-cursor .ensures) (c .before .before .before .pre .tallied .sound)
 
 first-wall-requires : tie.Need-first-wall-requires
-first-wall-requires c κs = 
+first-wall-requires c κs =
     let p = c .before .before .before .before .pre in
     let few = rw (c .before .first-cursor .ensures) at (c .sums .ensures .3) in
     (omega (arith, p .place .head, p .place .small), omega (arith, few, p .place .head, p .place .small))
 
 returns : tie.Need-returns
-returns c = 
+returns c =
     let c1 = c .before in
     let c2 = c1 .before in
     let c5 = c2 .before .before .before in

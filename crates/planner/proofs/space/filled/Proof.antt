@@ -20,7 +20,7 @@ gap-requires : tie.Need-gap-requires
 gap-requires c κs = search needs
 
 returns : tie.Need-returns
-returns c = 
+returns c =
     let c1 = c .before in
     let c2 = c1 .before in
     let a = c2 .before .args in

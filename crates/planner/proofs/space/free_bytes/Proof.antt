@@ -13,7 +13,7 @@ gap-requires : tie.Need-gap-requires
 gap-requires c κs = search needs
 
 returns : tie.Need-returns
-returns c = 
+returns c =
     let c1 = c .before in
     let c3 = c1 .before .before in
     let p = c3 .args .p in (
@@ -31,7 +31,7 @@ add-result : tie.Need-add-result
 add-result c = search needs
 
 returns-2 : tie.Need-returns-2
-returns-2 c = 
+returns-2 c =
     let c1 = c .before in
     let c3 = c1 .before .before in
     let p = c3 .args .p in (

@@ -22,7 +22,7 @@ add-result : tie.Need-add-result
 add-result c = search needs
 
 returns : tie.Need-returns
-returns c = 
+returns c =
     let c4 = c .before .before .before .before in
     let c5 = c4 .before in
     let p = c5 .args .p in (
@@ -31,7 +31,7 @@ returns c =
     )
 
 returns-2 : tie.Need-returns-2
-returns-2 c = 
+returns-2 c =
     let c3 = c .before .before .before in
     let c4 = c3 .before in
     let p = c4 .args .p in (

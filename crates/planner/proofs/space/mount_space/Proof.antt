@@ -19,14 +19,14 @@ mended-wall-requires : tie.Need-mended-wall-requires
 mended-wall-requires c κs = search needs
 
 filled-requires : tie.Need-filled-requires
-filled-requires c κs = 
+filled-requires c κs =
     let c1 = c .before in
     let c2 = c1 .before in
     let c4 = c2 .before .before in
     (rw (c1 .mended-place .ensures) (behind-small (c4 .pre)), omega (arith, c2 .count .ensures .few))
 
 returns : tie.Need-returns
-returns c = 
+returns c =
     let c1 = c .before in
     let c2 = c1 .before in
     let c3 = c2 .before in

@@ -18,7 +18,7 @@ replaced-requires : tie.Need-replaced-requires
 replaced-requires c κs = search needs
 
 size-requires : tie.Need-size-requires
-size-requires c κs = 
+size-requires c κs =
     let c5 = c .before .before .before .before .before in
     let a = c5 .args in
     let p = c5 .pre in
@@ -37,7 +37,7 @@ filled-requires : tie.Need-filled-requires
 filled-requires c κs = search needs
 
 returns : tie.Need-returns
-returns c = 
+returns c =
     let c1 = c .before in
     let c3 = c1 .before .before in
     let c4 = c3 .before in
@@ -47,7 +47,7 @@ returns c =
     absurd (false≢true (sym (placed-full (a .s .place) (size-of (length (a .name .now)) (a .d)) e) ∙ c10 .pre .3))
 
 add-gap : tie.Need-add-gap
-add-gap c = 
+add-gap c =
     let c5 = c .before .before .before .before .before in
     let c11 = c5 .before .before .before .before .before .before in
     let a = c11 .args in
@@ -70,7 +70,7 @@ put-wall-requires : tie.Need-put-wall-requires
 put-wall-requires c κs = search needs
 
 filled-requires-2 : tie.Need-filled-requires-2
-filled-requires-2 c κs = 
+filled-requires-2 c κs =
     let c1 = c .before in
     let c2 = c1 .before in
     let c5 = c2 .before .before .before in
@@ -94,7 +94,7 @@ filled-requires-2 c κs =
     )
 
 returns-2 : tie.Need-returns-2
-returns-2 c = 
+returns-2 c =
     let c1 = c .before in
     let c2 = c1 .before in
     let c3 = c2 .before in

@@ -21,14 +21,14 @@ enum-told : tie.Need-enum-told
 enum-told c = search needs
 
 returns : tie.Need-returns
-returns c = 
+returns c =
     let c2 = c .before .before in
     let c7 = c2 .before .before .before .before .before in
     let e = rw (c2 .before .first-cursor .ensures) at (c2 .file-named .ensures .0) in
     ap replaced-bytes (sym (ap (found-in (c7 .args .image .now)) (c .enum-told .given .1)) ∙ e)
 
 spot-size-requires : tie.Need-spot-size-requires
-spot-size-requires c κs = 
+spot-size-requires c κs =
     let c1 = c .before in
     let c3 = c1 .before .before in
     let w = rw (c1 .f .given .1) at (c3 .file-named .ensures .1) in
@@ -36,7 +36,7 @@ spot-size-requires c κs =
     (omega (arith, w .fits, p .place .small), omega (arith, w .fits, p .place .small))
 
 returns-2 : tie.Need-returns-2
-returns-2 c = 
+returns-2 c =
     let c2 = c .before .before in
     let c4 = c2 .before .before in
     let c9 = c4 .before .before .before .before .before in

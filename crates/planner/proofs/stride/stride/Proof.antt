@@ -17,7 +17,7 @@ enum-known-x : tie.Need-enum-known-x
 enum-known-x c = search needs
 
 returns : tie.Need-returns
-returns c = 
+returns c =
     let c1 = c .before in
     let c6 = c1 .before .before .before .before .before in
     let a = c6 .args in
@@ -26,14 +26,14 @@ returns c =
     stride-none i (rest i (a .start) .entries) (a .u) (ap (λ (r : Run). r .entries) none)
 
 is-live-requires : tie.Need-is-live-requires
-is-live-requires c κs = 
+is-live-requires c κs =
     let c1 = c .before in
     let c3 = c1 .before .before in
     let c8 = c3 .before .before .before .before .before in
     (c8 .pre .0, passes (c3 .advance .ensures) (c1 .x .given .1) .whole)
 
 stride-live-requires : tie.Need-stride-live-requires
-stride-live-requires c κs = 
+stride-live-requires c κs =
     let c3 = c .before .before .before in
     let c5 = c3 .before .before in
     let c10 = c5 .before .before .before .before .before in
@@ -42,7 +42,7 @@ stride-live-requires c κs =
     ((t .onward .sound, t .whole, k .copy, k .place), (omega (arith, t .onward .name), t .onward .data-len))
 
 returns-2 : tie.Need-returns-2
-returns-2 c = 
+returns-2 c =
     let c2 = c .before .before in
     let c4 = c2 .before .before in
     let c6 = c4 .before .before in
@@ -54,7 +54,7 @@ returns-2 c =
     (c .stride-live .result) (flag (c2 .is-live .ensures) (c .before .if1 .taken)) (c .stride-live .ensures)
 
 stride-over-requires : tie.Need-stride-over-requires
-stride-over-requires c κs = 
+stride-over-requires c κs =
     let c3 = c .before .before .before in
     let c5 = c3 .before .before in
     let c10 = c5 .before .before .before .before .before in
@@ -63,7 +63,7 @@ stride-over-requires c κs =
     (t .onward .sound, k .copy, k .place)
 
 returns-3 : tie.Need-returns-3
-returns-3 c = 
+returns-3 c =
     let c2 = c .before .before in
     let c4 = c2 .before .before in
     let c6 = c4 .before .before in

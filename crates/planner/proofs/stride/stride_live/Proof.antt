@@ -22,7 +22,7 @@ enum-told : tie.Need-enum-told
 enum-told c = search needs
 
 returns : tie.Need-returns
-returns c = 
+returns c =
     let c2 = c .before .before in
     let c3 = c2 .before in
     let c5 = c3 .before .before in
@@ -41,7 +41,7 @@ put-wall-requires : tie.Need-put-wall-requires
 put-wall-requires c κs = search needs
 
 stride-over-requires : tie.Need-stride-over-requires
-stride-over-requires c κs = 
+stride-over-requires c κs =
     let c1 = c .before in
     let c2 = c1 .before in
     let c4 = c2 .before .before in
@@ -62,7 +62,7 @@ stride-over-requires c κs =
     )
 
 returns-2 : tie.Need-returns-2
-returns-2 c = 
+returns-2 c =
     let c1 = c .before in
     let c2 = c1 .before in
     let c3 = c2 .before in

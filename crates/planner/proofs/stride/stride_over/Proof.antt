@@ -17,7 +17,7 @@ enum-told : tie.Need-enum-told
 enum-told c = search needs
 
 returns : tie.Need-returns
-returns c = 
+returns c =
     let c2 = c .before .before in
     let a = c2 .before .before .args in
     over-stop (a .image .now) (a .past) (a .place) (a .copy) (a .wall) (sym (c2 .find-next .ensures .0) ∙ c .enum-told .given .1)
@@ -29,7 +29,7 @@ led-wall-requires : tie.Need-led-wall-requires
 led-wall-requires c κs = search needs
 
 returns-2 : tie.Need-returns-2
-returns-2 c = 
+returns-2 c =
     let c1 = c .before in
     let c3 = c1 .before .before in
     let c5 = c3 .before .before in
