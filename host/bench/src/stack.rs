@@ -4,7 +4,7 @@ use crate::cases::Case;
 use std::ffi::c_void;
 use std::ptr;
 use std::sync::atomic::{AtomicUsize, Ordering};
-use testing::c_calls::{Functions, Library};
+use testing::c_calls::{Bytewise, Functions, Library};
 
 const SIZE: usize = 1 << 20;
 const PAINT: u8 = 0xA7;
@@ -72,12 +72,22 @@ fn note() -> u32 {
 }
 
 type Number = *mut usize;
+type Record = *mut Bytewise;
 
 unsafe extern "C" fn format(_: *mut u8, _: usize, _: usize, _: Number) -> u32 {
     note()
 }
 
-unsafe extern "C" fn mount(_: *mut u8, _: usize, _: usize, _: Number, _: Number, _: Number, _: Number) -> u32 {
+unsafe extern "C" fn mount(
+    _: *mut u8,
+    _: usize,
+    _: usize,
+    _: Number,
+    _: Number,
+    _: Number,
+    _: Record,
+    _: Number,
+) -> u32 {
     note()
 }
 
@@ -89,6 +99,7 @@ unsafe extern "C" fn put(
     _: *const u8,
     _: usize,
     _: usize,
+    _: Record,
     _: Number,
 ) -> u32 {
     note()
@@ -106,7 +117,7 @@ unsafe extern "C" fn remove(_: *mut u8, _: usize, _: *const u8, _: usize, _: usi
     note()
 }
 
-unsafe extern "C" fn sweep(_: *mut u8, _: usize, _: usize, _: Number, _: Number) -> u32 {
+unsafe extern "C" fn sweep(_: *mut u8, _: usize, _: usize, _: Number, _: Record, _: Number) -> u32 {
     note()
 }
 
@@ -138,7 +149,16 @@ mod tests {
     use std::hint::black_box;
 
     /// Needs 5,000 bytes.
-    unsafe extern "C" fn deep(_: *mut u8, _: usize, _: usize, _: Number, _: Number, _: Number, _: Number) -> u32 {
+    unsafe extern "C" fn deep(
+        _: *mut u8,
+        _: usize,
+        _: usize,
+        _: Number,
+        _: Number,
+        _: Number,
+        _: Record,
+        _: Number,
+    ) -> u32 {
         black_box(&mut [0u8; 5000]);
         0
     }
