@@ -4,7 +4,7 @@ use crate::cases::Case;
 use std::ffi::c_void;
 use std::ptr;
 use std::sync::atomic::{AtomicUsize, Ordering};
-use testing::c_calls::{Bytewise, Functions, Library};
+use testing::c_calls::{Functions, Library};
 
 const SIZE: usize = 1 << 20;
 const PAINT: u8 = 0xA7;
@@ -72,7 +72,6 @@ fn note() -> u32 {
 }
 
 type Number = *mut usize;
-type Record = *mut Bytewise;
 
 unsafe extern "C" fn format(_: *mut u8, _: usize, _: usize, _: Number) -> u32 {
     note()
@@ -85,7 +84,10 @@ unsafe extern "C" fn mount(
     _: Number,
     _: Number,
     _: Number,
-    _: Record,
+    _: Number,
+    _: Number,
+    _: Number,
+    _: Number,
     _: Number,
 ) -> u32 {
     note()
@@ -99,7 +101,10 @@ unsafe extern "C" fn put(
     _: *const u8,
     _: usize,
     _: usize,
-    _: Record,
+    _: Number,
+    _: Number,
+    _: Number,
+    _: Number,
     _: Number,
 ) -> u32 {
     note()
@@ -117,7 +122,17 @@ unsafe extern "C" fn remove(_: *mut u8, _: usize, _: *const u8, _: usize, _: usi
     note()
 }
 
-unsafe extern "C" fn sweep(_: *mut u8, _: usize, _: usize, _: Number, _: Record, _: Number) -> u32 {
+unsafe extern "C" fn sweep(
+    _: *mut u8,
+    _: usize,
+    _: usize,
+    _: Number,
+    _: Number,
+    _: Number,
+    _: Number,
+    _: Number,
+    _: Number,
+) -> u32 {
     note()
 }
 
@@ -156,7 +171,10 @@ mod tests {
         _: Number,
         _: Number,
         _: Number,
-        _: Record,
+        _: Number,
+        _: Number,
+        _: Number,
+        _: Number,
         _: Number,
     ) -> u32 {
         black_box(&mut [0u8; 5000]);
