@@ -33,7 +33,11 @@ static void line(const char *name, char mark, size_t bytes, size_t length)
     printf("  %c %-5s %9lu bytes %5.1f %%\n", mark, name, (unsigned long)bytes, 100.0 * (double)bytes / (double)length);
 }
 
-static void show(const struct lilota_space *s, size_t length)
+typedef struct {
+    size_t live, dead, free, lost;
+} Bytes;
+
+static void show(const Bytes *s, size_t length)
 {
     char bar[WIDTH + 1] = {0};
     part(bar, '.', s->live + s->dead, s->live + s->dead + s->free, length);
@@ -50,20 +54,20 @@ static void show(const struct lilota_space *s, size_t length)
 static int report(const char *path, uint8_t *image)
 {
     size_t length = load(path, image), head = 0, tail = 0, files = 0, steps = 0;
-    struct lilota_space space;
+    Bytes b = {0, 0, 0, 0};
     uint32_t answer;
     if (length == 0) {
         printf("%s: cannot be read\n", path);
         return 1;
     }
-    answer = lilota_mount(image, length, SIZE_MAX, &head, &tail, &files, &space, &steps);
+    answer = lilota_mount(image, length, SIZE_MAX, &head, &tail, &files, &b.live, &b.dead, &b.free, &b.lost, &steps);
     if (answer != LILOTA_DONE) {
         printf("%s: mount answers %u\n", path, (unsigned)answer);
         return 1;
     }
     printf("%s: %lu bytes, %lu files, head %lu, tail %lu; mount took %lu steps in memory\n", path, (unsigned long)length,
            (unsigned long)files, (unsigned long)head, (unsigned long)tail, (unsigned long)steps);
-    show(&space, length);
+    show(&b, length);
     return 0;
 }
 

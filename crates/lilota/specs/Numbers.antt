@@ -101,6 +101,9 @@ Lies-at r image x = ptr r ≡ (ptr image .0, x .offset + ptr image .1)
 abbrev pub report : ℕ → ℕ → ℕ → Report
 report head tail files = record { head = head; tail = tail; files = files }
 
+abbrev pub space : ℕ → ℕ → ℕ → ℕ → Space
+space live dead free lost = record { live = live; dead = dead; free = free; lost = lost }
+
 abbrev pub extent : ℕ → ℕ → Extent
 extent offset length = record { offset = offset; length = length }
 

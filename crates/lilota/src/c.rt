@@ -10,13 +10,12 @@ use crate::plan_sweep::plan_sweep;
 use crate::put::put;
 use crate::remove::remove;
 use crate::sweep::sweep;
-use spec::Space;
 ghost use mathlib.Core.Path.{_≡_};
 ghost use Rattle.spec.specs.Numbers.{outcome-of, of-write, of-put, of-mount, of-sweep, of-get, of-list};
 ghost use Rattle.spec.specs.Answers.{format, mount, put, get, list, remove, sweep};
 ghost use Rattle.spec.specs.Planner.{Writing, planned};
 ghost use Rattle.window.specs.Handed.{slices};
-ghost use Rattle.lilota.specs.Numbers.{report, extent};
+ghost use Rattle.lilota.specs.Numbers.{report, space, extent};
 ghost use Rattle.lilota.specs.Planned.{handing};
 
 #[no_mangle]
@@ -35,11 +34,15 @@ pub extern "C" fn lilota_mount(
     head: &mut usize,
     tail: &mut usize,
     files: &mut usize,
-    space: &mut Space,
+    live: &mut usize,
+    dead: &mut usize,
+    free: &mut usize,
+    lost: &mut usize,
     steps: &mut usize,
 ) -> u32
     ensures { λ r. ⌜ outcome-of
-        (of-mount r (report (now (head .exit)) (now (tail .exit)) (now (files .exit))) (now (space .exit)) (now (steps .exit))) (now (image .exit))
+        (of-mount r (report (now (head .exit)) (now (tail .exit)) (now (files .exit))) (space (now (live .exit)) (now (dead .exit)) (now (free .exit)) (now (lost .exit)))
+        (now (steps .exit))) (now (image .exit))
         ≡ mount (now (image .entry)) allowance ⌝ }
 {
     let w = mount(image, allowance);
@@ -47,7 +50,11 @@ pub extern "C" fn lilota_mount(
     *head = x.head;
     *tail = x.tail;
     *files = x.files;
-    *space = w.space();
+    let y = w.space();
+    *live = y.live;
+    *dead = y.dead;
+    *free = y.free;
+    *lost = y.lost;
     *steps = w.steps();
     w.answer()
 }
@@ -58,14 +65,22 @@ pub extern "C" fn lilota_put(
     name: &[u8],
     content: &[u8],
     allowance: usize,
-    space: &mut Space,
+    live: &mut usize,
+    dead: &mut usize,
+    free: &mut usize,
+    lost: &mut usize,
     steps: &mut usize,
 ) -> u32
-    ensures { λ r. ⌜ outcome-of (of-put r (now (space .exit)) (now (steps .exit))) (now (image .exit))
+    ensures { λ r. ⌜ outcome-of (of-put r (space (now (live .exit)) (now (dead .exit)) (now (free .exit)) (now (lost .exit)))
+        (now (steps .exit))) (now (image .exit))
         ≡ put (now (image .entry)) (now (name .entry)) (now (content .entry)) allowance ⌝ }
 {
     let w = put(image, name, content, allowance);
-    *space = w.space();
+    let y = w.space();
+    *live = y.live;
+    *dead = y.dead;
+    *free = y.free;
+    *lost = y.lost;
     *steps = w.steps();
     w.answer()
 }
@@ -121,15 +136,23 @@ pub extern "C" fn lilota_sweep(
     image: &mut [u8],
     allowance: usize,
     moves: &mut usize,
-    space: &mut Space,
+    live: &mut usize,
+    dead: &mut usize,
+    free: &mut usize,
+    lost: &mut usize,
     steps: &mut usize,
 ) -> u32
-    ensures { λ r. ⌜ outcome-of (of-sweep r (now (moves .exit)) (now (space .exit)) (now (steps .exit))) (now (image .exit))
+    ensures { λ r. ⌜ outcome-of (of-sweep r (now (moves .exit)) (space (now (live .exit)) (now (dead .exit)) (now (free .exit)) (now (lost .exit)))
+        (now (steps .exit))) (now (image .exit))
         ≡ sweep (now (image .entry)) allowance ⌝ }
 {
     let w = sweep(image, allowance);
     *moves = w.moves();
-    *space = w.space();
+    let y = w.space();
+    *live = y.live;
+    *dead = y.dead;
+    *free = y.free;
+    *lost = y.lost;
     *steps = w.steps();
     w.answer()
 }
@@ -144,10 +167,14 @@ pub extern "C" fn lilota_plan_put(
     addresses: &mut [u32],
     bytes: &mut [u32],
     handed: &mut usize,
-    space: &mut Space,
+    live: &mut usize,
+    dead: &mut usize,
+    free: &mut usize,
+    lost: &mut usize,
     steps: &mut usize,
 ) -> u32
-    ensures { λ r. ⌜ (handing (of-put r (now (space .exit)) (now (steps .exit))) (now (handed .exit))
+    ensures { λ r. ⌜ (handing (of-put r (space (now (live .exit)) (now (dead .exit)) (now (free .exit)) (now (lost .exit)))
+        (now (steps .exit))) (now (handed .exit))
         (slices (now (kinds .exit)) (now (addresses .exit)) (now (bytes .exit)))
         ≡ planned (Writing.put (now (name .entry)) (now (content .entry))) (now (image .entry)) first
         (slices (now (kinds .entry)) (now (addresses .entry)) (now (bytes .entry))))
@@ -156,7 +183,11 @@ pub extern "C" fn lilota_plan_put(
     let p = plan_put(image, name, content, first, kinds, addresses, bytes);
     let w = p.answer;
     *handed = p.handed;
-    *space = w.space();
+    let y = w.space();
+    *live = y.live;
+    *dead = y.dead;
+    *free = y.free;
+    *lost = y.lost;
     *steps = w.steps();
     w.answer()
 }
@@ -194,10 +225,14 @@ pub extern "C" fn lilota_plan_sweep(
     bytes: &mut [u32],
     handed: &mut usize,
     moves: &mut usize,
-    space: &mut Space,
+    live: &mut usize,
+    dead: &mut usize,
+    free: &mut usize,
+    lost: &mut usize,
     steps: &mut usize,
 ) -> u32
-    ensures { λ r. ⌜ (handing (of-sweep r (now (moves .exit)) (now (space .exit)) (now (steps .exit))) (now (handed .exit))
+    ensures { λ r. ⌜ (handing (of-sweep r (now (moves .exit)) (space (now (live .exit)) (now (dead .exit)) (now (free .exit)) (now (lost .exit)))
+        (now (steps .exit))) (now (handed .exit))
         (slices (now (kinds .exit)) (now (addresses .exit)) (now (bytes .exit)))
         ≡ planned Writing.sweep (now (image .entry)) first
         (slices (now (kinds .entry)) (now (addresses .entry)) (now (bytes .entry))))
@@ -207,7 +242,11 @@ pub extern "C" fn lilota_plan_sweep(
     let w = p.answer;
     *handed = p.handed;
     *moves = w.moves();
-    *space = w.space();
+    let y = w.space();
+    *live = y.live;
+    *dead = y.dead;
+    *free = y.free;
+    *lost = y.lost;
     *steps = w.steps();
     w.answer()
 }
@@ -223,11 +262,15 @@ pub extern "C" fn lilota_plan_mount(
     head: &mut usize,
     tail: &mut usize,
     files: &mut usize,
-    space: &mut Space,
+    live: &mut usize,
+    dead: &mut usize,
+    free: &mut usize,
+    lost: &mut usize,
     steps: &mut usize,
 ) -> u32
     ensures { λ r. ⌜ (handing
-        (of-mount r (report (now (head .exit)) (now (tail .exit)) (now (files .exit))) (now (space .exit)) (now (steps .exit)))
+        (of-mount r (report (now (head .exit)) (now (tail .exit)) (now (files .exit))) (space (now (live .exit)) (now (dead .exit)) (now (free .exit)) (now (lost .exit)))
+        (now (steps .exit)))
         (now (handed .exit)) (slices (now (kinds .exit)) (now (addresses .exit)) (now (bytes .exit)))
         ≡ planned Writing.mount (now (image .entry)) first
         (slices (now (kinds .entry)) (now (addresses .entry)) (now (bytes .entry))))
@@ -240,7 +283,11 @@ pub extern "C" fn lilota_plan_mount(
     *head = x.head;
     *tail = x.tail;
     *files = x.files;
-    *space = w.space();
+    let y = w.space();
+    *live = y.live;
+    *dead = y.dead;
+    *free = y.free;
+    *lost = y.lost;
     *steps = w.steps();
     w.answer()
 }

@@ -64,7 +64,7 @@ static Move move(Flash *f, Place *p)
     return MOVED;
 }
 
-uint32_t baseline_sweep(uint8_t *m, size_t n, size_t allowance, size_t *moves, struct baseline_space *space,
+uint32_t baseline_sweep(uint8_t *m, size_t n, size_t allowance, size_t *moves, size_t *live, size_t *dead, size_t *blank, size_t *lost,
                         size_t *steps)
 {
     Flash f = {m, allowance, 0};
@@ -73,7 +73,7 @@ uint32_t baseline_sweep(uint8_t *m, size_t n, size_t allowance, size_t *moves, s
     Move made = MOVED;
     uint32_t answer;
     *moves = *steps = 0;
-    *space = (struct baseline_space){0};
+    *live = *dead = *blank = *lost = 0;
     answer = bl_read_settled(m, n, &q, &s);
     if (answer != DONE)
         return answer;
@@ -86,6 +86,6 @@ uint32_t baseline_sweep(uint8_t *m, size_t n, size_t allowance, size_t *moves, s
     if (made == NO_PLACE && *moves == 0)
         return NO_ROOM;
     if (!is_cut(&f))
-        bl_space(m, n, s.place.head, space);
+        bl_tell(m, n, s.place.head, live, dead, blank, lost);
     return answer_of(&f, steps);
 }

@@ -30,17 +30,12 @@ fn run(call: impl FnOnce() -> Reply) -> Reply {
     catch_unwind(AssertUnwindSafe(seeded)).unwrap_or(Reply::refusal(TRIPPED))
 }
 
-/// `struct lilota_space`.
-#[repr(C)]
-pub struct Bytewise {
-    live: usize,
-    dead: usize,
-    free: usize,
-    lost: usize,
-}
-
-fn bytewise(s: Space) -> Bytewise {
-    Bytewise { live: s.live as usize, dead: s.dead as usize, free: s.free as usize, lost: s.lost as usize }
+/// # Safety
+/// Pointers to four numbers.
+unsafe fn give_space(s: Space, to: [*mut usize; 4]) {
+    for (number, at) in [s.live, s.dead, s.free, s.lost].into_iter().zip(to) {
+        *at = number as usize;
+    }
 }
 
 /// # Safety
@@ -82,14 +77,17 @@ pub unsafe extern "C" fn lilota_mount(
     head: *mut usize,
     tail: *mut usize,
     files: *mut usize,
-    space: *mut Bytewise,
+    live: *mut usize,
+    dead: *mut usize,
+    free: *mut usize,
+    lost: *mut usize,
     steps: *mut usize,
 ) -> u32 {
     let reply = run(|| model::mount(slice_mut(image, length), allowance as u64));
     *head = reply.report.head as usize;
     *tail = reply.report.tail as usize;
     *files = reply.report.files as usize;
-    *space = bytewise(reply.space);
+    give_space(reply.space, [live, dead, free, lost]);
     *steps = reply.steps as usize;
     reply.answer
 }
@@ -105,12 +103,15 @@ pub unsafe extern "C" fn lilota_put(
     content: *const u8,
     content_length: usize,
     allowance: usize,
-    space: *mut Bytewise,
+    live: *mut usize,
+    dead: *mut usize,
+    free: *mut usize,
+    lost: *mut usize,
     steps: *mut usize,
 ) -> u32 {
     let (name, content) = (slice(name, name_length), slice(content, content_length));
     let reply = run(|| model::put(slice_mut(image, length), name, content, allowance as u64));
-    *space = bytewise(reply.space);
+    give_space(reply.space, [live, dead, free, lost]);
     *steps = reply.steps as usize;
     reply.answer
 }
@@ -174,12 +175,15 @@ pub unsafe extern "C" fn lilota_sweep(
     length: usize,
     allowance: usize,
     moves: *mut usize,
-    space: *mut Bytewise,
+    live: *mut usize,
+    dead: *mut usize,
+    free: *mut usize,
+    lost: *mut usize,
     steps: *mut usize,
 ) -> u32 {
     let reply = run(|| model::sweep(slice_mut(image, length), allowance as u64));
     *moves = reply.moves as usize;
-    *space = bytewise(reply.space);
+    give_space(reply.space, [live, dead, free, lost]);
     *steps = reply.steps as usize;
     reply.answer
 }
