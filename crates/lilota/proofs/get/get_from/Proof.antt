@@ -1,5 +1,5 @@
 -- Nothing found is 2; what is found lies inside the image, and its data begins behind the padded name.
-use mathlib.Core.Path.{sym, ap, _∙_}
+use mathlib.Core.Path.{sym, ap}
 use native.Mathlib.Omega.{arith}
 use Rattle.reading.specs.Seek.{found-in}
 use Rattle.spec.specs.Answers.{getting}

@@ -1,8 +1,6 @@
 -- Nothing found is 2; else the one step, and the answer is read off its meter.
 use mathlib.Core.Path.{refl, sym, ap, _∙_}
-use mathlib.Core.Option.{Option}
 use native.Mathlib.Omega.{arith}
-use Rattle.spec.specs.Record.{Entry}
 use Rattle.spec.specs.Basics.{numbered}
 use Rattle.spec.specs.Answers.{carry-out, found, removing}
 use Rattle.reading.specs.declared.Found.{Found}

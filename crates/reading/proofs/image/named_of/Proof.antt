@@ -1,5 +1,4 @@
 -- named_of: the file by its hash, the reading by its flag.
-use mathlib.Core.Path.{refl, sym, ap, _∙_}
 use borrow.Author.Needs.{needs}
 use Rattle.reading.proofs.image.named_of.Statement.{statement}
 use Rattle.reading.proofs.image.named_of.Tie as tie

@@ -1,5 +1,4 @@
 -- file_of: no file of the hash, none of the name; the first of the hash is it, or the chain is searched.
-use mathlib.Core.Path.{sym, ap, _∙_}
 use Rattle.laws.specs.Flag.{flag}
 use Rattle.reading.specs.Sought.{named-none, named-some}
 use borrow.Author.Needs.{needs}

@@ -1,5 +1,4 @@
 -- fits: the hash of a record that is no file is not asked for.
-use mathlib.Core.Path.{_∙_}
 use Rattle.laws.specs.Flag.{flag}
 use borrow.Author.Needs.{needs}
 use Rattle.reading.proofs.sought.fits.Statement.{statement}

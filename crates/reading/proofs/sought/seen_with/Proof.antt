@@ -1,5 +1,4 @@
 -- seen_with: by one test.
-use mathlib.Core.Path.{ap, _∙_}
 use borrow.Author.Needs.{needs}
 use Rattle.reading.proofs.sought.seen_with.Statement.{statement}
 use Rattle.reading.proofs.sought.seen_with.Tie as tie
