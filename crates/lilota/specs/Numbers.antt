@@ -118,7 +118,8 @@ stored-numbers (Stored.Done y i) n k x p q r = λ j. of-put (p j) (q j) (r j)
 stored-numbers (Stored.Cut i) n k x p q r = λ j. of-put (p j) (q j) (r j)
 stored-numbers (Stored.Refused y) n k x p q r = λ j. of-put (p j) (q j) (r j)
 
-pub mounted-numbers : (w : Mounted) (a k : ℕ) (r : Report) (x : Space) → a ≡ mounted w .answer → r ≡ mounted w .report → x ≡ mounted w .space
+pub mounted-numbers : (w : Mounted) (a k : ℕ) (r : Report) (x : Space) → a ≡ mounted w .answer → r ≡ mounted w .report → x
+    ≡ mounted w .space
     → k ≡ mounted w .steps → of-mount a r x k ≡ mounted w
 mounted-numbers (Mounted.Done u v y) a k r x p q o s = λ j. of-mount (p j) (q j) (o j) (s j)
 mounted-numbers (Mounted.Cut u) a k r x p q o s = λ j. of-mount (p j) (q j) (o j) (s j)
@@ -131,7 +132,8 @@ swept-numbers (Swept.Cut a b) n i k x p q o r = λ j. of-sweep (p j) (q j) (o j)
 swept-numbers (Swept.Refused y) n i k x p q o r = λ j. of-sweep (p j) (q j) (o j) (r j)
 
 -- with the image
-pub written-given : (w : Written) (n k : ℕ) (t : Image) (o : Outcome) → n ≡ written w .answer → k ≡ written w .steps → outcome-of (written w) t ≡ o
+pub written-given : (w : Written) (n k : ℕ) (t : Image) (o : Outcome) → n ≡ written w .answer → k ≡ written w .steps
+    → outcome-of (written w) t ≡ o
     → outcome-of (of-write n k) t ≡ o
 written-given w n k t o p q e = ap (λ (x : Numbers). outcome-of x t) (written-numbers w n k p q) ∙ e
 
@@ -139,7 +141,8 @@ pub stored-given : (w : Stored) (n k : ℕ) (x : Space) (t : Image) (o : Outcome
     → k ≡ stored w .steps → outcome-of (stored w) t ≡ o → outcome-of (of-put n x k) t ≡ o
 stored-given w n k x t o p q r e = ap (λ (y : Numbers). outcome-of y t) (stored-numbers w n k x p q r) ∙ e
 
-pub mounted-given : (w : Mounted) (a k : ℕ) (r : Report) (x : Space) (i : Image) (o : Outcome) → a ≡ mounted w .answer → r ≡ mounted w .report
+pub mounted-given : (w : Mounted) (a k : ℕ) (r : Report) (x : Space) (i : Image) (o : Outcome) → a ≡ mounted w .answer → r
+    ≡ mounted w .report
     → x ≡ mounted w .space → k ≡ mounted w .steps → outcome-of (mounted w) i ≡ o → outcome-of (of-mount a r x k) i ≡ o
 mounted-given w a k r x i o p q u s e = ap (λ (y : Numbers). outcome-of y i) (mounted-numbers w a k r x p q u s) ∙ e
 

@@ -13,7 +13,8 @@ use Rattle.spec.specs.Basics.{Answer, refuse, give, onward}
 use Rattle.spec.specs.Chain.{Reading}
 use Rattle.spec.specs.Numbers.{Numbers, of-write, of-put, of-mount, of-sweep, refusal}
 use Rattle.spec.specs.Door.{accepted, admitted, admitted-named}
-use Rattle.spec.specs.Answers.{Plan, doing, put-into, put-plan, file-of, file-plan, removing, remove-plan, sweep-of, sweep-plan, mount-of, mount-plan}
+use Rattle.spec.specs.Answers.{Plan, doing, put-into, put-plan, file-of, file-plan, removing, remove-plan, sweep-of, sweep-plan, mount-of}
+use Rattle.spec.specs.Answers.{mount-plan}
 use Rattle.spec.specs.Planner.{Slices, shortest, window, filled-with, Handing, hand-out, Writing, planned}
 use Rattle.window.specs.declared.Window.{Window}
 use Rattle.window.specs.Handed.{hand-all, Handed}
@@ -47,7 +48,8 @@ written-out {s} {t} {w} {r} ss first f z h =
     ap (λ (k : ℕ). handing (of-write 0 k) (min (shortest s) (r .passed - r .first)) t) n ∙ planned-out (doing ss) first f z h
 
 -- of a put: its record too
-pub stored-out : {s t : Slices} {w r : Window} {x : Space} (ss : List Step) (first : ℕ) → w .first ≡ first → w .passed ≡ 0 → Handed s w ss t r
+pub stored-out : {s t : Slices} {w r : Window} {x : Space} (ss : List Step) (first : ℕ) → w .first ≡ first → w .passed ≡ 0
+    → Handed s w ss t r
     → handing (of-put 0 x (r .passed)) (min (shortest s) (r .passed - r .first)) t ≡ hand-out (give (writing x ss)) first s
 stored-out {s} {t} {w} {r} {x} ss first f z h =
     let n : r .passed ≡ length ss = omega (arith, h .count) in
@@ -77,7 +79,8 @@ let-out r first s f e = ap (λ (y : Answer Reading). hand-out (onward y f) first
 
 module _ (image : Image) (first : ℕ) (s : Slices) where
   pub put-planned : (name content : List ℕ)
-      → hand-out (onward (admitted-named name image) (put-into name content image)) first s ≡ planned (Writing.put name content) image first s
+      → hand-out (onward (admitted-named name image) (put-into name content image)) first s
+      ≡ planned (Writing.put name content) image first s
   unfolding put-plan
   put-planned name content = refl
 
@@ -96,7 +99,8 @@ module _ (image : Image) (first : ℕ) (s : Slices) where
 
 -- ---- what C gets of an answer: its numbers, one by one
 
-pub written-handed : (w : Written) (n k h : ℕ) (s : Slices) (o : Handing) → n ≡ written w .answer → k ≡ written w .steps → handing (written w) h s ≡ o
+pub written-handed : (w : Written) (n k h : ℕ) (s : Slices) (o : Handing) → n ≡ written w .answer → k ≡ written w .steps
+    → handing (written w) h s ≡ o
     → handing (of-write n k) h s ≡ o
 written-handed w n k h s o p q e = ap (λ (x : Numbers). handing x h s) (written-numbers w n k p q) ∙ e
 

@@ -48,13 +48,15 @@ module _ (image : Image) (s : Survey) (x : Space) where
   r = reading-of image s
 
   pub mount-told : Legal image s
-      → x ≡ space-filled (live-bytes (r .entries)) (behind-place (r .place) (r .entries)) (mended-wall (length image) (r .entries) (wall-of r))
+      → x ≡ space-filled (live-bytes (r .entries)) (behind-place (r .place) (r .entries))
+      (mended-wall (length image) (r .entries) (wall-of r))
       → x ≡ space-left (mended image r)
   mount-told l e = e ∙ sym (mount-filled image r (l .sized) (l .read))
 
   pub put-told : (name content : List ℕ) → Settled image s → give r ≡ admitted-named name image → room-in r name (length content) ≡ true
       → x ≡ space-filled ((live-bytes (r .entries) + size-of (length name) (length content))
-      - replaced-bytes (first-such (has-name name) (keep is-file (r .entries)))) (copied-place (r .place) (size-of (length name) (length content)))
+      - replaced-bytes (first-such (has-name name) (keep is-file (r .entries))))
+      (copied-place (r .place) (size-of (length name) (length content)))
       (put-wall (r .place) (size-of (length name) (length content)) (wall-of r))
       → x ≡ space-left (put-work name content image r)
   unfolding file-named
@@ -63,7 +65,8 @@ module _ (image : Image) (s : Survey) (x : Space) where
       let g = named-gives image r name (sym d) in
       let old : first-such (has-name name) (keep is-file (r .entries)) ≡ file-named name (r .entries) =
       ap (λ (l : List Entry). first-such (has-name name) l) (sym (files-are (r .entries) (w .quiet))) in
-      e ∙ ap (λ o. space-filled ((live-bytes (r .entries) + z) - replaced-bytes o) (copied-place (r .place) z) (put-wall (r .place) z (wall-of r))) old
+      e ∙ ap (λ o. space-filled ((live-bytes (r .entries) + z) - replaced-bytes o) (copied-place (r .place) z)
+      (put-wall (r .place) z (wall-of r))) old
       ∙ sym (put-filled image r name content (g .0) (g .2) (g .1) f)
 
   pub sweep-told : {k : ℕ} → Accepted image s → give r ≡ admitted image → k ≡ min 5 (s .tally .records)

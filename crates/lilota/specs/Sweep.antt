@@ -35,7 +35,8 @@ headed image s w = record { led = w .led; same = ap (λ (r : Reading). r .place)
 abbrev pub moving : List (List Step) → Space → Plan
 moving ms x = record { steps = concat ms; moves = ms; done = of-sweep 0 (length ms) x (length (concat ms)) }
 
-module _ {s t : Image} {m r : Meter} {ms : List (List Step)} {n : ℕ} (k : ℕ) (z : m .asked ≡ 0) (a : m .allowance ≡ k) (w : Moves s m ms t n r) where
+module _ {s t : Image} {m r : Meter} {ms : List (List Step)} {n : ℕ} (k : ℕ) (z : m .asked ≡ 0) (a : m .allowance ≡ k)
+    (w : Moves s m ms t n r) where
   left-is : t ≡ run s (take k (concat ms))
   left-is =
       let e : m .allowance - m .asked ≡ k = omega arith in
@@ -56,7 +57,8 @@ module _ {s t : Image} {m r : Meter} {ms : List (List Step)} {n : ℕ} (k : ℕ)
   unfolding carry-out numbers-of
   swept-cut x h =
       let l : k < length (concat ms) = omega (arith, w .begun .cut h) in
-      rw (carry-out, numbers-of, lt-leb (length (concat ms)) k l) (ap₂ outcome-of (ap₂ (λ (i j : ℕ). of-sweep 4 i no-space j) count-as (w .begun .same ∙ a)) left-is)
+      rw (carry-out, numbers-of, lt-leb (length (concat ms)) k l)
+          (ap₂ outcome-of (ap₂ (λ (i j : ℕ). of-sweep 4 i no-space j) count-as (w .begun .same ∙ a)) left-is)
 
 -- ---- the plan
 
@@ -65,12 +67,14 @@ module _ (image : Image) (k : ℕ) where
   pub sweep-room : (s : Survey) (t : Bool) (x : Space) → Accepted image s
       → t ≡ no-room (reading-from image (s .place .head)) (reading-from image (s .place .head) .entries)
       → x ≡ space-left (sweep-work image (reading-of image s))
-      → carry-out image k (checked (not t) (numbered 28) (give (moving (moves (min 5 (s .tally .records)) image (reading-from image (s .place .head))) x)))
+      → carry-out image k (checked (not t) (numbered 28)
+      (give (moving (moves (min 5 (s .tally .records)) image (reading-from image (s .place .head))) x)))
       ≡ carry-out image k (sweep-of image (reading-of image s))
   unfolding sweep-of
   sweep-room s t x w e q =
       let r : Reading = reading-from image (s .place .head) in
-      let c : s .tally .records ≡ length (r .entries) = count-is (w .surveyed .tallied) ∙ ap (λ (x : Reading). length (x .entries)) (w .same) in
+      let c : s .tally .records ≡ length (r .entries) = count-is (w .surveyed .tallied)
+      ∙ ap (λ (x : Reading). length (x .entries)) (w .same) in
       let y : x ≡ space-left (sweep-work image r) = q ∙ ap (λ (v : Reading). space-left (sweep-work image v)) (w .same) in
       (λ j. carry-out image k (checked (not (e j)) (numbered 28) (give (moving (moves (min 5 (c j)) image r) (y j)))))
       ∙ ap (λ (x : Reading). carry-out image k (sweep-of image x)) (sym (w .same))

@@ -41,8 +41,8 @@ pub extern "C" fn lilota_mount(
     steps: &mut usize,
 ) -> u32
     ensures { λ r. ⌜ outcome-of
-        (of-mount r (report (now (head .exit)) (now (tail .exit)) (now (files .exit))) (space (now (live .exit)) (now (dead .exit)) (now (free .exit)) (now (lost .exit)))
-        (now (steps .exit))) (now (image .exit))
+        (of-mount r (report (now (head .exit)) (now (tail .exit)) (now (files .exit)))
+        (space (now (live .exit)) (now (dead .exit)) (now (free .exit)) (now (lost .exit))) (now (steps .exit))) (now (image .exit))
         ≡ mount (now (image .entry)) allowance ⌝ }
 {
     let w = mount(image, allowance);
@@ -71,8 +71,8 @@ pub extern "C" fn lilota_put(
     lost: &mut usize,
     steps: &mut usize,
 ) -> u32
-    ensures { λ r. ⌜ outcome-of (of-put r (space (now (live .exit)) (now (dead .exit)) (now (free .exit)) (now (lost .exit)))
-        (now (steps .exit))) (now (image .exit))
+    ensures { λ r. ⌜ outcome-of (of-put r
+        (space (now (live .exit)) (now (dead .exit)) (now (free .exit)) (now (lost .exit))) (now (steps .exit))) (now (image .exit))
         ≡ put (now (image .entry)) (now (name .entry)) (now (content .entry)) allowance ⌝ }
 {
     let w = put(image, name, content, allowance);
@@ -142,8 +142,8 @@ pub extern "C" fn lilota_sweep(
     lost: &mut usize,
     steps: &mut usize,
 ) -> u32
-    ensures { λ r. ⌜ outcome-of (of-sweep r (now (moves .exit)) (space (now (live .exit)) (now (dead .exit)) (now (free .exit)) (now (lost .exit)))
-        (now (steps .exit))) (now (image .exit))
+    ensures { λ r. ⌜ outcome-of (of-sweep r (now (moves .exit))
+        (space (now (live .exit)) (now (dead .exit)) (now (free .exit)) (now (lost .exit))) (now (steps .exit))) (now (image .exit))
         ≡ sweep (now (image .entry)) allowance ⌝ }
 {
     let w = sweep(image, allowance);
@@ -173,8 +173,8 @@ pub extern "C" fn lilota_plan_put(
     lost: &mut usize,
     steps: &mut usize,
 ) -> u32
-    ensures { λ r. ⌜ (handing (of-put r (space (now (live .exit)) (now (dead .exit)) (now (free .exit)) (now (lost .exit)))
-        (now (steps .exit))) (now (handed .exit))
+    ensures { λ r. ⌜ (handing (of-put r
+        (space (now (live .exit)) (now (dead .exit)) (now (free .exit)) (now (lost .exit))) (now (steps .exit))) (now (handed .exit))
         (slices (now (kinds .exit)) (now (addresses .exit)) (now (bytes .exit)))
         ≡ planned (Writing.put (now (name .entry)) (now (content .entry))) (now (image .entry)) first
         (slices (now (kinds .entry)) (now (addresses .entry)) (now (bytes .entry))))
@@ -231,8 +231,8 @@ pub extern "C" fn lilota_plan_sweep(
     lost: &mut usize,
     steps: &mut usize,
 ) -> u32
-    ensures { λ r. ⌜ (handing (of-sweep r (now (moves .exit)) (space (now (live .exit)) (now (dead .exit)) (now (free .exit)) (now (lost .exit)))
-        (now (steps .exit))) (now (handed .exit))
+    ensures { λ r. ⌜ (handing (of-sweep r (now (moves .exit))
+        (space (now (live .exit)) (now (dead .exit)) (now (free .exit)) (now (lost .exit))) (now (steps .exit))) (now (handed .exit))
         (slices (now (kinds .exit)) (now (addresses .exit)) (now (bytes .exit)))
         ≡ planned Writing.sweep (now (image .entry)) first
         (slices (now (kinds .entry)) (now (addresses .entry)) (now (bytes .entry))))
@@ -269,8 +269,8 @@ pub extern "C" fn lilota_plan_mount(
     steps: &mut usize,
 ) -> u32
     ensures { λ r. ⌜ (handing
-        (of-mount r (report (now (head .exit)) (now (tail .exit)) (now (files .exit))) (space (now (live .exit)) (now (dead .exit)) (now (free .exit)) (now (lost .exit)))
-        (now (steps .exit)))
+        (of-mount r (report (now (head .exit)) (now (tail .exit)) (now (files .exit)))
+        (space (now (live .exit)) (now (dead .exit)) (now (free .exit)) (now (lost .exit))) (now (steps .exit)))
         (now (handed .exit)) (slices (now (kinds .exit)) (now (addresses .exit)) (now (bytes .exit)))
         ≡ planned Writing.mount (now (image .entry)) first
         (slices (now (kinds .entry)) (now (addresses .entry)) (now (bytes .entry))))

@@ -140,12 +140,14 @@ module _ {im : Image} {v : Survey} (w : Surveyed im v) where
 
 -- ---- put
 
-pub put-by : (p : Place) (s wall : ℕ) (t : Bool) → with-marker p s ≡ t → put-wall p s wall ≡ elim t as (λ b. ℕ) [ true ↦ p .tail | false ↦ wall ]
+pub put-by : (p : Place) (s wall : ℕ) (t : Bool) → with-marker p s ≡ t → put-wall p s wall
+    ≡ elim t as (λ b. ℕ) [ true ↦ p .tail | false ↦ wall ]
 unfolding put-wall
 put-by p s wall t e = ap (λ (u : Bool). elim u as (λ b. ℕ) [ true ↦ p .tail | false ↦ wall ]) e
 
 module _ (p : Place) (z live old wall : ℕ) where
-  pub put-filled-as : {l s o b w : ℕ} {q r : Place} {m : Bool} → l ≡ live → s ≡ z → o ≡ old → w ≡ wall → place-after p z ≡ q → with-marker p z ≡ m
+  pub put-filled-as : {l s o b w : ℕ} {q r : Place} {m : Bool} → l ≡ live → s ≡ z → o ≡ old → w ≡ wall → place-after p z ≡ q
+      → with-marker p z ≡ m
       → r ≡ come-round q → b ≡ elim m as (λ t. ℕ) [ true ↦ p .tail | false ↦ w ]
       → space-filled ((l + s) - o) r b ≡ space-filled ((live + z) - old) (copied-place p z) (put-wall p z wall)
   put-filled-as {w = w} {m = m} e f g h after mark round is =
@@ -155,6 +157,8 @@ module _ (p : Place) (z live old wall : ℕ) where
 
   pub round-small : {q r : Place} → place-after p z ≡ q → r ≡ come-round q → Small p → Small r
   round-small {q} {r} after round w =
-      let head : r .head ≡ p .head = ap (λ (x : Place). x .head) round ∙ round-keeps q .0 ∙ ap (λ (x : Place). x .head) (sym after) ∙ after-head p z .0 in
-      let len : r .length ≡ p .length = ap (λ (x : Place). x .length) round ∙ round-keeps q .1 ∙ ap (λ (x : Place). x .length) (sym after) ∙ after-head p z .1 in
+      let head : r .head ≡ p .head = ap (λ (x : Place). x .head) round ∙ round-keeps q .0 ∙ ap (λ (x : Place). x .head) (sym after)
+      ∙ after-head p z .0 in
+      let len : r .length ≡ p .length = ap (λ (x : Place). x .length) round ∙ round-keeps q .1 ∙ ap (λ (x : Place). x .length) (sym after)
+      ∙ after-head p z .1 in
       (omega (arith, head, w .0), omega (arith, len, w .1))

@@ -91,7 +91,8 @@ module _ (image : Image) (past : Cursor) (p : Place) (c : Copied) (wall : ℕ) w
         known = tt;
       }
 
-  pub over-on : (y : ℕ) → address-of (next-of xs (copy-entry c)) ≡ Copied.At y → Known image (record { cursor = past; place = led-place p y; copy = c })
+  pub over-on : (y : ℕ) → address-of (next-of xs (copy-entry c)) ≡ Copied.At y
+      → Known image (record { cursor = past; place = led-place p y; copy = c })
       → Over-strode image past p c wall
       (Strode.On (record { walk = record { cursor = past; place = led-place p y; copy = c }; wall = led-wall (length image) y wall }))
   over-on y e w =
@@ -104,7 +105,8 @@ module _ (image : Image) (past : Cursor) (p : Place) (c : Copied) (wall : ℕ) w
 
 -- ---- a live X
 
-module _ (image : Image) (x : Spot) (past : Cursor) (p : Place) (c : Copied) (wall : ℕ) (whole : Whole image x) (good : Walkable (length image) p)
+module _ (image : Image) (x : Spot) (past : Cursor) (p : Place) (c : Copied) (wall : ℕ) (whole : Whole image x)
+    (good : Walkable (length image) p)
   where
     abbrev z : ℕ
     z = size-of (x .n) (x .d)
@@ -119,7 +121,8 @@ module _ (image : Image) (x : Spot) (past : Cursor) (p : Place) (c : Copied) (wa
           known = tt;
         }
 
-    pub live-on : (a : ℕ) (m : Bool) (q : Place) (r : Strode) → fits p z ≡ true → address p z ≡ a → with-marker p z ≡ m → place-after p z ≡ q
+    pub live-on : (a : ℕ) (m : Bool) (q : Place) (r : Strode) → fits p z ≡ true → address p z ≡ a → with-marker p z ≡ m → place-after p z
+        ≡ q
         → Over-strode image past (come-round q) (first-of c a) (elim m as (λ b. ℕ) [ true ↦ p .tail | false ↦ wall ]) r
         → Live-strode image x past p c wall r
     live-on a m q r f at mark after o =
@@ -150,9 +153,11 @@ module _ (image : Image) (all : List Entry) (u : Course) where
 
   pub stride-none : rest image (u .walk .cursor) .entries ≡ [] → Strode-on image all u Strode.Stop
   stride-none e =
-      record { is = λ k. ap (λ (xs : List Entry). strode (suc k) all p (u .wall) xs c) e ∙ strode-end (suc k) all p (u .wall) c; known = tt }
+      record { is = λ k. ap (λ (xs : List Entry). strode (suc k) all p (u .wall) xs c) e
+          ∙ strode-end (suc k) all p (u .wall) c; known = tt }
 
-  module _ (x : Spot) (past : Cursor) (e : rest image (u .walk .cursor) .entries ≡ entry-of image x ∷ rest image past .entries) (r : Strode) where
+  module _ (x : Spot) (past : Cursor) (e : rest image (u .walk .cursor) .entries ≡ entry-of image x ∷ rest image past .entries)
+      (r : Strode) where
     pub stride-alive : live all (entry-of image x) ≡ true → Live-strode image x past p (u .walk .copy) (u .wall) r → Strode-on image all u r
     stride-alive l o =
         record { is = λ k. ap (λ (xs : List Entry). strode (suc k) all p (u .wall) xs c) e ∙ o .is k all l; known = o .known }

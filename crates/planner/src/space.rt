@@ -1,5 +1,5 @@
-// What the bytes of the image that a call leaves are good for (02, K3), counted in the first reading: from the live bytes, the place that is
-// read then, and the wall, where the wrap marker stands; without one the wall is the image's end. No call reads its chain again for it.
+// What the bytes of the image that a call leaves are good for (02, K3), counted in the first reading: from the live bytes, the place that
+// is read then, and the wall, where the wrap marker stands; without one the wall is the image's end. No call reads its chain again for it.
 use crate::Count;
 use crate::mount::mended_place;
 use crate::place::come_round;
@@ -161,7 +161,8 @@ fn spot_size(e: Spot) -> usize
 // The size of the file that a put of this name replaces.
 fn replaced(image: &[u8], s: Survey, name: &[u8]) -> usize
     requires { ⌜ Surveyed (now image) s ⌝ }
-    ensures { λ r. ⌜ r ≡ replaced-bytes (first-such (has-name (now (name .entry))) (keep is-file (reading-of (now (image .entry)) s .entries))) ⌝ }
+    ensures { λ r. ⌜ r
+        ≡ replaced-bytes (first-such (has-name (now (name .entry))) (keep is-file (reading-of (now (image .entry)) s .entries))) ⌝ }
 {
     let p = s.place;
     let f = file_named(image, first_cursor(image, p.head), name);

@@ -64,7 +64,8 @@ fn stride_live(
     copy: Copied,
     wall: usize,
 ) -> Strode
-    requires { ⌜ Cursor-sound (now image) past × Whole (now image) x × Below copy (length (now image)) × Walkable (length (now image)) place ⌝ }
+    requires { ⌜ Cursor-sound (now image) past × Whole (now image) x × Below copy (length (now image))
+        × Walkable (length (now image)) place ⌝ }
     requires { ⌜ (x .n ≤ 63) × (x .d < 2 ^ 32) ⌝ }
     ensures { λ r. ⌜ Live-strode (now (image .entry)) x past place copy wall r ⌝ }
 {

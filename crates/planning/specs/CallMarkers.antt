@@ -22,7 +22,8 @@ use Rattle.spec.specs.Sweep.{no-room, stuck}
 use Rattle.spec.specs.Space.{sizes}
 use Rattle.laws.specs.Length.{Good, good}
 use Rattle.laws.specs.Sweep.{room-on, room-live}
-use Rattle.planning.specs.Planned.{led-place, with-status, with-low, copy-of, copied, after-copy, handed, moved-reading, start-if, void-by, voided}
+use Rattle.planning.specs.Planned.{led-place, with-status, with-low, copy-of, copied, after-copy, handed, moved-reading, start-if}
+use Rattle.planning.specs.Planned.{void-by, voided}
 use Rattle.planning.specs.Planned.{dropped, half-mended, mended-reading, move-steps}
 use Rattle.planning.specs.First.{head-recordish, one-of, Pair, pair-of, reads-head}
 use Rattle.planning.specs.Known.{accepted-known}
@@ -59,7 +60,8 @@ void-stands true u e = (refl, refl)
 void-stands false true e = (refl, refl)
 void-stands false false e = (refl, refl)
 
-top-more : (h : ℕ) (e : Entry) (es fs : List Entry) → sizes (upper h es) ≡ sizes (upper h fs) → sizes (upper h (e ∷ es)) ≡ sizes (upper h (e ∷ fs))
+top-more : (h : ℕ) (e : Entry) (es fs : List Entry) → sizes (upper h es) ≡ sizes (upper h fs) → sizes (upper h (e ∷ es))
+    ≡ sizes (upper h (e ∷ fs))
 top-more h e es fs q = go (leb h (e .at)) refl where
   go : (t : Bool) → leb h (e .at) ≡ t → sizes (upper h (e ∷ es)) ≡ sizes (upper h (e ∷ fs))
   go true l = omega (arith, kept-yes (λ f. leb h (f .at)) e es l, kept-yes (λ f. leb h (f .at)) e fs l)
@@ -121,7 +123,8 @@ module _ (im : Image) (r : Reading) (n : good-length (length im) ≡ true) (e : 
         let a = accepted-known im r e in
         let g : Good (length im) = good (length im) n in
         let z = start-stands t y in
-        by (led-place (r .place) (y .at)) (y ∷ us) (half r .place ∙ ap (behind-place (r .place)) q ∙ rw (behind-place, k)) (ap behind q ∙ rw (behind, k))
+        by (led-place (r .place) (y .at)) (y ∷ us) (half r .place ∙ ap (behind-place (r .place)) q ∙ rw (behind-place, k))
+        (ap behind q ∙ rw (behind, k))
         ∙ led-told im (r .place .head) x y us (r .ending) (start-if t y) (z .0) (z .1) (omega (arith, a .inside))
         (pair-of (one-of (head-recordish im (r .place .head) (omega (arith, a .inside, a .even, g .sectors)) (a .low)) (a .reads) q))
     pair x y us q false k = kept q (rw (behind-place, k)) (rw (behind, k))
@@ -185,19 +188,23 @@ module _ (im : Image) (r : Reading) (w : Rested im r) (n : stuck r ≡ false) wh
     first-by x es q true l =
         rw (copied, after-copy, copied-marker, l)
         (put-told p (x ∷ es) (with-status 0x00 x ∷ es) (r .ending) Ending.Tail (copy-of p x)
-        (subst (Topped (p .length) (p .head) (p .tail) (p .turned)) q tops) (top-first (p .head) (with-status 0x00 x) x es refl refl) refl (room x es q l)
-        ∙ ap (put-marker p (size x)) (marker-like p (x ∷ es) (r .entries) (r .ending) (r .ending) (ap (λ (us : List Entry). sizes (upper (p .head) us)) (sym q))))
+        (subst (Topped (p .length) (p .head) (p .tail) (p .turned)) q tops) (top-first (p .head) (with-status 0x00 x) x es refl refl) refl
+        (room x es q l)
+        ∙ ap (put-marker p (size x))
+        (marker-like p (x ∷ es) (r .entries) (r .ending) (r .ending) (ap (λ (us : List Entry). sizes (upper (p .head) us)) (sym q))))
     first-by x es q false l = rw (copied, after-copy, copied-marker, l) (as-is (x ∷ es) q)
 
     go : (es : List Entry) → r .entries ≡ es → marker-told (after-a r) ≡ copied-marker p (r .entries) m
     go [] q =
-        ap (λ (us : List Entry). marker-told (with-both (after-copy p us) (copied p us))) q ∙ as-is [] q ∙ sym (ap (λ (us : List Entry). copied-marker p us m) q)
+        ap (λ (us : List Entry). marker-told (with-both (after-copy p us) (copied p us))) q ∙ as-is [] q
+            ∙ sym (ap (λ (us : List Entry). copied-marker p us m) q)
     go (x ∷ es) q =
         ap (λ (us : List Entry). marker-told (with-both (after-copy p us) (copied p us))) q ∙ first-by x es q _ refl
         ∙ sym (ap (λ (us : List Entry). copied-marker p us m) q)
 
 -- (b) to (f), of an image with a second record
-handed-told : {im : Image} (q : Place) (us : List Entry) → Good (length im) → Rested im (record { place = q; entries = us; ending = Ending.Tail }) → 2 ≤ length us
+handed-told : {im : Image} (q : Place) (us : List Entry) → Good (length im)
+    → Rested im (record { place = q; entries = us; ending = Ending.Tail }) → 2 ≤ length us
     → marker-told (handed q us) ≡ handed-marker us (marker-told (record { place = q; entries = us; ending = Ending.Tail }))
 unfolding handed handed-marker
 handed-told q [] g w l = absurd (omega arith)
@@ -206,7 +213,8 @@ handed-told {im} q (x ∷ (y ∷ es)) g w l =
     led-told im (q .head) x y es Ending.Tail (with-low 0x00 y) refl refl (omega (arith, w .inside))
     (pair-of (one-of (head-recordish im (q .head) (omega (arith, w .inside, w .even, g .sectors)) (w .low)) (w .reads) refl))
 
-pub move-marked : (im : Image) → Good (length im) → (r : Reading) → Rested im r → stuck r ≡ false → marker-told (moved-reading r) ≡ moved-marker r (marker-told r)
+pub move-marked : (im : Image) → Good (length im) → (r : Reading) → Rested im r → stuck r ≡ false → marker-told (moved-reading r)
+    ≡ moved-marker r (marker-told r)
 move-marked im g r w n =
     let a : First im r = first im g r w n in
     handed-told (after-copy (r .place) (r .entries)) (copied (r .place) (r .entries)) (subst Good (sym (a .len)) g) (a .rested) (a .two)
@@ -214,7 +222,8 @@ move-marked im g r w n =
 
 -- ---- the sweep
 
-pub sweep-marked : (k : ℕ) (im : Image) → Good (length im) → (r : Reading) → Rested im r → marker-told (swept-reading k r) ≡ swept-marker k r (marker-told r)
+pub sweep-marked : (k : ℕ) (im : Image) → Good (length im) → (r : Reading) → Rested im r → marker-told (swept-reading k r)
+    ≡ swept-marker k r (marker-told r)
 unfolding swept-reading swept-marker
 sweep-marked zero im g r w = refl
 sweep-marked (suc k) im g r w = go _ refl (sweep-marked k) where

@@ -36,7 +36,8 @@ map-kept q [] w = refl
 map-kept q (e ∷ es) w = ap₂ (λ (a : Entry) (l : List Entry). a ∷ l) (ap (λ (b : Bool). dead-if b e) (w .0)) (map-kept q es (w .1))
 
 -- of records that are apart, only the first is taken
-pub first-taken : (x : Entry) (es : List Entry) → Each (λ y. y .at ≡ x .at → ⊥) es → map (drop-if (stands-at (x .at))) (x ∷ es) ≡ with-status 0x00 x ∷ es
+pub first-taken : (x : Entry) (es : List Entry) → Each (λ y. y .at ≡ x .at → ⊥) es → map (drop-if (stands-at (x .at))) (x ∷ es)
+    ≡ with-status 0x00 x ∷ es
 first-taken x es s =
     ap₂ (λ (b : Bool) (l : List Entry). dead-if b x ∷ l) (eq-eqb (x .at) (x .at) refl)
     (map-kept (stands-at (x .at)) es
@@ -48,7 +49,8 @@ module _ (im : Image) (g : Good (length im)) {r : Reading} (w : Rested im r) {x 
   known : (length (name-of x) < 64) × Nameable (name-of x)
   known =
       finished-name (omega arith)
-      (first-at (one-of (head-recordish im (r .place .head) (omega (arith, w .inside, w .even, g .sectors)) (w .low)) (w .reads) q) .stands) f
+      (first-at (one-of (head-recordish im (r .place .head) (omega (arith, w .inside, w .even, g .sectors)) (w .low))
+      (w .reads) q) .stands) f
 
   only : (i : ℕ) → i < length im → Aside (stands-at (x .at)) i (r .entries) → i ≡ x .at + 2 → ⊥
   only i l o e = subst (Aside (stands-at (x .at)) i) q o .0 (eq-eqb (x .at) (x .at) refl) e

@@ -85,7 +85,8 @@ module _ (p : Entry → Bool) where
     go false h ih = omega (arith, kept-no e (es ++ fs) h, kept-no e es h)
 
   -- a last record that does not pass, within the first k or not
-  pub kept-last : (k : ℕ) (es : List Entry) (c : Entry) → p c ≡ false → sizes (keep p (take k (es ++ (c ∷ [])))) ≡ sizes (keep p (take k es))
+  pub kept-last : (k : ℕ) (es : List Entry) (c : Entry) → p c ≡ false → sizes (keep p (take k (es ++ (c ∷ []))))
+      ≡ sizes (keep p (take k es))
   kept-last zero es c h = refl
   kept-last (suc k) [] c h = kept-no c (take k []) h ∙ nil k where
     nil : (j : ℕ) → sizes (keep p (take j [])) ≡ 0

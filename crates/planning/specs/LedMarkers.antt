@@ -53,7 +53,8 @@ rows-top : {im : Image} {lim lim' : ℕ} {h : ℕ} {o o' : Bool} {es fs : List E
 rows-top {h = h} {fs = fs} l row rows = omega (arith, row-upper h fs (omega arith) row, row-lower h l rows, row-sizes row)
 
 -- the row from the second record on
-row-second : {im : Image} {lim : ℕ} {o : Bool} {a : ℕ} {x y : Entry} {es : List Entry} {p : Bool} {b : ℕ} → Row im lim o a (x ∷ (y ∷ es)) p b
+row-second : {im : Image} {lim : ℕ} {o : Bool} {a : ℕ} {x y : Entry} {es : List Entry} {p : Bool} {b : ℕ}
+    → Row im lim o a (x ∷ (y ∷ es)) p b
     → Row im lim (is-unfinished (x .it .status)) (y .at) (y ∷ es) p b
 row-second {im} {lim} {x = x} {y = y} {es = es} {p = p} {b = b} row =
     let c = row-cons row in
@@ -69,7 +70,8 @@ module _ (im : Image) (h : ℕ) (x y : Entry) (es : List Entry) (d : Ending) (z 
   with-place q = record { place = q; entries = z ∷ es; ending = d }
 
   -- before the turn
-  here-led : (T : ℕ) → (y .at ≡ 0 → ⊥) → top (y .at) (z ∷ es) ≡ T → marker-told (with-place (led-place (place-of N h T false) (y .at))) ≡ none
+  here-led : (T : ℕ) → (y .at ≡ 0 → ⊥) → top (y .at) (z ∷ es) ≡ T → marker-told (with-place (led-place (place-of N h T false) (y .at)))
+      ≡ none
   unfolding led-place
   here-led T n t = go _ refl _ refl where
     q : Place
@@ -93,7 +95,8 @@ module _ (im : Image) (h : ℕ) (x y : Entry) (es : List Entry) (d : Ending) (z 
       let on : (true && not (eqb (y .at) 0)) ≡ true = ap not (ne-eqb (y .at) 0 n) in
       let q : led-place (place-of N h T true) (y .at) ≡ place-of N (y .at) T true =
       ap (λ (u : Bool). come-round (place-of N (y .at) T u)) on ∙ round-turned (place-of N (y .at) T true) refl in
-      ap (λ (a : Place). marker-told (with-place a)) q ∙ told-turned (place-of N (y .at) T true) (z ∷ es) d refl ∙ ap (marker-at N) t ∙ sym e
+      ap (λ (a : Place). marker-told (with-place a)) q ∙ told-turned (place-of N (y .at) T true) (z ∷ es) d refl ∙ ap (marker-at N) t
+          ∙ sym e
 
   -- after it, with Y at 0
   low-led : (T : ℕ) → y .at ≡ 0 → marker-told (with-place (led-place (place-of N h T true) (y .at))) ≡ none

@@ -26,7 +26,8 @@ use Rattle.planning.specs.Planned.{come-round, copied-place, with-status
 use Rattle.planning.specs.Row.{Row, row-none, row-more, row-end}
 use Rattle.planning.specs.Frame.{row-le}
 use Rattle.planning.specs.Reads.{Reads, reads-here, reads-round, reads-torn}
-use Rattle.planning.specs.Places.{place-of, round-on, round-off, round-turned, tail-address, tail-unmarked, tail-after, tail-room, zero-address, zero-marked, zero-turned, zero-after}
+use Rattle.planning.specs.Places.{place-of, round-on, round-off, round-turned, tail-address, tail-unmarked, tail-after, tail-room}
+use Rattle.planning.specs.Places.{zero-address, zero-marked, zero-turned, zero-after}
 use Rattle.planning.specs.Dropped.{drop-if}
 use Rattle.planning.specs.First.{reads-head}
 use Rattle.planning.specs.Rested.{Rested}
@@ -89,7 +90,8 @@ pub told-turned : (p : Place) (es : List Entry) (e : Ending) → p .turned ≡ t
 unfolding marker-told
 told-turned p es e t = rw (marker-told, t)
 
-pub told-straight : (p : Place) (es : List Entry) (e : Ending) → p .turned ≡ false → marker-told (record { place = p; entries = es; ending = e }) ≡ none
+pub told-straight : (p : Place) (es : List Entry) (e : Ending) → p .turned ≡ false
+    → marker-told (record { place = p; entries = es; ending = e }) ≡ none
 unfolding marker-told
 told-straight p es e t = rw (marker-told, t)
 
@@ -211,13 +213,15 @@ top-dropped q h (e ∷ es) = go (q e) (leb h (e .at)) refl (top-dropped q h es) 
   go true true l ih =
       kept-yes (λ f. leb h (f .at)) (with-status 0x00 e) (map (drop-if q) es) l ∙ ap (λ (n : ℕ). size e + n) ih
       ∙ sym (kept-yes (λ f. leb h (f .at)) e es l)
-  go true false l ih = kept-no (λ f. leb h (f .at)) (with-status 0x00 e) (map (drop-if q) es) l ∙ ih ∙ sym (kept-no (λ f. leb h (f .at)) e es l)
+  go true false l ih = kept-no (λ f. leb h (f .at)) (with-status 0x00 e) (map (drop-if q) es) l ∙ ih
+      ∙ sym (kept-no (λ f. leb h (f .at)) e es l)
   go false true l ih =
       kept-yes (λ f. leb h (f .at)) e (map (drop-if q) es) l ∙ ap (λ (n : ℕ). size e + n) ih ∙ sym (kept-yes (λ f. leb h (f .at)) e es l)
   go false false l ih = kept-no (λ f. leb h (f .at)) e (map (drop-if q) es) l ∙ ih ∙ sym (kept-no (λ f. leb h (f .at)) e es l)
 
 -- the marker after a put, on a settled image
-pub put-marked : {im : Image} {r : Reading} (name content : List ℕ) → Rested im r → fits (r .place) (size-of (length name) (length content)) ≡ true
+pub put-marked : {im : Image} {r : Reading} (name content : List ℕ) → Rested im r
+    → fits (r .place) (size-of (length name) (length content)) ≡ true
     → marker-told (put-left name content r) ≡ put-marker (r .place) (size-of (length name) (length content)) (marker-told r)
 put-marked {im} {r} name content w k =
     let p : Place = r .place in

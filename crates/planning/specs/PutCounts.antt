@@ -25,7 +25,8 @@ use Rattle.planning.specs.Lone.{any-first, any-both, Unrivalled, Apart}
 use Rattle.planning.specs.PutRested.{stands-at}
 use Rattle.planning.specs.Copied.{map-kept, first-taken}
 use Rattle.planning.specs.Puts.{old-at, first-kept, put-left, new-record}
-use Rattle.planning.specs.Filed.{filed, unfiled, Plain, each-live, plain-live, plain-dead, kept-yes, kept-no, kept-both, settled-plain}
+use Rattle.planning.specs.Filed.{filed, unfiled, Plain, each-live, plain-live, plain-dead, kept-yes, kept-no, kept-both}
+use Rattle.planning.specs.Filed.{settled-plain}
 
 -- ---- the record that is taken
 
@@ -94,17 +95,21 @@ module _ (all : List Entry) (n : List ℕ) (e : Entry) where
           omega (arith, both unfiled, kept-yes unfiled f ds u, kept-yes unfiled f es u, w .1),
         )
 
-  counted : (es : List Entry) → Each (λ f. live all f ≡ filed f) es → Scattered es → first-such (has-name n) (keep (live all) es) ≡ some e → Counted es
+  counted : (es : List Entry) → Each (λ f. live all f ≡ filed f) es → Scattered es → first-such (has-name n) (keep (live all) es) ≡ some e
+      → Counted es
   counted [] u s h = absurd (let z : _≡_ {A = ℕ} 0 1 = cc in omega arith)
   counted (f ∷ es) u s h = go _ refl _ refl (counted es (u .1) (s .1)) where
-    go : (a : Bool) → live all f ≡ a → (b : Bool) → has-name n f ≡ b → (first-such (has-name n) (keep (live all) es) ≡ some e → Counted es) → Counted (f ∷ es)
+    go : (a : Bool) → live all f ≡ a → (b : Bool) → has-name n f ≡ b → (first-such (has-name n) (keep (live all) es) ≡ some e → Counted es)
+        → Counted (f ∷ es)
     go true a true b ih =
-        let k : some f ≡ some e = sym (first-yes (has-name n) f (keep (live all) es) b) ∙ ap (first-such (has-name n)) (sym (keep-yes (live all) f es a)) ∙ h in
+        let k : some f ≡ some e = sym (first-yes (has-name n) f (keep (live all) es) b)
+        ∙ ap (first-such (has-name n)) (sym (keep-yes (live all) f es a)) ∙ h in
         let z : e ≡ f = cc in
         subst (λ (g : Entry). Counted (g ∷ es)) z
         (counted-here es (ap filed z ∙ sym (u .0) ∙ a) (subst (λ (g : Entry). Each (λ y. y .at ≡ g .at → ⊥) es) (sym z) (s .0)))
     go true a false b ih =
-        let k = sym (first-no (has-name n) f (keep (live all) es) b) ∙ ap (first-such (has-name n)) (sym (keep-yes (live all) f es a)) ∙ h in
+        let k = sym (first-no (has-name n) f (keep (live all) es) b) ∙ ap (first-such (has-name n)) (sym (keep-yes (live all) f es a))
+        ∙ h in
         counted-later f es (later-not f es (s .0) k) (ih k)
     go false a b q ih =
         let k = ap (first-such (has-name n)) (sym (keep-no (live all) f es a)) ∙ h in
@@ -128,16 +133,21 @@ module _ (all : List Entry) (n : List ℕ) (t : Entry → Bool) where
       → Each (Nameless t n) es
   none-named [] u h = tt
   none-named (f ∷ es) u h = go _ refl _ refl (none-named es (u .1)) where
-    go : (a : Bool) → live all f ≡ a → (b : Bool) → has-name n f ≡ b → (first-such (has-name n) (keep (live all) es) ≡ none → Each (Nameless t n) es)
+    go : (a : Bool) → live all f ≡ a → (b : Bool) → has-name n f ≡ b
+        → (first-such (has-name n) (keep (live all) es) ≡ none → Each (Nameless t n) es)
         → Each (Nameless t n) (f ∷ es)
-    go true a true b ih = absurd (some-not (sym (first-yes (has-name n) f (keep (live all) es) b) ∙ ap (first-such (has-name n)) (sym (keep-yes (live all) f es a)) ∙ h))
+    go true a true b ih =
+        absurd (some-not (sym (first-yes (has-name n) f (keep (live all) es) b)
+        ∙ ap (first-such (has-name n)) (sym (keep-yes (live all) f es a)) ∙ h))
       where
         some-not : some f ≡ none → ⊥
         some-not q = let z : _≡_ {A = ℕ} 0 1 = cc in omega arith
     go true a false b ih =
-        (λ o k. b, ih (sym (first-no (has-name n) f (keep (live all) es) b) ∙ ap (first-such (has-name n)) (sym (keep-yes (live all) f es a)) ∙ h))
+        (λ o k. b, ih (sym (first-no (has-name n) f (keep (live all) es) b)
+        ∙ ap (first-such (has-name n)) (sym (keep-yes (live all) f es a)) ∙ h))
     go false a b q ih =
-        (λ o k. absurd (not-both (live all f) a (u .0 ∙ filed-F8 f k)), ih (ap (first-such (has-name n)) (sym (keep-no (live all) f es a)) ∙ h))
+        (λ o k. absurd (not-both (live all f) a (u .0 ∙ filed-F8 f k)), ih (ap (first-such (has-name n)) (sym (keep-no (live all) f es a))
+        ∙ h))
 
   -- with one
   module _ (e : Entry) where
@@ -146,9 +156,11 @@ module _ (all : List Entry) (n : List ℕ) (t : Entry → Bool) where
     one-named [] u w h = tt
     one-named (f ∷ es) u w h = go _ refl _ refl (one-named es (u .1) (w .1)) where
       go : (a : Bool) → live all f ≡ a → (b : Bool) → has-name n f ≡ b
-          → (first-such (has-name n) (keep (live all) es) ≡ some e → Each (Nameless (stands-at (e .at)) n) es) → Each (Nameless (stands-at (e .at)) n) (f ∷ es)
+          → (first-such (has-name n) (keep (live all) es) ≡ some e → Each (Nameless (stands-at (e .at)) n) es)
+          → Each (Nameless (stands-at (e .at)) n) (f ∷ es)
       go true a true b ih =
-          let k : some f ≡ some e = sym (first-yes (has-name n) f (keep (live all) es) b) ∙ ap (first-such (has-name n)) (sym (keep-yes (live all) f es a)) ∙ h in
+          let k : some f ≡ some e = sym (first-yes (has-name n) f (keep (live all) es) b)
+          ∙ ap (first-such (has-name n)) (sym (keep-yes (live all) f es a)) ∙ h in
           let z : f ≡ e = cc in
           let name : name-of f ≡ n = same-is (name-of f) n b in
           let filed-f : filed f ≡ true = sym (u .0) ∙ a in (
@@ -157,9 +169,11 @@ module _ (all : List Entry) (n : List ℕ) (t : Entry → Bool) where
                 (λ y v o k. ap (same (name-of y)) (sym name) ∙ v filed-f k) (w .0),
           )
       go true a false b ih =
-          (λ o k. b, ih (sym (first-no (has-name n) f (keep (live all) es) b) ∙ ap (first-such (has-name n)) (sym (keep-yes (live all) f es a)) ∙ h))
+          (λ o k. b, ih (sym (first-no (has-name n) f (keep (live all) es) b)
+          ∙ ap (first-such (has-name n)) (sym (keep-yes (live all) f es a)) ∙ h))
       go false a b q ih =
-          (λ o k. absurd (not-both (live all f) a (u .0 ∙ filed-F8 f k)), ih (ap (first-such (has-name n)) (sym (keep-no (live all) f es a)) ∙ h))
+          (λ o k. absurd (not-both (live all f) a (u .0 ∙ filed-F8 f k)), ih
+          (ap (first-such (has-name n)) (sym (keep-no (live all) f es a)) ∙ h))
 
 -- ---- the new record behind them
 
@@ -190,13 +204,15 @@ module _ (t : Entry → Bool) where
         any-both (named-as 0xFC y) (map (drop-if t) all) (new ∷ []) (dropped-none y all (u h))
         (any-no (named-as 0xFC y) new [] (and-no (named 0xFC new) (same-name y new) (λ k. w q h)))
 
-    each-after : (us : List Entry) → Each (Unrivalled all) us → Each (Nameless t (name-of new)) us → Each (Unrivalled after) (map (drop-if t) us)
+    each-after : (us : List Entry) → Each (Unrivalled all) us → Each (Nameless t (name-of new)) us
+        → Each (Unrivalled after) (map (drop-if t) us)
     each-after [] u w = tt
     each-after (y ∷ us) u w = (one-after y (t y) refl (u .0) (w .0), each-after us (u .1) (w .1))
 
     plain-after : Each (Unrivalled all) all → Each (Nameless t (name-of new)) all → Each (Unrivalled after) after
     plain-after u w =
-        each-append (Unrivalled after) (map (drop-if t) all) (new ∷ []) (each-after all u w) (λ h. absurd (not-both (named 0xF8 new) late h), tt)
+        each-append (Unrivalled after) (map (drop-if t) all) (new ∷ []) (each-after all u w)
+        (λ h. absurd (not-both (named 0xF8 new) late h), tt)
 
 -- ---- the put
 
@@ -241,7 +257,8 @@ module _ (im : Image) (r : Reading) (name content : List ℕ) (e : settled-readi
   counts-by ds o w c =
       let all : List Entry = ds ++ (new ∷ []) in (
         omega (arith, plain-live all w, plain-live es (plain .rest), kept-both filed ds (new ∷ []), kept-yes filed new [] new-filed, c .0),
-        omega (arith, plain-dead all w, plain-dead es (plain .rest), kept-both unfiled ds (new ∷ []), kept-no unfiled new [] (ap not new-filed), c .1),
+        omega (arith, plain-dead all w, plain-dead es (plain .rest), kept-both unfiled ds (new ∷ []), kept-no unfiled new []
+        (ap not new-filed), c .1),
       )
 
   -- no record stands at the end
@@ -254,13 +271,15 @@ module _ (im : Image) (r : Reading) (name content : List ℕ) (e : settled-readi
 
   -- by the file that is replaced, or none
   counts : (old : Option Entry) → file-named name es ≡ old
-      → (live-bytes (left old) + replaced-bytes old ≡ live-bytes es + size new) × (sizes (others (left old)) ≡ sizes (others es) + replaced-bytes old)
+      → (live-bytes (left old) + replaced-bytes old ≡ live-bytes es + size new) × (sizes (others (left old))
+      ≡ sizes (others es) + replaced-bytes old)
   unfolding file-named
   counts none h =
       let t : Entry → Bool = stands-at (r .place .length) in
       let is : map (drop-if t) es ≡ es = map-kept t es none-taken in
       counts-by (map (drop-if t) es) 0 (plain-after t es new new-late (plain .rest) (none-named es name t es alive h))
-      (omega (arith, ap (λ (us : List Entry). sizes (keep filed us)) is), omega (arith, ap (λ (us : List Entry). sizes (keep unfiled us)) is))
+      (omega (arith, ap (λ (us : List Entry). sizes (keep filed us)) is), omega
+      (arith, ap (λ (us : List Entry). sizes (keep unfiled us)) is))
   counts (some f) h =
       counts-by (map (drop-if (stands-at (f .at))) es) (size f)
       (plain-after (stands-at (f .at)) es new new-late (plain .rest) (one-named es name (stands-at (f .at)) f es alive (plain .apart) h))

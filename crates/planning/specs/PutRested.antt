@@ -53,9 +53,11 @@ replaced-at N a es f o =
 -- ---- what is left
 
 -- x: name and content of the new record, address and status of the replaced one
-module _ (im : Image) (g : Good (length im)) {r : Reading} (w : Rested im r) (x : Entry) (known : (length (name-of x) < 64) × Nameable (name-of x))
+module _ (im : Image) (g : Good (length im)) {r : Reading} (w : Rested im r) (x : Entry)
+    (known : (length (name-of x) < 64) × Nameable (name-of x))
     {y : Entry} {es : List Entry} (first : r .entries ≡ y ∷ es)
-    (only : (i : ℕ) → i < length im → Aside (stands-at (x .at)) i (r .entries) → i ≡ x .at + 2 → ⊥) (k : fits (r .place) (size x) ≡ true) where
+    (only : (i : ℕ) → i < length im → Aside (stands-at (x .at)) i (r .entries) → i ≡ x .at + 2 → ⊥) (k : fits (r .place) (size x)
+    ≡ true) where
   abbrev h : ℕ
   h = r .place .head
 
@@ -63,7 +65,8 @@ module _ (im : Image) (g : Good (length im)) {r : Reading} (w : Rested im r) (x 
   q = stands-at (x .at)
 
   replaced : Replaced q (length im) (x .at) (y ∷ es)
-  replaced = subst (Replaced q (length im) (x .at)) first (replaced-at (length im) (x .at) (r .entries) (reads-finished (w .reads) (w .closed)) only)
+  replaced = subst (Replaced q (length im) (x .at)) first
+      (replaced-at (length im) (x .at) (r .entries) (reads-finished (w .reads) (w .closed)) only)
 
   one : One im h r y es
   one = one-of (head-recordish im h (omega (arith, w .inside, w .even, g .sectors)) (w .low)) (w .reads) first

@@ -83,7 +83,8 @@ old-status (some e) = e .it .status
 
 -- the new record, with the replaced one's address and status
 abbrev in-place : Option Entry → ℕ → List ℕ → List ℕ → Entry
-in-place old N name content = record { at = old-at old N; it = record { low = 0xA5; status = old-status old; name = name; content = content } }
+in-place old N name content =
+    record { at = old-at old N; it = record { low = 0xA5; status = old-status old; name = name; content = content } }
 
 -- what holds of every record that passes p holds of the first such that passes q
 pub first-kept : (p q : Entry → Bool) (es : List Entry) (e : Entry) (P : Entry → Type 0) → first-such q (keep p es) ≡ some e
@@ -132,7 +133,8 @@ put-is im p name content none =
 -- the new record
 abbrev pub new-record : Place → List ℕ → List ℕ → Entry
 new-record p name content =
-    record { at = address p (size-of (length name) (length content)); it = record { low = 0xA5; status = 0xFC; name = name; content = content } }
+    record { at = address p (size-of (length name) (length content)); it =
+        record { low = 0xA5; status = 0xFC; name = name; content = content } }
 
 -- what is read after the put of this name and content
 abbrev pub put-left : List ℕ → List ℕ → Reading → Reading
@@ -140,7 +142,8 @@ put-left name content r =
     record {
       place = copied-place (r .place) (size-of (length name) (length content));
       entries =
-          map (drop-if (stands-at (old-at (file-named name (r .entries)) (r .place .length)))) (r .entries) ++ (new-record (r .place) name content ∷ []);
+          map (drop-if (stands-at (old-at (file-named name (r .entries)) (r .place .length)))) (r .entries) ++
+          (new-record (r .place) name content ∷ []);
       ending = Ending.Tail;
     }
 
@@ -167,7 +170,8 @@ module _ (im : Image) (r : Reading) (name content : List ℕ) (g : Good (length 
     at = ap (old-at old) (sym (reads-head (w .reads) .1))
 
     go : (us : List Entry) → r .entries ≡ us → Rested left (put-left name content r)
-    go [] q = absurd (reads-filled (head-recordish im (r .place .head) (omega (arith, w .inside, w .even, g .sectors)) (w .low)) (w .reads) q)
+    go [] q = absurd (reads-filled (head-recordish im (r .place .head) (omega (arith, w .inside, w .even, g .sectors)) (w .low))
+        (w .reads) q)
     go (y ∷ us) q =
         let k : fits (r .place) (size-of (length name) (length content)) ≡ true =
         room-fits (r .place) name (size-of (length name) (length content)) (r .entries) f in
@@ -176,5 +180,6 @@ module _ (im : Image) (r : Reading) (name content : List ℕ) (g : Good (length 
           entries = map (drop-if (stands-at a)) (r .entries) ++ (new-record (r .place) name content ∷ []);
           ending = Ending.Tail;
         })) at
-        (subst (λ (i : Image). Rested i (put-reading (stands-at (old-at old N)) (r .place) x (r .entries))) (sym (put-is im (r .place) name content old))
+        (subst (λ (i : Image). Rested i (put-reading (stands-at (old-at old N)) (r .place) x (r .entries)))
+        (sym (put-is im (r .place) name content old))
         (new-rested im g w x (good-name name n) q (old-only N name (r .entries) old refl) k))

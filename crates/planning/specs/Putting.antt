@@ -104,7 +104,8 @@ module _ (im : Image) (g : Good (length im)) {h : ℕ} (x : Entry) (l : h < leng
   a = x .at
 
   -- before the turn
-  module _ {T : ℕ} {y : Entry} {es : List Entry} (row : Row im N false h (y ∷ es) false T) (below : Free im 0 (floor h)) (free : Free im T N)
+  module _ {T : ℕ} {y : Entry} {es : List Entry} (row : Row im N false h (y ∷ es) false T) (below : Free im 0 (floor h))
+      (free : Free im T N)
       (o : Replaced q N a (y ∷ es)) where
     abbrev p : Place
     p = place-of N h T false
@@ -156,7 +157,8 @@ module _ (im : Image) (g : Good (length im)) {h : ℕ} (x : Entry) (l : h < leng
           (subst (λ (t : Bool). Row left (length left) false T (copy-of p x ∷ []) t (T + size x)) committed-finished
           (row-more (copy-of p x) at-T
           (new-stands im p x (omega (arith, at-T, room))
-          (off-by (a + 2) (address p (size x)) (size x) (λ i u v. beyond i (omega (arith, at-T, room)) (inr (omega (arith, at-T))))) unmarked
+          (off-by (a + 2) (address p (size x)) (size x)
+          (λ i u v. beyond i (omega (arith, at-T, room)) (inr (omega (arith, at-T))))) unmarked
           (length left) (omega (arith, at-T, room, len)) (omega (arith, len)) known (omega (arith, room, g .most))
           (free (address p (size x) + 3) (omega (arith, at-T)) (omega (arith, at-T, room))))
           row-none))
@@ -242,8 +244,10 @@ module _ (im : Image) (g : Good (length im)) {h : ℕ} (x : Entry) (l : h < leng
           }
 
   -- after the turn
-  module _ {b T : ℕ} {y : Entry} {us vs : List Entry} {z : Next} (row : Row im N false h (y ∷ us) false b) (s : Stop im N false b z) (t : Turns z)
-      (n : floor h ≡ 0 → ⊥) (rows : Row im (floor h) false 0 vs false T) (free : Free im T (floor h)) (o : Replaced q N a ((y ∷ us) ++ vs)) where
+  module _ {b T : ℕ} {y : Entry} {us vs : List Entry} {z : Next} (row : Row im N false h (y ∷ us) false b) (s : Stop im N false b z)
+      (t : Turns z)
+      (n : floor h ≡ 0 → ⊥) (rows : Row im (floor h) false 0 vs false T) (free : Free im T (floor h))
+      (o : Replaced q N a ((y ∷ us) ++ vs)) where
     abbrev d : Place
     d = place-of N h T true
 

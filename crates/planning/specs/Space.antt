@@ -1,4 +1,5 @@
--- Request K3: live, dead, free and lost bytes sum to N, wherever a chain without a torn wrap is read, and can be told from the reading alone.
+-- Request K3: live, dead, free and lost bytes sum to N, wherever a chain without a torn wrap is read, and can be told from the reading
+-- alone.
 use Prim.Native.Nat.{ℕ, _+_, _-_, _≤_, _<_}
 use native.Mathlib.Omega.{arith}
 use mathlib.Core.Path.{_≡_, refl, sym, ap, ap₂, _∙_, subst}
@@ -20,7 +21,8 @@ use Rattle.spec.specs.Next.{next}
 use Rattle.spec.specs.Chain.{Reading, read, from-head, reading-from}
 use Rattle.spec.specs.Files.{live, files}
 use Rattle.spec.specs.declared.Space.{Space}
-use Rattle.spec.specs.Space.{sizes, live-bytes, others, marker-of, marker-bytes, dead-bytes, free-bytes, behind-marker, lost-bytes, space-by, space-of}
+use Rattle.spec.specs.Space.{sizes, live-bytes, others, marker-of, marker-bytes, dead-bytes, free-bytes, behind-marker, lost-bytes}
+use Rattle.spec.specs.Space.{space-by, space-of}
 use Rattle.laws.specs.Lists.{keep-yes, keep-no}
 use Rattle.laws.specs.Fits.{Fits, allowed-fits}
 use Rattle.planning.specs.Row.{stretch-length, Row, row-none, row-more, row-end}
@@ -136,7 +138,8 @@ module _ {im : Image} {h : ℕ} (l : h ≤ length im) where
         sum = omega (arith, row-sizes row, end .1, sizes-all es);
       }
 
-  round-counted : {es fs : List Entry} {p q : Bool} {b T : ℕ} {x : Next} → Row im (length im) false h es p b → Stop im (length im) p b x → Turns x
+  round-counted : {es fs : List Entry} {p q : Bool} {b T : ℕ} {x : Next} → Row im (length im) false h es p b → Stop im (length im) p b x
+      → Turns x
       → (floor h ≡ 0 → ⊥) → Row im (floor h) p 0 fs q T → Counted im h (tail-read (length im) h T true (es ++ fs))
   unfolding marker-told free-bytes
   round-counted {es} {fs} {p} {q} {b} {T} {x} row s t n rows =
@@ -145,7 +148,8 @@ module _ {im : Image} {h : ℕ} (l : h ≤ length im) where
       let end = row-end l row in
       let low = row-end (omega arith) rows in
       let m = turn-marker im h es p b n (end .1) x t s in
-      let up : h + sizes (upper h (es ++ fs)) ≡ b = omega (arith, row-upper h fs (omega arith) row, row-lower h (omega (arith, low .1)) rows, row-sizes row) in
+      let up : h + sizes (upper h (es ++ fs))
+      ≡ b = omega (arith, row-upper h fs (omega arith) row, row-lower h (omega (arith, low .1)) rows, row-sizes row) in
       let told : marker-told r ≡ marker-at N b = ap (marker-at N) up in
       let all : live-bytes (es ++ fs) + sizes (others (es ++ fs)) ≡ (b - h) + T =
       sizes-all (es ++ fs) ∙ omega (arith, sizes-both es fs, row-sizes row, row-sizes rows) in

@@ -22,7 +22,8 @@ use Rattle.spec.specs.Mount.{mended}
 use Rattle.spec.specs.Sweep.{no-room, stuck, moves, sweep-moves}
 use Rattle.spec.specs.Door.{accepted, admitted, admitted-named, settled-reading}
 use Rattle.spec.specs.Numbers.{of-mount}
-use Rattle.spec.specs.Answers.{Plan, report-of, mount-work, mount-of, mount-plan, putting, put-into, put-plan, sweeping, sweep-of, sweep-plan}
+use Rattle.spec.specs.Answers.{Plan, report-of, mount-work, mount-of, mount-plan, putting, put-into, put-plan, sweeping, sweep-of}
+use Rattle.spec.specs.Answers.{sweep-plan}
 use Rattle.spec.specs.declared.Space.{Space}
 use Rattle.spec.specs.Space.{space-by, space-of, space-left, put-work, swept, sweep-work}
 use Rattle.laws.specs.Length.{Good, good}
@@ -144,7 +145,8 @@ sweeps : (k : ℕ) (im : Image) (r : Reading) → Good (length im) → Rested im
 unfolding moves swept swept-reading
 sweeps zero im r g w = record { image = refl; len = refl; rested = w; head = refl }
 sweeps (suc k) im r g w = go _ refl (sweeps k) where
-  go : (t : Bool) → stuck r ≡ t → ((i : Image) (s : Reading) → Good (length i) → Rested i s → Swept i (moves k i s) (swept-reading k s) (swept k i s))
+  go : (t : Bool) → stuck r ≡ t
+      → ((i : Image) (s : Reading) → Good (length i) → Rested i s → Swept i (moves k i s) (swept-reading k s) (swept k i s))
       → Swept im (moves (suc k) im r) (swept-reading (suc k) r) (swept (suc k) im r)
   go true e ih = rw (moves, swept, swept-reading, e) (record { image = refl; len = refl; rested = w; head = refl })
   go false e ih =
@@ -162,7 +164,8 @@ sweeps (suc k) im r g w = go _ refl (sweeps k) where
         head = s .head;
       } in
       rw (moves, swept, swept-reading, e)
-      (subst (λ (v : Work). Swept im (v .steps ∷ moves k (v .image) (v .reading)) (swept-reading k (moved-reading r)) (swept k (v .image) (v .reading)))
+      (subst (λ (v : Work). Swept im (v .steps ∷ moves k (v .image) (v .reading)) (swept-reading k (moved-reading r))
+      (swept k (v .image) (v .reading)))
       (sym (m .is)) all)
 
 pub sweep-leaves : (im : Image) (r : Reading) → Good (length im) → Rested im r
@@ -178,7 +181,8 @@ plan-of mount im = mount-plan im
 plan-of (put name content) im = put-plan name content im
 plan-of sweep im = sweep-plan im
 
--- of a call with the plan p: the record that it gives back is that of the image after its steps, the first reading tells it, and it sums to N
+-- of a call with the plan p: the record that it gives back is that of the image after its steps, the first reading tells it, and it sums
+-- to N
 pub record Tells (c : Telling) (im : Image) (p : Plan) : Type 0 where
   pub work : Work
   pub image : work .image ≡ run im (p .steps)

@@ -26,7 +26,8 @@ use Rattle.planning.specs.Lone.{Lone, lone-first, lone-passed, lone-copi
 use Rattle.planning.specs.Places.{copied-head, led-length}
 use Rattle.planning.specs.Rested.{settled-rested}
 use Rattle.planning.specs.First.{reads-head}
-use Rattle.planning.specs.Walked.{onward-from, queue, now, own, stuck-live, stuck-dead, stuck-last, copied-is, live-left, same-is, dead-left}
+use Rattle.planning.specs.Walked.{onward-from, queue, now, own, stuck-live, stuck-dead, stuck-last, copied-is, live-left, same-is}
+use Rattle.planning.specs.Walked.{dead-left}
 use Rattle.planning.specs.Space.{total, marker-at, marker-told}
 use Rattle.planning.specs.Spaces.{swept-reading, space-read, sweep-leaves}
 use Rattle.planning.specs.CallMarkers.{copied-marker, handed-marker, moved-marker, swept-marker, sweep-marked}
@@ -121,7 +122,8 @@ handed-walled N [] wall = refl
 handed-walled N (x ∷ []) wall = refl
 handed-walled N (x ∷ (y ∷ es)) wall = led-walled N (y .at) wall
 
-moved-walled : (r : Reading) (wall : ℕ) → moved-marker r (marker-at (r .place .length) wall) ≡ marker-at (r .place .length) (moved-wall r wall)
+moved-walled : (r : Reading) (wall : ℕ) → moved-marker r (marker-at (r .place .length) wall)
+    ≡ marker-at (r .place .length) (moved-wall r wall)
 moved-walled r wall =
     ap (handed-marker (copied (r .place) (r .entries))) (copied-walled (r .place) (r .entries) wall)
     ∙ handed-walled (r .place .length) (copied (r .place) (r .entries)) (copied-wall (r .place) (r .entries) wall)
@@ -220,7 +222,8 @@ stand-stuck : (k : ℕ) (r : Reading) (wall : ℕ) → stuck r ≡ true → swep
 unfolding swept-stand
 stand-stuck k r wall s = rw (swept-stand, s)
 
-stand-on : (k : ℕ) (r : Reading) (wall : ℕ) → stuck r ≡ false → swept-stand (suc k) r wall ≡ swept-stand k (moved-reading r) (moved-wall r wall)
+stand-on : (k : ℕ) (r : Reading) (wall : ℕ) → stuck r ≡ false → swept-stand (suc k) r wall
+    ≡ swept-stand k (moved-reading r) (moved-wall r wall)
 unfolding swept-stand
 stand-on k r wall s = rw (swept-stand, s)
 
@@ -229,7 +232,8 @@ Alike k all p e b wall x xs cs =
     swept-stand k (record { place = p; entries = with-low b x ∷ (xs ++ cs); ending = e }) wall ≡ strode k all p wall (x ∷ xs) (at-first cs)
 
 -- with no record of the entry chain left no move is left
-last-stand : (k : ℕ) (all : List Entry) (r : Reading) (wall : ℕ) (c : Option ℕ) → k ≤ 0 → swept-stand k r wall ≡ strode k all (r .place) wall [] c
+last-stand : (k : ℕ) (all : List Entry) (r : Reading) (wall : ℕ) (c : Option ℕ) → k ≤ 0 → swept-stand k r wall
+    ≡ strode k all (r .place) wall [] c
 unfolding swept-stand strode
 last-stand zero all r wall c h = refl
 last-stand (suc k) all r wall c h = absurd (omega arith)
@@ -242,7 +246,8 @@ module _ (p : Place) (e : Ending) (b wall : ℕ) (x : Entry) (es : List Entry) (
       ap₂ (λ (vs : List Entry) (w : ℕ). handed-wall (p .length) vs w) (copied-is p e b x es y us l q)
       (ap (λ (t : Bool). elim t [ true ↦ put-wall p (size x) wall | false ↦ wall ]) l)
 
-  dead-wall : live (queue p e b x es) (own p e b x es) ≡ false → es ≡ y ∷ us → moved-wall (now p e b x es) wall ≡ led-wall (p .length) (y .at) wall
+  dead-wall : live (queue p e b x es) (own p e b x es) ≡ false → es ≡ y ∷ us → moved-wall (now p e b x es) wall
+      ≡ led-wall (p .length) (y .at) wall
   unfolding copied-wall handed-wall
   dead-wall l q =
       ap₂ (λ (vs : List Entry) (w : ℕ). handed-wall (p .length) vs w) (same-is p e b x es y us l q)
@@ -343,7 +348,8 @@ strode-stand r s d wall = go (r .entries) (r .place) (r .ending) s d where
       → swept-stand (min 5 (length es)) (record { place = p; entries = es; ending = e }) wall ≡ strode (min 5 (length es)) es p wall es none
   go [] p e s d = no-strides (min 5 0) [] p e wall none
   go (x ∷ xs) p e s d =
-      ap (λ (us : List Entry). swept-stand (min 5 (suc (length xs))) (record { place = p; entries = x ∷ us; ending = e }) wall) (sym (append-nil xs))
+      ap (λ (us : List Entry). swept-stand (min 5 (suc (length xs))) (record { place = p; entries = x ∷ us; ending = e }) wall)
+          (sym (append-nil xs))
       ∙ strides (min 5 (suc (length xs))) (x ∷ xs) p e (x .it .low) wall x xs [] (omega arith) (lone-first (x ∷ xs) s d)
 
 pub sweep-filled : (im : Image) (r : Reading) → good-length (length im) ≡ true → settled-reading im ≡ give r

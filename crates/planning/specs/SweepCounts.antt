@@ -23,7 +23,8 @@ use Rattle.planning.specs.Planned.{with-status, with-low, copy-of, copie
 use Rattle.planning.specs.Moves.{sweep-as-planned}
 use Rattle.planning.specs.Lone.{any-both, each-zip, Unrivalled, Apart, unrivalled-rest}
 use Rattle.planning.specs.Spaces.{swept-reading}
-use Rattle.planning.specs.Filed.{filed, unfiled, Plain, live-filed, sizes-same, each-live, each-not, each-take, plain-live, plain-dead}
+use Rattle.planning.specs.Filed.{filed, unfiled, Plain, live-filed, sizes-same, each-live, each-not, each-take, plain-live}
+use Rattle.planning.specs.Filed.{plain-dead}
 use Rattle.planning.specs.Filed.{kept-yes, kept-no, kept-both, kept-last, settled-plain}
 
 -- ---- the head goes on
@@ -39,7 +40,8 @@ plain-start [] w = w
 plain-start (y ∷ us) w = record { rest = w .rest; apart = w .apart }
 
 -- neither test looks at the low byte
-start-same : (p : Entry → Bool) (y : Entry) (us : List Entry) → p (with-low 0x00 y) ≡ p y → sizes (keep p (with-low 0x00 y ∷ us)) ≡ sizes (keep p (y ∷ us))
+start-same : (p : Entry → Bool) (y : Entry) (us : List Entry) → p (with-low 0x00 y) ≡ p y → sizes (keep p (with-low 0x00 y ∷ us))
+    ≡ sizes (keep p (y ∷ us))
 start-same p y us h = go (p y) refl where
   go : (t : Bool) → p y ≡ t → sizes (keep p (with-low 0x00 y ∷ us)) ≡ sizes (keep p (y ∷ us))
   go true q = kept-yes p (with-low 0x00 y) us (h ∙ q) ∙ sym (kept-yes p y us q)
@@ -92,17 +94,20 @@ module _ (c : Entry) (n : named 0xF8 c ≡ false) where
   apart-last : (es : List Entry) → Apart es → Apart (es ++ (c ∷ []))
   apart-last [] w = (tt, tt)
   apart-last (e ∷ es) w = (
-    each-append (λ y. filed e ≡ true → named 0xF8 y ≡ true → same-name y e ≡ false) es (c ∷ []) (w .0) (λ a b. absurd (not-both (named 0xF8 c) n b), tt),
+    each-append (λ y. filed e ≡ true → named 0xF8 y ≡ true → same-name y e ≡ false) es (c ∷ []) (w .0)
+    (λ a b. absurd (not-both (named 0xF8 c) n b), tt),
     apart-last es (w .1),
   )
 
-  plain-last : (x : Entry) (es : List Entry) → filed x ≡ true → ((y : Entry) → same-name y c ≡ same-name y x) → Plain (x ∷ es) → Plain (es ++ (c ∷ []))
+  plain-last : (x : Entry) (es : List Entry) → filed x ≡ true → ((y : Entry) → same-name y c ≡ same-name y x) → Plain (x ∷ es)
+      → Plain (es ++ (c ∷ []))
   unfolding has-named
   plain-last x es f s w =
       let all : List Entry = es ++ (c ∷ []) in
       let unrivalled : (y : Entry) → Unrivalled es y → (named 0xF8 y ≡ true → same-name y x ≡ false) → Unrivalled all y =
       λ y u a h.
-      any-both (named-as 0xFC y) es (c ∷ []) (u h) (any-no (named-as 0xFC y) c [] (and-no (named 0xFC c) (same-name y c) (λ q. s y ∙ a h))) in
+      any-both (named-as 0xFC y) es (c ∷ []) (u h)
+      (any-no (named-as 0xFC y) c [] (and-no (named 0xFC c) (same-name y c) (λ q. s y ∙ a h))) in
       record {
         rest =
             each-append (Unrivalled all) es (c ∷ [])
@@ -143,7 +148,8 @@ module _ (x : Entry) (es : List Entry) (w : Plain (x ∷ es)) where
         plain = plain-start fs (plain-last c (copy-settled p x) x es f (λ y. refl) w);
         live = omega (arith, start-filed fs, kept-both filed es (c ∷ []), kept-yes filed c [] k, kept-yes filed x es f);
         dead =
-            omega (arith, start-unfiled fs, kept-both unfiled es (c ∷ []), kept-no unfiled c [] u, kept-no unfiled x es q, kept-no unfiled x [] q);
+            omega (arith, start-unfiled fs, kept-both unfiled es
+            (c ∷ []), kept-no unfiled c [] u, kept-no unfiled x es q, kept-no unfiled x [] q);
         part =
             λ j. omega (arith, start-part j fs, kept-last unfiled j es c u, kept-no unfiled x (take j es) q, kept-no unfiled x [] q);
       }
@@ -194,7 +200,8 @@ passed-more x es M left m o w =
     record { plain = w .plain; live = w .live ∙ o .live; dead = omega (arith, w .dead, o .dead, o .part m) }
 
 pub sweep-counts : (k : ℕ) (p : Place) (e : Ending) (es : List Entry) → Plain es
-    → Passed es (length (planned k (record { place = p; entries = es; ending = e }))) (swept-reading k (record { place = p; entries = es; ending = e }) .entries)
+    → Passed es (length (planned k (record { place = p; entries = es; ending = e })))
+    (swept-reading k (record { place = p; entries = es; ending = e }) .entries)
 unfolding planned swept-reading stuck at-end
 sweep-counts zero p e es w = record { plain = w; live = refl; dead = omega arith }
 sweep-counts (suc k) p e [] w = record { plain = w; live = refl; dead = refl }
@@ -207,12 +214,15 @@ sweep-counts (suc k) p e (x ∷ es) w = go _ refl (sweep-counts k) where
 
   go : (t : Bool) → stuck r ≡ t
       → ((p : Place) (e : Ending) (us : List Entry) → Plain us
-      → Passed us (length (planned k (record { place = p; entries = us; ending = e }))) (swept-reading k (record { place = p; entries = us; ending = e }) .entries))
+      → Passed us (length (planned k (record { place = p; entries = us; ending = e })))
+      (swept-reading k (record { place = p; entries = us; ending = e }) .entries))
       → Passed (x ∷ es) (length (planned (suc k) r)) (swept-reading (suc k) r .entries)
   go true s ih = rw (planned, swept-reading, s) (record { plain = w; live = refl; dead = omega arith })
   go false s ih =
       let o : Onward x es (q .entries) = move-onward p e x es s w in
-      rw (planned, swept-reading, s) (passed-more x es (q .entries) (swept-reading k q .entries) (length (planned k q)) o (ih (q .place) (q .ending) (q .entries) (o .plain)))
+      rw (planned, swept-reading, s)
+      (passed-more x es (q .entries) (swept-reading k q .entries) (length (planned k q)) o
+      (ih (q .place) (q .ending) (q .entries) (o .plain)))
 
 -- ---- on settled images
 
@@ -226,7 +236,8 @@ module _ (im : Image) (r : Reading) (n : good-length (length im) ≡ true) (e : 
   -- a sweep keeps every live byte
   pub sweep-live : live-bytes (swept-reading k r .entries) ≡ live-bytes (r .entries)
   sweep-live =
-      plain-live (swept-reading k r .entries) (passed-of .plain .rest) ∙ passed-of .live ∙ sym (plain-live (r .entries) (settled-plain im r e .rest))
+      plain-live (swept-reading k r .entries) (passed-of .plain .rest) ∙ passed-of .live
+      ∙ sym (plain-live (r .entries) (settled-plain im r e .rest))
 
   -- of the others it keeps those from record m on, with m moves
   pub sweep-dead : sizes (others (swept-reading k r .entries))
@@ -238,8 +249,10 @@ module _ (im : Image) (r : Reading) (n : good-length (length im) ≡ true) (e : 
       let alike : Each (λ f. not (live all f) ≡ unfiled f) all = each-not all all (each-live all all (settled-plain im r e .rest)) in
       let first : sizes (keep (λ f. not (live all f)) (take m all)) ≡ sizes (keep unfiled (take m all)) =
       sizes-same (λ f. not (live all f)) unfiled (take m all) (each-take (λ f. not (live all f) ≡ unfiled f) m all alike) in
-      let split : sizes (keep (λ f. not (live all f)) (take m all)) + sizes (keep (λ f. not (live all f)) (drop m all)) ≡ sizes (others all) =
-      sym (kept-both (λ f. not (live all f)) (take m all) (drop m all)) ∙ ap (λ (us : List Entry). sizes (keep (λ f. not (live all f)) us)) (take-append-drop m all) in
+      let split : sizes (keep (λ f. not (live all f)) (take m all)) + sizes (keep (λ f. not (live all f)) (drop m all))
+      ≡ sizes (others all) =
+      sym (kept-both (λ f. not (live all f)) (take m all) (drop m all))
+          ∙ ap (λ (us : List Entry). sizes (keep (λ f. not (live all f)) us)) (take-append-drop m all) in
       omega (
         arith,
         first,

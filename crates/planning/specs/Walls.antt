@@ -125,7 +125,8 @@ filled-is r live wall p t l q m =
     let m' : Option ℕ = marker-at (p .length) wall in
     let free : free-bytes (r .place) ≡ free-bytes p = ap free-bytes q in
     let lost : lost-bytes (r .place) (marker-told r) ≡ lost-bytes p m' = ap₂ lost-bytes q m in
-    let dead : dead-bytes (r .entries) (marker-told r) ≡ p .length - (live + free-bytes p + lost-bytes p m') = less _ _ _ _ _ t l free lost in
+    let dead : dead-bytes (r .entries) (marker-told r)
+    ≡ p .length - (live + free-bytes p + lost-bytes p m') = less _ _ _ _ _ t l free lost in
     λ i. record { live = l i; dead = dead i; free = free i; lost = lost i } where
       less : (a b c d n : ℕ) {a' c' d' : ℕ} → a + b + c + d ≡ n → a ≡ a' → c ≡ c' → d ≡ d' → b ≡ n - (a' + c' + d')
       less a b c d n e f g h = omega arith
@@ -153,7 +154,8 @@ mount-filled im r n e =
     ∙ filled-is (mended-reading r) (live-bytes (r .entries)) (mended-wall (length im) (r .entries) (wall-of r)) p
     (ap total (sym (w .told)) ∙ w .sum ∙ sym N') (mount-live r (accepted-known im r e .marks)) (place-told r)
     (mount-marked im r n e ∙ ap (mended-marker (r .entries)) (first-told r ∙ ap (λ (k : ℕ). marker-at k (wall-of r)) N)
-    ∙ mended-walled (length im) (r .entries) (wall-of r) ∙ ap (λ (k : ℕ). marker-at k (mended-wall (length im) (r .entries) (wall-of r))) (sym N'))
+    ∙ mended-walled (length im) (r .entries) (wall-of r)
+    ∙ ap (λ (k : ℕ). marker-at k (mended-wall (length im) (r .entries) (wall-of r))) (sym N'))
 
 -- ---- put
 
@@ -161,7 +163,8 @@ pub put-filled : (im : Image) (r : Reading) (name content : List ℕ) → good-l
     → name-ok name ≡ true → room (r .place) name (size-of (length name) (length content)) (r .entries) ≡ true
     → space-left (put-work name content im r)
     ≡ space-filled ((live-bytes (r .entries) + size-of (length name) (length content)) - replaced-bytes (file-named name (r .entries)))
-    (copied-place (r .place) (size-of (length name) (length content))) (put-wall (r .place) (size-of (length name) (length content)) (wall-of r))
+    (copied-place (r .place) (size-of (length name) (length content)))
+    (put-wall (r .place) (size-of (length name) (length content)) (wall-of r))
 put-filled im r name content n e k f =
     let s : ℕ = size-of (length name) (length content) in
     let N' : copied-place (r .place) s .length ≡ r .place .length = copied-head (r .place) s .1 in

@@ -22,7 +22,8 @@ returns c =
     let c6 = c1 .before .before .before .before .before in
     let a = c6 .args in
     let i = a .image .now in
-    let none = rest-done i (a .u .walk .cursor) (c1 .advance .result) (c1 .advance .ensures .0) (other-step (c1 .advance .result) (c .match .keys2)) in
+    let none = rest-done i (a .u .walk .cursor) (c1 .advance .result) (c1 .advance .ensures .0)
+    (other-step (c1 .advance .result) (c .match .keys2)) in
     stride-none i (rest i (a .start) .entries) (a .u) (ap (λ (r : Run). r .entries) none)
 
 is-live-requires : tie.Need-is-live-requires
@@ -50,7 +51,8 @@ returns-2 c =
     let a = c11 .args in
     let i = a .image .now in
     let t = passes (c6 .advance .ensures) (c4 .x .given .1) in
-    stride-alive i (rest i (a .start) .entries) (a .u) (c4 .x .given .0 .0) (c4 .x .given .0 .1 .0) (ap (λ (r : Run). r .entries) (t .split))
+    stride-alive i (rest i (a .start) .entries) (a .u) (c4 .x .given .0 .0) (c4 .x .given .0 .1 .0)
+        (ap (λ (r : Run). r .entries) (t .split))
     (c .stride-live .result) (flag (c2 .is-live .ensures) (c .before .if1 .taken)) (c .stride-live .ensures)
 
 stride-over-requires : tie.Need-stride-over-requires

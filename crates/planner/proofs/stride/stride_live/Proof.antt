@@ -29,7 +29,8 @@ returns c =
     let a = c5 .args in
     let p = c5 .pre .0 in
     let e = rw (c3 .size .ensures) at (sym (c2 .after .ensures) ∙ c .enum-told .given .1) in
-    live-stop (a .image .now) (a .x) (a .past) (a .place) (a .copy) (a .wall) (p .1) (p .3) (placed-full (a .place) (size-of (a .x .n) (a .x .d)) e)
+    live-stop (a .image .now) (a .x) (a .past) (a .place) (a .copy) (a .wall) (p .1) (p .3)
+    (placed-full (a .place) (size-of (a .x .n) (a .x .d)) e)
 
 come-round-requires : tie.Need-come-round-requires
 come-round-requires c κs = search needs
@@ -52,7 +53,8 @@ stride-over-requires c κs =
     let i = a .image .now in
     let p = c9 .pre .0 in
     let g = c4 .at .given .0 in
-    let parts = placed-parts (a .place) (size-of (a .x .n) (a .x .d)) _ _ _ (rw (c7 .size .ensures) at (sym (c6 .after .ensures) ∙ c4 .at .given .1)) in (
+    let parts = placed-parts (a .place) (size-of (a .x .n) (a .x .d)) _ _ _
+    (rw (c7 .size .ensures) at (sym (c6 .after .ensures) ∙ c4 .at .given .1)) in (
       p .0,
       rw (c1 .first-of .ensures)
           (first-below (a .copy) (g .0) (length i) (p .2)
@@ -72,8 +74,10 @@ returns-2 c =
     let c10 = c8 .before .before in
     let a = c10 .args in
     let p = c10 .pre .0 in
-    let parts = placed-parts (a .place) (size-of (a .x .n) (a .x .d)) _ _ _ (rw (c8 .size .ensures) at (sym (c7 .after .ensures) ∙ c5 .at .given .1)) in
-    live-on (a .image .now) (a .x) (a .past) (a .place) (a .copy) (a .wall) (p .1) (p .3) _ _ _ (c .stride-over .result) (parts .0) (parts .1)
+    let parts = placed-parts (a .place) (size-of (a .x .n) (a .x .d)) _ _ _
+    (rw (c8 .size .ensures) at (sym (c7 .after .ensures) ∙ c5 .at .given .1)) in
+    live-on (a .image .now) (a .x) (a .past) (a .place) (a .copy) (a .wall) (p .1) (p .3) _ _ _ (c .stride-over .result) (parts .0)
+    (parts .1)
     (parts .2) (parts .3) (rw (c3 .come-round .ensures, c2 .first-of .ensures, c1 .put-wall .ensures) at (c .stride-over .ensures))
 
 pub stride-live-spec : {M : Type 1} → statement M

@@ -13,7 +13,8 @@ use Rattle.planner.proofs.stride.strides.Tie as tie
 
 abbrev Inv-loop : tie.InvT-loop
 Inv-loop image start wall most left₀ u₀ left u =
-    Striding image (rest image start .entries) (strode most (rest image start .entries) (u₀ .walk .place) wall (rest image start .entries) none) left u
+    Striding image (rest image start .entries)
+    (strode most (rest image start .entries) (u₀ .walk .place) wall (rest image start .entries) none) left u
 
 abbrev μ-loop : tie.MeasureT-loop
 μ-loop image start wall most left₀ u₀ left u = left
