@@ -58,7 +58,7 @@ module _ {s t : Image} {m r : Meter} {ms : List (List Step)} {n : ℕ} (k : ℕ)
   swept-cut x h =
       let l : k < length (concat ms) = omega (arith, w .begun .cut h) in
       rw (carry-out, numbers-of, lt-leb (length (concat ms)) k l)
-          (ap₂ outcome-of (ap₂ (λ (i j : ℕ). of-sweep 4 i no-space j) count-as (w .begun .same ∙ a)) left-is)
+      (ap₂ outcome-of (ap₂ (λ (i j : ℕ). of-sweep 4 i no-space j) count-as (w .begun .same ∙ a)) left-is)
 
 -- ---- the plan
 

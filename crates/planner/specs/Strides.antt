@@ -153,8 +153,11 @@ module _ (image : Image) (all : List Entry) (u : Course) where
 
   pub stride-none : rest image (u .walk .cursor) .entries ≡ [] → Strode-on image all u Strode.Stop
   stride-none e =
-      record { is = λ k. ap (λ (xs : List Entry). strode (suc k) all p (u .wall) xs c) e
-          ∙ strode-end (suc k) all p (u .wall) c; known = tt }
+      record {
+        is = λ k. ap (λ (xs : List Entry). strode (suc k) all p (u .wall) xs c) e
+            ∙ strode-end (suc k) all p (u .wall) c;
+        known = tt;
+      }
 
   module _ (x : Spot) (past : Cursor) (e : rest image (u .walk .cursor) .entries ≡ entry-of image x ∷ rest image past .entries)
       (r : Strode) where

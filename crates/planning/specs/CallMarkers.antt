@@ -197,7 +197,7 @@ module _ (im : Image) (r : Reading) (w : Rested im r) (n : stuck r ≡ false) wh
     go : (es : List Entry) → r .entries ≡ es → marker-told (after-a r) ≡ copied-marker p (r .entries) m
     go [] q =
         ap (λ (us : List Entry). marker-told (with-both (after-copy p us) (copied p us))) q ∙ as-is [] q
-            ∙ sym (ap (λ (us : List Entry). copied-marker p us m) q)
+        ∙ sym (ap (λ (us : List Entry). copied-marker p us m) q)
     go (x ∷ es) q =
         ap (λ (us : List Entry). marker-told (with-both (after-copy p us) (copied p us))) q ∙ first-by x es q _ refl
         ∙ sym (ap (λ (us : List Entry). copied-marker p us m) q)

@@ -96,7 +96,7 @@ module _ (im : Image) (h : ℕ) (x y : Entry) (es : List Entry) (d : Ending) (z 
       let q : led-place (place-of N h T true) (y .at) ≡ place-of N (y .at) T true =
       ap (λ (u : Bool). come-round (place-of N (y .at) T u)) on ∙ round-turned (place-of N (y .at) T true) refl in
       ap (λ (a : Place). marker-told (with-place a)) q ∙ told-turned (place-of N (y .at) T true) (z ∷ es) d refl ∙ ap (marker-at N) t
-          ∙ sym e
+      ∙ sym e
 
   -- after it, with Y at 0
   low-led : (T : ℕ) → y .at ≡ 0 → marker-told (with-place (led-place (place-of N h T true) (y .at))) ≡ none

@@ -142,12 +142,16 @@ module _ (all : List Entry) (n : List ℕ) (t : Entry → Bool) where
       where
         some-not : some f ≡ none → ⊥
         some-not q = let z : _≡_ {A = ℕ} 0 1 = cc in omega arith
-    go true a false b ih =
-        (λ o k. b, ih (sym (first-no (has-name n) f (keep (live all) es) b)
-        ∙ ap (first-such (has-name n)) (sym (keep-yes (live all) f es a)) ∙ h))
-    go false a b q ih =
-        (λ o k. absurd (not-both (live all f) a (u .0 ∙ filed-F8 f k)), ih (ap (first-such (has-name n)) (sym (keep-no (live all) f es a))
-        ∙ h))
+    go true a false b ih = (
+      λ o k. b,
+      ih (sym (first-no (has-name n) f (keep (live all) es) b)
+          ∙ ap (first-such (has-name n)) (sym (keep-yes (live all) f es a)) ∙ h),
+    )
+    go false a b q ih = (
+      λ o k. absurd (not-both (live all f) a (u .0 ∙ filed-F8 f k)),
+      ih (ap (first-such (has-name n)) (sym (keep-no (live all) f es a))
+          ∙ h),
+    )
 
   -- with one
   module _ (e : Entry) where
@@ -168,12 +172,16 @@ module _ (all : List Entry) (n : List ℕ) (t : Entry → Bool) where
             each-map {P = λ y. filed f ≡ true → named 0xF8 y ≡ true → same-name y f ≡ false} {Q = Nameless (stands-at (e .at)) n} es
                 (λ y v o k. ap (same (name-of y)) (sym name) ∙ v filed-f k) (w .0),
           )
-      go true a false b ih =
-          (λ o k. b, ih (sym (first-no (has-name n) f (keep (live all) es) b)
-          ∙ ap (first-such (has-name n)) (sym (keep-yes (live all) f es a)) ∙ h))
-      go false a b q ih =
-          (λ o k. absurd (not-both (live all f) a (u .0 ∙ filed-F8 f k)), ih
-          (ap (first-such (has-name n)) (sym (keep-no (live all) f es a)) ∙ h))
+      go true a false b ih = (
+        λ o k. b,
+        ih (sym (first-no (has-name n) f (keep (live all) es) b)
+            ∙ ap (first-such (has-name n)) (sym (keep-yes (live all) f es a)) ∙ h),
+      )
+      go false a b q ih = (
+        λ o k. absurd (not-both (live all f) a (u .0 ∙ filed-F8 f k)),
+        ih
+            (ap (first-such (has-name n)) (sym (keep-no (live all) f es a)) ∙ h),
+      )
 
 -- ---- the new record behind them
 
@@ -257,8 +265,15 @@ module _ (im : Image) (r : Reading) (name content : List ℕ) (e : settled-readi
   counts-by ds o w c =
       let all : List Entry = ds ++ (new ∷ []) in (
         omega (arith, plain-live all w, plain-live es (plain .rest), kept-both filed ds (new ∷ []), kept-yes filed new [] new-filed, c .0),
-        omega (arith, plain-dead all w, plain-dead es (plain .rest), kept-both unfiled ds (new ∷ []), kept-no unfiled new []
-        (ap not new-filed), c .1),
+        omega (
+          arith,
+          plain-dead all w,
+          plain-dead es (plain .rest),
+          kept-both unfiled ds (new ∷ []),
+          kept-no unfiled new []
+              (ap not new-filed),
+          c .1,
+        ),
       )
 
   -- no record stands at the end
@@ -277,9 +292,11 @@ module _ (im : Image) (r : Reading) (name content : List ℕ) (e : settled-readi
   counts none h =
       let t : Entry → Bool = stands-at (r .place .length) in
       let is : map (drop-if t) es ≡ es = map-kept t es none-taken in
-      counts-by (map (drop-if t) es) 0 (plain-after t es new new-late (plain .rest) (none-named es name t es alive h))
-      (omega (arith, ap (λ (us : List Entry). sizes (keep filed us)) is), omega
-      (arith, ap (λ (us : List Entry). sizes (keep unfiled us)) is))
+      counts-by (map (drop-if t) es) 0 (plain-after t es new new-late (plain .rest) (none-named es name t es alive h)) (
+        omega (arith, ap (λ (us : List Entry). sizes (keep filed us)) is),
+        omega
+            (arith, ap (λ (us : List Entry). sizes (keep unfiled us)) is),
+      )
   counts (some f) h =
       counts-by (map (drop-if (stands-at (f .at))) es) (size f)
       (plain-after (stands-at (f .at)) es new new-late (plain .rest) (one-named es name (stands-at (f .at)) f es alive (plain .apart) h))

@@ -133,8 +133,11 @@ put-is im p name content none =
 -- the new record
 abbrev pub new-record : Place → List ℕ → List ℕ → Entry
 new-record p name content =
-    record { at = address p (size-of (length name) (length content)); it =
-        record { low = 0xA5; status = 0xFC; name = name; content = content } }
+    record {
+      at = address p (size-of (length name) (length content));
+      it =
+          record { low = 0xA5; status = 0xFC; name = name; content = content };
+    }
 
 -- what is read after the put of this name and content
 abbrev pub put-left : List ℕ → List ℕ → Reading → Reading

@@ -349,7 +349,7 @@ strode-stand r s d wall = go (r .entries) (r .place) (r .ending) s d where
   go [] p e s d = no-strides (min 5 0) [] p e wall none
   go (x ∷ xs) p e s d =
       ap (λ (us : List Entry). swept-stand (min 5 (suc (length xs))) (record { place = p; entries = x ∷ us; ending = e }) wall)
-          (sym (append-nil xs))
+      (sym (append-nil xs))
       ∙ strides (min 5 (suc (length xs))) (x ∷ xs) p e (x .it .low) wall x xs [] (omega arith) (lone-first (x ∷ xs) s d)
 
 pub sweep-filled : (im : Image) (r : Reading) → good-length (length im) ≡ true → settled-reading im ≡ give r

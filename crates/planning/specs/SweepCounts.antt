@@ -95,7 +95,7 @@ module _ (c : Entry) (n : named 0xF8 c ≡ false) where
   apart-last [] w = (tt, tt)
   apart-last (e ∷ es) w = (
     each-append (λ y. filed e ≡ true → named 0xF8 y ≡ true → same-name y e ≡ false) es (c ∷ []) (w .0)
-    (λ a b. absurd (not-both (named 0xF8 c) n b), tt),
+        (λ a b. absurd (not-both (named 0xF8 c) n b), tt),
     apart-last es (w .1),
   )
 
@@ -148,8 +148,15 @@ module _ (x : Entry) (es : List Entry) (w : Plain (x ∷ es)) where
         plain = plain-start fs (plain-last c (copy-settled p x) x es f (λ y. refl) w);
         live = omega (arith, start-filed fs, kept-both filed es (c ∷ []), kept-yes filed c [] k, kept-yes filed x es f);
         dead =
-            omega (arith, start-unfiled fs, kept-both unfiled es
-            (c ∷ []), kept-no unfiled c [] u, kept-no unfiled x es q, kept-no unfiled x [] q);
+            omega (
+              arith,
+              start-unfiled fs,
+              kept-both unfiled es
+                  (c ∷ []),
+              kept-no unfiled c [] u,
+              kept-no unfiled x es q,
+              kept-no unfiled x [] q,
+            );
         part =
             λ j. omega (arith, start-part j fs, kept-last unfiled j es c u, kept-no unfiled x (take j es) q, kept-no unfiled x [] q);
       }
@@ -252,7 +259,7 @@ module _ (im : Image) (r : Reading) (n : good-length (length im) ≡ true) (e : 
       let split : sizes (keep (λ f. not (live all f)) (take m all)) + sizes (keep (λ f. not (live all f)) (drop m all))
       ≡ sizes (others all) =
       sym (kept-both (λ f. not (live all f)) (take m all) (drop m all))
-          ∙ ap (λ (us : List Entry). sizes (keep (λ f. not (live all f)) us)) (take-append-drop m all) in
+      ∙ ap (λ (us : List Entry). sizes (keep (λ f. not (live all f)) us)) (take-append-drop m all) in
       omega (
         arith,
         first,

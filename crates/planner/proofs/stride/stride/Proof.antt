@@ -52,7 +52,7 @@ returns-2 c =
     let i = a .image .now in
     let t = passes (c6 .advance .ensures) (c4 .x .given .1) in
     stride-alive i (rest i (a .start) .entries) (a .u) (c4 .x .given .0 .0) (c4 .x .given .0 .1 .0)
-        (ap (λ (r : Run). r .entries) (t .split))
+    (ap (λ (r : Run). r .entries) (t .split))
     (c .stride-live .result) (flag (c2 .is-live .ensures) (c .before .if1 .taken)) (c .stride-live .ensures)
 
 stride-over-requires : tie.Need-stride-over-requires
