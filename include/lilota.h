@@ -25,6 +25,12 @@
  * all files are then whole, and each put or remove that was cut has been done
  * or has changed no file. A format that was cut has to be done again.
  *
+ * Bytes. Mount, put and sweep give back, when done, what the bytes of the image
+ * that they leave are good for: live, in files; dead, in other records and in a
+ * wrap marker; free, to be written; lost, below the head in its sector or behind
+ * a wrap marker, until the head comes past. They sum to the image's length.
+ * Cut or refused, all four are 0.
+ *
  * Answers. Each call answers with one of the numbers below, checked in their
  * order. Unless the answer is LILOTA_DONE or LILOTA_CUT, every number given
  * back is 0 and the image is unchanged.
@@ -71,27 +77,32 @@ uint32_t lilota_format(uint8_t *image, size_t length, size_t allowance,
 /*
  * Repairs what a power cut left, between two steps or inside one, so that the
  * other calls take the image. Done, it gives back the head's and the tail's
- * address, the number of files and the steps done; cut, the steps alone: then
- * mount again. An image with nothing to repair is done in 0 steps.
+ * address, the number of files, the bytes and the steps done; cut, the steps
+ * alone: then mount again. An image with nothing to repair is done in 0 steps.
  * Steps: at most length/8 + length/4,096 + 8 after any cuts (see above).
  * Answers: 22, 5, 6, 4, 0.
  */
 uint32_t lilota_mount(uint8_t *image, size_t length, size_t allowance,
                       size_t *head, size_t *tail, size_t *files,
+                      size_t *live_bytes, size_t *dead_bytes,
+                      size_t *free_bytes, size_t *lost_bytes,
                       size_t *steps);
 
 /*
  * Writes a whole file, in place of an older one of its name. One step is the
  * commit, and clears a single bit: cut before it the old file stands, after it
- * the new one does, inside it one of the two. Gives back the steps done.
- * Done, it has left room for sweeps, as said there.
+ * the new one does, inside it one of the two. Gives back the bytes, if done,
+ * and the steps done. Done, it has left room for sweeps, as said there.
  * Steps: name_length + content_length + 10 to 15, no erase.
  * Answers: 22, 5, 6, 16, 28, 4, 0.
  */
 uint32_t lilota_put(uint8_t *image, size_t length,
                     const uint8_t *name, size_t name_length,
                     const uint8_t *content, size_t content_length,
-                    size_t allowance, size_t *steps);
+                    size_t allowance,
+                    size_t *live_bytes, size_t *dead_bytes,
+                    size_t *free_bytes, size_t *lost_bytes,
+                    size_t *steps);
 
 /*
  * Gives back where the file's bytes stand in the image, and how many there are.
@@ -121,7 +132,7 @@ uint32_t lilota_remove(uint8_t *image, size_t length,
 /*
  * Makes room: moves the head on by up to 5 records, copies the live ones to the
  * tail and erases what is left behind. Gives back the finished moves and the
- * steps done, if cut too.
+ * steps done, if cut too, and the bytes, if done.
  *
  * Where a whole format came first and only these calls wrote since, sweeps do
  * not get stuck after a put that is done: with r records, of files or not, that
@@ -135,7 +146,10 @@ uint32_t lilota_remove(uint8_t *image, size_t length,
  * Answers: 22, 5, 6, 16, 28, 4, 0.
  */
 uint32_t lilota_sweep(uint8_t *image, size_t length, size_t allowance,
-                      size_t *moves, size_t *steps);
+                      size_t *moves,
+                      size_t *live_bytes, size_t *dead_bytes,
+                      size_t *free_bytes, size_t *lost_bytes,
+                      size_t *steps);
 
 /*
  * Planned steps, for a flash that is not in the processor's address space: the
@@ -169,7 +183,10 @@ uint32_t lilota_plan_put(const uint8_t *image, size_t length,
                          uint32_t *kinds, size_t kinds_length,
                          uint32_t *addresses, size_t addresses_length,
                          uint32_t *bytes, size_t bytes_length,
-                         size_t *handed, size_t *steps);
+                         size_t *handed,
+                         size_t *live_bytes, size_t *dead_bytes,
+                         size_t *free_bytes, size_t *lost_bytes,
+                         size_t *steps);
 
 /* Plans lilota_remove. Answers: 22, 5, 6, 16, 2, 0. */
 uint32_t lilota_plan_remove(const uint8_t *image, size_t length,
@@ -185,18 +202,24 @@ uint32_t lilota_plan_sweep(const uint8_t *image, size_t length, size_t first,
                            uint32_t *kinds, size_t kinds_length,
                            uint32_t *addresses, size_t addresses_length,
                            uint32_t *bytes, size_t bytes_length,
-                           size_t *handed, size_t *moves, size_t *steps);
+                           size_t *handed, size_t *moves,
+                           size_t *live_bytes, size_t *dead_bytes,
+                           size_t *free_bytes, size_t *lost_bytes,
+                           size_t *steps);
 
 /*
- * Plans lilota_mount. Head, tail and files are those of the image that the
- * steps leave. Answers: 22, 5, 6, 0.
+ * Plans lilota_mount. Head, tail, files and bytes are those of the image that
+ * the steps leave. Answers: 22, 5, 6, 0.
  */
 uint32_t lilota_plan_mount(const uint8_t *image, size_t length, size_t first,
                            uint32_t *kinds, size_t kinds_length,
                            uint32_t *addresses, size_t addresses_length,
                            uint32_t *bytes, size_t bytes_length,
                            size_t *handed, size_t *head, size_t *tail,
-                           size_t *files, size_t *steps);
+                           size_t *files,
+                           size_t *live_bytes, size_t *dead_bytes,
+                           size_t *free_bytes, size_t *lost_bytes,
+                           size_t *steps);
 
 #ifdef __cplusplus
 }

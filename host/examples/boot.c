@@ -43,13 +43,16 @@ static void load(void)
 static void boot(const char *story)
 {
     size_t head = 0, tail = 0, files = 0, steps = 0;
+    size_t live = 0, dead = 0, blank = 0, lost = 0;
     uint32_t answer;
     printf("%s\n", story);
-    answer = lilota_mount(image, LENGTH, SIZE_MAX, &head, &tail, &files, &steps);
+    answer = lilota_mount(image, LENGTH, SIZE_MAX, &head, &tail, &files, &live, &dead, &blank, &lost, &steps);
     if (told("  mount", answer) != LILOTA_DONE)
         return;
     printf("  %u steps, head %u, tail %u, %u files\n", (unsigned)steps, (unsigned)head, (unsigned)tail,
            (unsigned)files);
+    printf("  bytes: %u live, %u dead, %u free, %u lost\n", (unsigned)live, (unsigned)dead, (unsigned)blank,
+           (unsigned)lost);
     load();
 }
 
@@ -57,9 +60,11 @@ static void boot(const char *story)
 static void put_until(uint8_t first, size_t allowance)
 {
     uint8_t table[3] = {0, 2, 3};
+    size_t live = 0, dead = 0, blank = 0, lost = 0;
     size_t steps = 0;
     table[0] = first;
-    lilota_put(image, LENGTH, NAME, NAME_LENGTH, table, sizeof table, allowance, &steps);
+    lilota_put(image, LENGTH, NAME, NAME_LENGTH, table, sizeof table, allowance, &live, &dead, &blank, &lost,
+               &steps);
 }
 
 int main(void)

@@ -19,8 +19,10 @@ static int told(const char *call, uint32_t answer, size_t steps)
 
 static int write_table(const char *call, const uint8_t *table, size_t size)
 {
+    size_t live = 0, dead = 0, blank = 0, lost = 0;
     size_t steps = 0;
-    uint32_t answer = lilota_put(image, LENGTH, NAME, NAME_LENGTH, table, size, SIZE_MAX, &steps);
+    uint32_t answer = lilota_put(image, LENGTH, NAME, NAME_LENGTH, table, size, SIZE_MAX, &live, &dead, &blank, &lost,
+                                 &steps);
     return told(call, answer, steps);
 }
 

@@ -51,13 +51,15 @@ static int load(const char *path, uint8_t *image)
 
 static uint32_t put_new(uint8_t *image, size_t allowance, size_t *steps)
 {
-    return lilota_put(image, LENGTH, NAME, NAME_LENGTH, NEW, SIZE, allowance, steps);
+    size_t live = 0, dead = 0, blank = 0, lost = 0;
+    return lilota_put(image, LENGTH, NAME, NAME_LENGTH, NEW, SIZE, allowance, &live, &dead, &blank, &lost, steps);
 }
 
 static uint32_t recover(uint8_t *image, size_t allowance, size_t *steps)
 {
     size_t head = 0, tail = 0, files = 0;
-    return lilota_mount(image, LENGTH, allowance, &head, &tail, &files, steps);
+    size_t live = 0, dead = 0, blank = 0, lost = 0;
+    return lilota_mount(image, LENGTH, allowance, &head, &tail, &files, &live, &dead, &blank, &lost, steps);
 }
 
 /* Which table the pump loads from this image; none before a whole mount. */
@@ -186,11 +188,12 @@ int main(int count, char **words)
 {
     static uint8_t image[LENGTH];
     size_t steps = 0, allowance;
+    size_t live = 0, dead = 0, blank = 0, lost = 0;
     uint32_t put = LILOTA_CUT;
     if (count != 2)
         return 2;
     lilota_format(image, LENGTH, SIZE_MAX, &steps);
-    lilota_put(image, LENGTH, NAME, NAME_LENGTH, OLD, SIZE, SIZE_MAX, &steps);
+    lilota_put(image, LENGTH, NAME, NAME_LENGTH, OLD, SIZE, SIZE_MAX, &live, &dead, &blank, &lost, &steps);
     printf("cut   put  mount    its  the pump        inside the next step:                 inside mount's steps:\n");
     printf(" at  says   says  steps  loads           byte      values  loads               values  loads\n");
     for (allowance = 0; put == LILOTA_CUT; allowance++)

@@ -75,23 +75,25 @@ typedef uint32_t (*Plan)(size_t first, Window *w);
 static const uint8_t *name, *content;
 static size_t name_length, content_length;
 static size_t moves, head, tail, files;
+static size_t live, dead, blank, lost;
 
 static uint32_t plan_put(size_t first, Window *w)
 {
     return lilota_plan_put(image, LENGTH, name, name_length, content, content_length, first, w->kinds, SLOTS,
-                           w->addresses, SLOTS, w->bytes, SLOTS, &w->handed, &w->steps);
+                           w->addresses, SLOTS, w->bytes, SLOTS, &w->handed, &live, &dead, &blank, &lost,
+                           &w->steps);
 }
 
 static uint32_t plan_sweep(size_t first, Window *w)
 {
     return lilota_plan_sweep(image, LENGTH, first, w->kinds, SLOTS, w->addresses, SLOTS, w->bytes, SLOTS, &w->handed,
-                             &moves, &w->steps);
+                             &moves, &live, &dead, &blank, &lost, &w->steps);
 }
 
 static uint32_t plan_mount(size_t first, Window *w)
 {
     return lilota_plan_mount(image, LENGTH, first, w->kinds, SLOTS, w->addresses, SLOTS, w->bytes, SLOTS, &w->handed,
-                             &head, &tail, &files, &w->steps);
+                             &head, &tail, &files, &live, &dead, &blank, &lost, &w->steps);
 }
 
 /* A window's steps, address and byte, with ! for an erase. Of a long list only the windows that erase are shown. */

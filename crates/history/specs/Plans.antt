@@ -12,10 +12,9 @@ use Rattle.spec.specs.Record.{size-of, Entry}
 use Rattle.spec.specs.Chain.{Reading}
 use Rattle.spec.specs.Files.{file-named, file-indexed}
 use Rattle.spec.specs.Place.{room}
-use Rattle.spec.specs.Write.{put-steps}
 use Rattle.spec.specs.Mount.{mended}
-use Rattle.spec.specs.Sweep.{no-room, sweep-moves}
-use Rattle.spec.specs.Answers.{Plan, doing, found, put-into, put-plan, file-of, file-plan, removing, remove-plan, getting, get-plan, listing, list-of, list-plan, sweeping, sweep-of, sweep-plan, mount-work, mount-of, mount-plan}
+use Rattle.spec.specs.Sweep.{no-room}
+use Rattle.spec.specs.Answers.{Plan, found, putting, put-into, put-plan, file-of, file-plan, removing, remove-plan, getting, get-plan, listing, list-of, list-plan, sweeping, sweep-of, sweep-plan, mount-work, mount-of, mount-plan}
 use Rattle.spec.specs.Door.{accepted, admitted, admitted-named}
 use Rattle.spec.specs.History.{Request, plan, steps-of}
 use Rattle.spec.specs.declared.Refusal.{Refusal}
@@ -33,13 +32,13 @@ module _ (P : Answer Plan → Type 0) (no : (x : Refusal) → P (refuse x)) wher
   of-found f none h = no (numbered 2)
   of-found f (some e) h = h e
 
-  of-put : (im : Image) (n c : List ℕ) → ((r : Reading) → P (give (doing (put-steps (r .place) (file-named n (r .entries)) n c))))
+  of-put : (im : Image) (n c : List ℕ) → ((r : Reading) → P (give (putting n c im r)))
       → P (put-plan n c im)
   unfolding put-plan put-into
   of-put im n c h =
-      of-onward (admitted-named n im) (put-into n c) (λ r.
+      of-onward (admitted-named n im) (put-into n c im) (λ r.
       of-checked (room (r .place) n (size-of (length n) (length c)) (r .entries)) (numbered 28)
-      (give (doing (put-steps (r .place) (file-named n (r .entries)) n c))) (h r))
+      (give (putting n c im r)) (h r))
 
   -- get and remove
   of-file : (im : Image) (n : List ℕ) (f : Entry → Plan) → ((e : Entry) → P (give (f e))) → P (file-plan n f im)
@@ -50,11 +49,11 @@ module _ (P : Answer Plan → Type 0) (no : (x : Refusal) → P (refuse x)) wher
   unfolding list-plan
   of-list im i h = of-onward (admitted im) (list-of i) (λ r. of-found listing (file-indexed i (r .entries)) h)
 
-  of-sweep : (im : Image) → ((r : Reading) → P (give (sweeping (sweep-moves im r)))) → P (sweep-plan im)
+  of-sweep : (im : Image) → ((r : Reading) → P (give (sweeping im r))) → P (sweep-plan im)
   unfolding sweep-plan sweep-of
   of-sweep im h =
       of-onward (admitted im) (sweep-of im) (λ r.
-      of-checked (not (no-room r (r .entries))) (numbered 28) (give (sweeping (sweep-moves im r))) (h r))
+      of-checked (not (no-room r (r .entries))) (numbered 28) (give (sweeping im r)) (h r))
 
   of-mount : (im : Image) → ((r : Reading) → P (give (mount-work (mended im r)))) → P (mount-plan im)
   unfolding mount-plan

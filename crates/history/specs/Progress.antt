@@ -16,7 +16,7 @@ use Rattle.spec.specs.Files.{files, file-named}
 use Rattle.spec.specs.Place.{fits, with-marker, address, other-name, room}
 use Rattle.spec.specs.Write.{put-steps}
 use Rattle.spec.specs.Sweep.{moves}
-use Rattle.spec.specs.Answers.{Plan, format, carry-out, doing, sweeping, put, sweep, sweep-plan}
+use Rattle.spec.specs.Answers.{Plan, format, carry-out, putting, sweeping, put, sweep, sweep-plan}
 use Rattle.spec.specs.Numbers.{Outcome}
 use Rattle.spec.specs.History.{File, Ledger, ledger, replay, steps-of, with-file, one-if-fc, three-if}
 use Rattle.spec.specs.Progress.{to-pass, fifths, Uncut, Answers-0, moves-made, Passes, Progress}
@@ -57,11 +57,11 @@ sweep-on : {l : Ledger} {f : File} {im : Image} {r : Reading} (j k : ℕ) → Re
 sweep-on {l} {f} {im} {r} j k q h need =
     let m : ℕ = min 5 (length (r .entries)) in
     let ms : List (List Step) = moves m im r in
-    let plan : sweep-plan im ≡ give (sweeping ms) =
+    let plan : sweep-plan im ≡ give (sweeping im r) =
     sweep-is im (give r) (q .good) (rested-settled q) ∙ sweep-by im r false (goes-on q h .1) in
     let enough : length (concat ms) ≤ k = subst (λ (p : Answer Plan). length (steps-of p) ≤ k) plan need in
-    let e : sweep im k ≡ record { numbers = sweeping ms .done; image = run im (concat ms) } =
-    ap (carry-out im k) plan ∙ carried-done im k (sweeping ms) enough in
+    let e : sweep im k ≡ record { numbers = sweeping im r .done; image = run im (concat ms) } =
+    ap (carry-out im k) plan ∙ carried-done im k (sweeping im r) enough in
     let p : Passed (f ∷ l) m (suc j) im r = passes m (suc j) q h in
     let c : suc j ≤ length (r .entries) = ahead-count h in
     subst (On (f ∷ l) (suc j)) (sym e)
@@ -152,10 +152,9 @@ put-gets-on im l n c m i b e = go (puts-of l im n c i)
         sym (refused im m (r .number)) ∙ sym (ap (λ (p : Answer Plan). carry-out im m p .numbers .answer) (r .is)) ∙ e in
         absurd (not-both (eqb (r .number) 0) (r .not-done) (eq-eqb (r .number) 0 z))
     go (put-yes r q nice rule k) =
-        let ss : List Step = put-steps (r .place) (file-named n (r .entries)) n c in
-        let e₁ : carry-out im m (give (doing ss)) .numbers .answer ≡ 0 =
+        let e₁ : carry-out im m (give (putting n c im r)) .numbers .answer ≡ 0 =
         sym (ap (λ (p : Answer Plan). carry-out im m p .numbers .answer) k) ∙ e in
-        subst Passes (sym (ap (λ (p : Answer Plan). carry-out im m p .image) k ∙ done-image im m (doing ss) e₁))
+        subst Passes (sym (ap (λ (p : Answer Plan). carry-out im m p .image) k ∙ done-image im m (putting n c im r) e₁))
         (put-passes q n c nice b rule (file-named n (r .entries))
         (subst (λ (x : Reading). Old n (x .entries) (file-named n (x .entries))) (sym (q .is)) (old-file n (q .es) l (q .ok))))
 

@@ -15,7 +15,7 @@ use Rattle.spec.specs.Chain.{Reading}
 use Rattle.spec.specs.Files.{file-named}
 use Rattle.spec.specs.Place.{address, with-marker, room}
 use Rattle.spec.specs.Write.{status-step, migrate-steps, delete-steps, marker-steps, turn-steps, record-steps, put-steps}
-use Rattle.spec.specs.Answers.{Plan, doing, put-into, put-plan}
+use Rattle.spec.specs.Answers.{Plan, putting, put-into, put-plan}
 use Rattle.spec.specs.Door.{settled-reading, admitted-named}
 use Rattle.spec.specs.History.{three-if}
 use Rattle.spec.specs.Bounds.{At-most, old-count, put-count, Put-exact, Put-bound, Put-kinds}
@@ -79,14 +79,14 @@ put-steps-most p o n c =
 record Given (n c : List ℕ) (im : Image) (p : Plan) : Type 0 where
   pub r : Reading
   pub settled : settled-reading im ≡ give r
-  pub is : doing (put-steps (r .place) (file-named n (r .entries)) n c) ≡ p
+  pub is : putting n c im r ≡ p
 
-given-by : (n c : List ℕ) (im : Image) (p : Plan) (r : Reading) → settled-reading im ≡ give r → put-into n c r ≡ give p → Given n c im p
+given-by : (n c : List ℕ) (im : Image) (p : Plan) (r : Reading) → settled-reading im ≡ give r → put-into n c im r ≡ give p → Given n c im p
 unfolding put-into
 given-by n c im p r s e = into (room (r .place) n (size-of (length n) (length c)) (r .entries)) e
   where
     P : Plan
-    P = doing (put-steps (r .place) (file-named n (r .entries)) n c)
+    P = putting n c im r
 
     into : (b : Bool) → checked b (numbered 28) (give P) ≡ give p → Given n c im p
     into false k = absurd (let z : _≡_ {A = ℕ} 0 1 = cc in omega arith)
@@ -95,7 +95,7 @@ given-by n c im p r s e = into (room (r .place) n (size-of (length n) (length c)
 given : (n c : List ℕ) (im : Image) (p : Plan) → put-plan n c im ≡ give p → Given n c im p
 unfolding put-plan
 given n c im p e =
-    let g = gave (admitted-named n im) (put-into n c) p e in
+    let g = gave (admitted-named n im) (put-into n c im) p e in
     given-by n c im p (g .value) (named-gives im (g .value) n (g .from) .2) (g .on)
 
 -- THE theorem on put: its steps, by case

@@ -17,8 +17,10 @@ use Rattle.spec.specs.Files.{file-named}
 use Rattle.spec.specs.Reading.{reading}
 use Rattle.spec.specs.Place.{with-marker}
 use Rattle.spec.specs.Write.{put-steps}
-use Rattle.spec.specs.Answers.{Plan, doing, carry-out, cut, put-plan}
-use Rattle.spec.specs.Numbers.{Numbers, Outcome, refusal, of-write}
+use Rattle.spec.specs.Answers.{Plan, carry-out, cut, put-plan}
+use Rattle.spec.specs.declared.Space.{Space}
+use Rattle.spec.specs.Space.{space-left, put-work}
+use Rattle.spec.specs.Numbers.{Numbers, Outcome, refusal, of-put}
 use Rattle.spec.specs.History.{Request, steps-of, partly, next-byte, Ledger, with-file, one-if-fc, three-if, commit-place, committed-at, put-done, fed}
 use Rattle.spec.specs.Demand.{Steps-sound}
 use Rattle.history.specs.Kinds.{Inv, Bytes, Rested}
@@ -46,9 +48,9 @@ done-refused : (im : Image) (n c : List ℕ) (m w : ℕ) → eqb m 0 ≡ false �
 unfolding put-done
 done-refused im n c m w e f = rw (f, put-done) e
 
-done-whole : (im : Image) (n c : List ℕ) (ss : List Step) (w : ℕ) → put-done im n c (of-write 0 (length ss)) w ≡ true
+done-whole : (im : Image) (n c : List ℕ) (x : Space) (ss : List Step) (w : ℕ) → put-done im n c (of-put 0 x (length ss)) w ≡ true
 unfolding put-done
-done-whole im n c ss w = refl
+done-whole im n c x ss w = refl
 
 done-cut : (im : Image) (n c : List ℕ) (k : ℕ) (p : Plan) (w : ℕ) → put-done im n c (cut k p) w ≡ committed-at (commit-place n c (reading im)) k w
 unfolding put-done
@@ -74,10 +76,10 @@ put-refused im l n c k v m i e f =
     let s : left im k v (refuse (numbered m)) ≡ im = ap (λ (x : List Step). partly v x im) (drop-nil k) ∙ partly-none v im in
     subst (λ (x : Ledger). Inv x (left im k v (refuse (numbered m)))) (sym (fed-no im n c (refusal (numbered m)) _ l (done-refused im n c m _ e f))) (subst (Inv l) (sym s) i)
 
-module _ (im : Image) (l : Ledger) (n c : List ℕ) (k v : ℕ) (ss : List Step) (at : ℕ) {h : ℕ} (place : commit-place n c (reading im) ≡ at)
-    (m : Commits l (with-file n c l) im ss at h) where
+module _ (im : Image) (l : Ledger) (n c : List ℕ) (k v : ℕ) (space : Space) (ss : List Step) (at : ℕ) {h : ℕ}
+    (place : commit-place n c (reading im) ≡ at) (m : Commits l (with-file n c l) im ss at h) where
   abbrev P : Plan
-  P = doing ss
+  P = record { steps = ss; moves = []; done = of-put 0 space (length ss) }
 
   -- an outcome with these numbers and this image
   abbrev Fits : Outcome → Type 0
@@ -122,7 +124,8 @@ module _ (im : Image) (l : Ledger) (n c : List ℕ) (k v : ℕ) (ss : List Step)
       go true e =
           let none : drop k ss ≡ [] = drop-of-length-le ss {i = k} (leb-true (length ss) k e) in
           subst Fits (sym (carried-done im k P (leb-true (length ss) k e)))
-          (subst (λ (x : Ledger). Inv x (partly v (drop k ss) (run im ss))) (sym (fed-yes im n c (of-write 0 (length ss)) _ l (done-whole im n c ss _)))
+          (subst (λ (x : Ledger). Inv x (partly v (drop k ss) (run im ss)))
+          (sym (fed-yes im n c (of-put 0 space (length ss)) _ l (done-whole im n c space ss _)))
           (subst (Inv (with-file n c l)) (sym (ap (λ (x : List Step). partly v x (run im ss)) none ∙ partly-none v (run im ss))) (commits-end m)))
       go false e = subst Fits (sym (carried-cut im k P (leb-false (length ss) k e))) cut-fits
 
@@ -144,7 +147,7 @@ put-keeps im l n c k v i b = go (puts-of l im n c i)
     go (put-no r) = subst (Keeps Inv im l (Request.put n c) k v) (sym (r .is)) (put-refused im l n c k v (r .number) i (r .not-done) (r .not-cut))
     go (put-yes r q ok f e) =
         subst (Keeps Inv im l (Request.put n c) k v) (sym e)
-        (put-given im l n c k v (put-steps (r .place) (file-named n (r .entries)) n c) _ (place-is im r n c (rested-reads q))
+        (put-given im l n c k v (space-left (put-work n c im r)) (put-steps (r .place) (file-named n (r .entries)) n c) _ (place-is im r n c (rested-reads q))
         (put-commits q (file-named n (r .entries)) n c (rested-old n q) ok b (room-fits (r .place) n _ (r .entries) f)))
 
 -- its steps are sound

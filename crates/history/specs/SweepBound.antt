@@ -189,10 +189,10 @@ most-by im p r s e = into (no-room r (r .entries)) e
     n : ℕ
     n = length (r .entries)
 
-    into : (b : Bool) → checked (not b) (numbered 28) (give (sweeping (sweep-moves im r))) ≡ give p → Sweeps-most im p
+    into : (b : Bool) → checked (not b) (numbered 28) (give (sweeping im r)) ≡ give p → Sweeps-most im p
     into true k = absurd (let z : _≡_ {A = ℕ} 0 1 = cc in omega arith)
     into false k =
-        let i : sweeping (sweep-moves im r) ≡ p = cc in
+        let i : sweeping im r ≡ p = cc in
         subst (Sweeps-most im) i
         (record {
           own = refl;

@@ -28,3 +28,7 @@ checked-on false x a b e = absurd (never-gives x b e)
 pub passed : {A : Type 0} (t : Bool) (x : Refusal) (a b : A) → checked t x (give a) ≡ give b → (t ≡ true) × (a ≡ b)
 passed true x a b e = (refl, cc)
 passed false x a b e = absurd (never-gives x b e)
+
+-- equal answers give equal values
+pub given-is : {A : Type 0} {a b : A} → _≡_ {A = Answer A} (give a) (give b) → a ≡ b
+given-is e = cc

@@ -17,7 +17,7 @@ use Rattle.laws.specs.Parts.{long-true, long-le}
 -- x was found at the front of l bytes
 abbrev pub Fits : Next → ℕ → Type 0
 Fits (Next.Record n d) l = size-of n d ≤ l
-Fits Next.Wrap l = Unit {0}
+Fits Next.Wrap l = 8 ≤ l
 Fits Next.TornWrap l = 8 ≤ l
 Fits Next.Clear l = 8 ≤ l
 Fits Next.Over l = l < 1
@@ -51,7 +51,7 @@ module _ (s : List ℕ) where
     next-at-fits Kind.Record = sized-fits (name-length 64 false (drop 8 s)) (data-len-of s) _ _ refl refl
     next-at-fits Kind.Reserved = sized-fits (name-length 64 true (drop 8 s)) (data-len-of s) _ _ refl refl
     next-at-fits Kind.Torn = torn-fits _ refl
-    next-at-fits Kind.Marker = tt
+    next-at-fits Kind.Marker = l
     next-at-fits Kind.TornMarker = torn-wrap-fits _ refl
     next-at-fits Kind.Clear = clear-fits _ refl
     next-at-fits Kind.Bad = tt

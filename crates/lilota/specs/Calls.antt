@@ -20,7 +20,7 @@ module _ (image : Image) (k : ℕ) where
   unfolding list-plan
   list-is = refl
 
-  pub put-is : (name content : List ℕ) → carry-out image k (onward (admitted-named name image) (put-into name content)) ≡ put image name content k
+  pub put-is : (name content : List ℕ) → carry-out image k (onward (admitted-named name image) (put-into name content image)) ≡ put image name content k
   unfolding put-plan
   put-is name content = refl
 

@@ -1,6 +1,8 @@
 pub mod Numbers
 pub mod Carry
 pub mod Door
+pub mod Space
+pub mod Stored
 pub mod Calls
 pub mod Format
 pub mod Look

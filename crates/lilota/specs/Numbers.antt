@@ -7,30 +7,39 @@ use lib.ListN.{length}
 use denote.Ref.{RefT, ptr}
 use Rattle.spec.specs.declared.Report.{Report}
 use Rattle.spec.specs.declared.Extent.{Extent}
+use Rattle.spec.specs.declared.Space.{Space}
 use Rattle.spec.specs.Step.{Image}
-use Rattle.spec.specs.Numbers.{Numbers, Outcome, outcome-of, of-write, of-mount, of-sweep, of-get, of-list, refusal, is-refusal}
+use Rattle.spec.specs.Space.{no-space}
+use Rattle.spec.specs.Numbers.{Numbers, Outcome, outcome-of, of-write, of-put, of-mount, of-sweep, of-get, of-list, refusal, is-refusal}
 use Rattle.lilota.specs.declared.Written.{Written}
+use Rattle.lilota.specs.declared.Stored.{Stored}
 use Rattle.lilota.specs.declared.Mounted.{Mounted}
 use Rattle.lilota.specs.declared.Swept.{Swept}
 use Rattle.lilota.specs.declared.Located.{Located}
 use Rattle.lilota.specs.declared.Listed.{Listed}
 
--- format, put and remove: "Writing calls .. report steps used"
+-- format and remove: "Writing calls .. report steps used"
 abbrev pub written : Written → Numbers
 written (Written.Done k) = of-write 0 k
 written (Written.Cut k) = of-write 4 k
 written (Written.Refused x) = refusal x
 
+-- put: as these, and on success "the same record .., for the image they leave"
+abbrev pub stored : Stored → Numbers
+stored (Stored.Done x k) = of-put 0 x k
+stored (Stored.Cut k) = of-write 4 k
+stored (Stored.Refused x) = refusal x
+
 -- "Mount's success gives h, T, the count of live files (of the image it leaves), steps"
 abbrev pub mounted : Mounted → Numbers
-mounted (Mounted.Done r k) = of-mount 0 r k
+mounted (Mounted.Done r x k) = of-mount 0 r x k
 mounted (Mounted.Cut k) = of-write 4 k
 mounted (Mounted.Refused x) = refusal x
 
 -- "Sweep's success gives finished moves and steps"; "4: steps used, and for sweep the finished moves"
 abbrev pub swept : Swept → Numbers
-swept (Swept.Done n k) = of-sweep 0 n k
-swept (Swept.Cut n k) = of-sweep 4 n k
+swept (Swept.Done n x k) = of-sweep 0 n x k
+swept (Swept.Cut n k) = of-sweep 4 n no-space k
 swept (Swept.Refused x) = refusal x
 
 -- "there get gives offset and length"
@@ -48,13 +57,18 @@ Written-told (Written.Done k) = Unit {0}
 Written-told (Written.Cut k) = Unit {0}
 Written-told (Written.Refused x) = is-refusal (x .number) ≡ true
 
+abbrev pub Stored-told : Stored → Type 0
+Stored-told (Stored.Done x k) = Unit {0}
+Stored-told (Stored.Cut k) = Unit {0}
+Stored-told (Stored.Refused x) = is-refusal (x .number) ≡ true
+
 abbrev pub Mounted-told : Mounted → Type 0
-Mounted-told (Mounted.Done r k) = Unit {0}
+Mounted-told (Mounted.Done r x k) = Unit {0}
 Mounted-told (Mounted.Cut k) = Unit {0}
 Mounted-told (Mounted.Refused x) = is-refusal (x .number) ≡ true
 
 abbrev pub Swept-told : Swept → Type 0
-Swept-told (Swept.Done n k) = Unit {0}
+Swept-told (Swept.Done n x k) = Unit {0}
 Swept-told (Swept.Cut n k) = Unit {0}
 Swept-told (Swept.Refused x) = is-refusal (x .number) ≡ true
 
@@ -87,6 +101,9 @@ Lies-at r image x = ptr r ≡ (ptr image .0, x .offset + ptr image .1)
 abbrev pub report : ℕ → ℕ → ℕ → Report
 report head tail files = record { head = head; tail = tail; files = files }
 
+abbrev pub space : ℕ → ℕ → ℕ → ℕ → Space
+space live dead free lost = record { live = live; dead = dead; free = free; lost = lost }
+
 abbrev pub extent : ℕ → ℕ → Extent
 extent offset length = record { offset = offset; length = length }
 
@@ -95,26 +112,40 @@ written-numbers (Written.Done i) n k p q = λ j. of-write (p j) (q j)
 written-numbers (Written.Cut i) n k p q = λ j. of-write (p j) (q j)
 written-numbers (Written.Refused x) n k p q = λ j. of-write (p j) (q j)
 
-pub mounted-numbers : (w : Mounted) (a k : ℕ) (r : Report) → a ≡ mounted w .answer → r ≡ mounted w .report → k ≡ mounted w .steps
-    → of-mount a r k ≡ mounted w
-mounted-numbers (Mounted.Done x y) a k r p q s = λ j. of-mount (p j) (q j) (s j)
-mounted-numbers (Mounted.Cut x) a k r p q s = λ j. of-mount (p j) (q j) (s j)
-mounted-numbers (Mounted.Refused x) a k r p q s = λ j. of-mount (p j) (q j) (s j)
+pub stored-numbers : (w : Stored) (n k : ℕ) (x : Space) → n ≡ stored w .answer → x ≡ stored w .space → k ≡ stored w .steps
+    → of-put n x k ≡ stored w
+stored-numbers (Stored.Done y i) n k x p q r = λ j. of-put (p j) (q j) (r j)
+stored-numbers (Stored.Cut i) n k x p q r = λ j. of-put (p j) (q j) (r j)
+stored-numbers (Stored.Refused y) n k x p q r = λ j. of-put (p j) (q j) (r j)
 
-pub swept-numbers : (w : Swept) (n i k : ℕ) → n ≡ swept w .answer → i ≡ swept w .moves → k ≡ swept w .steps → of-sweep n i k ≡ swept w
-swept-numbers (Swept.Done a b) n i k p q r = λ j. of-sweep (p j) (q j) (r j)
-swept-numbers (Swept.Cut a b) n i k p q r = λ j. of-sweep (p j) (q j) (r j)
-swept-numbers (Swept.Refused x) n i k p q r = λ j. of-sweep (p j) (q j) (r j)
+pub mounted-numbers : (w : Mounted) (a k : ℕ) (r : Report) (x : Space) → a ≡ mounted w .answer → r ≡ mounted w .report → x
+    ≡ mounted w .space
+    → k ≡ mounted w .steps → of-mount a r x k ≡ mounted w
+mounted-numbers (Mounted.Done u v y) a k r x p q o s = λ j. of-mount (p j) (q j) (o j) (s j)
+mounted-numbers (Mounted.Cut u) a k r x p q o s = λ j. of-mount (p j) (q j) (o j) (s j)
+mounted-numbers (Mounted.Refused u) a k r x p q o s = λ j. of-mount (p j) (q j) (o j) (s j)
+
+pub swept-numbers : (w : Swept) (n i k : ℕ) (x : Space) → n ≡ swept w .answer → i ≡ swept w .moves → x ≡ swept w .space → k ≡ swept w .steps
+    → of-sweep n i x k ≡ swept w
+swept-numbers (Swept.Done a y b) n i k x p q o r = λ j. of-sweep (p j) (q j) (o j) (r j)
+swept-numbers (Swept.Cut a b) n i k x p q o r = λ j. of-sweep (p j) (q j) (o j) (r j)
+swept-numbers (Swept.Refused y) n i k x p q o r = λ j. of-sweep (p j) (q j) (o j) (r j)
 
 -- with the image
-pub written-given : (w : Written) (n k : ℕ) (t : Image) (o : Outcome) → n ≡ written w .answer → k ≡ written w .steps → outcome-of (written w) t ≡ o
+pub written-given : (w : Written) (n k : ℕ) (t : Image) (o : Outcome) → n ≡ written w .answer → k ≡ written w .steps
+    → outcome-of (written w) t ≡ o
     → outcome-of (of-write n k) t ≡ o
 written-given w n k t o p q e = ap (λ (x : Numbers). outcome-of x t) (written-numbers w n k p q) ∙ e
 
-pub mounted-given : (w : Mounted) (a k : ℕ) (r : Report) (i : Image) (o : Outcome) → a ≡ mounted w .answer → r ≡ mounted w .report
-    → k ≡ mounted w .steps → outcome-of (mounted w) i ≡ o → outcome-of (of-mount a r k) i ≡ o
-mounted-given w a k r i o p q s e = ap (λ (x : Numbers). outcome-of x i) (mounted-numbers w a k r p q s) ∙ e
+pub stored-given : (w : Stored) (n k : ℕ) (x : Space) (t : Image) (o : Outcome) → n ≡ stored w .answer → x ≡ stored w .space
+    → k ≡ stored w .steps → outcome-of (stored w) t ≡ o → outcome-of (of-put n x k) t ≡ o
+stored-given w n k x t o p q r e = ap (λ (y : Numbers). outcome-of y t) (stored-numbers w n k x p q r) ∙ e
 
-pub swept-given : (w : Swept) (n i k : ℕ) (t : Image) (o : Outcome) → n ≡ swept w .answer → i ≡ swept w .moves → k ≡ swept w .steps
-    → outcome-of (swept w) t ≡ o → outcome-of (of-sweep n i k) t ≡ o
-swept-given w n i k t o p q r e = ap (λ (x : Numbers). outcome-of x t) (swept-numbers w n i k p q r) ∙ e
+pub mounted-given : (w : Mounted) (a k : ℕ) (r : Report) (x : Space) (i : Image) (o : Outcome) → a ≡ mounted w .answer → r
+    ≡ mounted w .report
+    → x ≡ mounted w .space → k ≡ mounted w .steps → outcome-of (mounted w) i ≡ o → outcome-of (of-mount a r x k) i ≡ o
+mounted-given w a k r x i o p q u s e = ap (λ (y : Numbers). outcome-of y i) (mounted-numbers w a k r x p q u s) ∙ e
+
+pub swept-given : (w : Swept) (n i k : ℕ) (x : Space) (t : Image) (o : Outcome) → n ≡ swept w .answer → i ≡ swept w .moves
+    → x ≡ swept w .space → k ≡ swept w .steps → outcome-of (swept w) t ≡ o → outcome-of (of-sweep n i x k) t ≡ o
+swept-given w n i k x t o p q u r e = ap (λ (y : Numbers). outcome-of y t) (swept-numbers w n i k x p q u r) ∙ e

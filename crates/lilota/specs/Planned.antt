@@ -7,20 +7,25 @@ use lib.ListN.{length, take, drop}
 use lib.Seq.{take-nil, drop-nil}
 use Rattle.spec.specs.declared.Refusal.{Refusal}
 use Rattle.spec.specs.declared.Report.{Report}
+use Rattle.spec.specs.declared.Space.{Space}
 use Rattle.spec.specs.Step.{Image, Step}
 use Rattle.spec.specs.Basics.{Answer, refuse, give, onward}
 use Rattle.spec.specs.Chain.{Reading}
-use Rattle.spec.specs.Numbers.{Numbers, of-write, of-mount, of-sweep, refusal}
+use Rattle.spec.specs.Numbers.{Numbers, of-write, of-put, of-mount, of-sweep, refusal}
 use Rattle.spec.specs.Door.{accepted, admitted, admitted-named}
-use Rattle.spec.specs.Answers.{Plan, doing, put-into, put-plan, file-of, file-plan, removing, remove-plan, sweep-of, sweep-plan, mount-of, mount-plan}
+use Rattle.spec.specs.Answers.{Plan, doing, put-into, put-plan, file-of, file-plan, removing, remove-plan, sweep-of, sweep-plan, mount-of}
+use Rattle.spec.specs.Answers.{mount-plan}
 use Rattle.spec.specs.Planner.{Slices, shortest, window, filled-with, Handing, hand-out, Writing, planned}
 use Rattle.window.specs.declared.Window.{Window}
 use Rattle.window.specs.Handed.{hand-all, Handed}
 use Rattle.window.specs.Windows.{window-handed, window-length}
 use Rattle.lilota.specs.declared.Written.{Written}
+use Rattle.lilota.specs.declared.Stored.{Stored}
 use Rattle.lilota.specs.declared.Mounted.{Mounted}
 use Rattle.lilota.specs.declared.Swept.{Swept}
-use Rattle.lilota.specs.Numbers.{written, mounted, swept, written-numbers, mounted-numbers, swept-numbers}
+use Rattle.lilota.specs.Stored.{writing}
+use Rattle.lilota.specs.Numbers.{written, stored, mounted, swept}
+use Rattle.lilota.specs.Numbers.{written-numbers, stored-numbers, mounted-numbers, swept-numbers}
 
 abbrev pub handing : Numbers → ℕ → Slices → Handing
 handing n k s = record { numbers = n; handed = k; slices = s }
@@ -35,12 +40,20 @@ planned-out {s} {t} {w} {r} p first f z h =
     h .slots ∙ ap₂ (λ (i j : ℕ). hand-all i j (p .steps) s) f z ∙ window-handed first (p .steps) s in
     ap₂ (handing (p .done)) (ap (min (shortest s)) n ∙ sym (window-length first (shortest s) (p .steps))) slots
 
--- of a put or a remove: the steps are all that it gives back
+-- of a remove: the steps are all that it gives back
 pub written-out : {s t : Slices} {w r : Window} (ss : List Step) (first : ℕ) → w .first ≡ first → w .passed ≡ 0 → Handed s w ss t r
     → handing (of-write 0 (r .passed)) (min (shortest s) (r .passed - r .first)) t ≡ hand-out (give (doing ss)) first s
 written-out {s} {t} {w} {r} ss first f z h =
     let n : r .passed ≡ length ss = omega (arith, h .count) in
     ap (λ (k : ℕ). handing (of-write 0 k) (min (shortest s) (r .passed - r .first)) t) n ∙ planned-out (doing ss) first f z h
+
+-- of a put: its record too
+pub stored-out : {s t : Slices} {w r : Window} {x : Space} (ss : List Step) (first : ℕ) → w .first ≡ first → w .passed ≡ 0
+    → Handed s w ss t r
+    → handing (of-put 0 x (r .passed)) (min (shortest s) (r .passed - r .first)) t ≡ hand-out (give (writing x ss)) first s
+stored-out {s} {t} {w} {r} {x} ss first f z h =
+    let n : r .passed ≡ length ss = omega (arith, h .count) in
+    ap (λ (k : ℕ). handing (of-put 0 x k) (min (shortest s) (r .passed - r .first)) t) n ∙ planned-out (writing x ss) first f z h
 
 -- ---- at the door
 
@@ -66,7 +79,8 @@ let-out r first s f e = ap (λ (y : Answer Reading). hand-out (onward y f) first
 
 module _ (image : Image) (first : ℕ) (s : Slices) where
   pub put-planned : (name content : List ℕ)
-      → hand-out (onward (admitted-named name image) (put-into name content)) first s ≡ planned (Writing.put name content) image first s
+      → hand-out (onward (admitted-named name image) (put-into name content image)) first s
+      ≡ planned (Writing.put name content) image first s
   unfolding put-plan
   put-planned name content = refl
 
@@ -85,14 +99,19 @@ module _ (image : Image) (first : ℕ) (s : Slices) where
 
 -- ---- what C gets of an answer: its numbers, one by one
 
-pub written-handed : (w : Written) (n k h : ℕ) (s : Slices) (o : Handing) → n ≡ written w .answer → k ≡ written w .steps → handing (written w) h s ≡ o
+pub written-handed : (w : Written) (n k h : ℕ) (s : Slices) (o : Handing) → n ≡ written w .answer → k ≡ written w .steps
+    → handing (written w) h s ≡ o
     → handing (of-write n k) h s ≡ o
 written-handed w n k h s o p q e = ap (λ (x : Numbers). handing x h s) (written-numbers w n k p q) ∙ e
 
-pub mounted-handed : (w : Mounted) (a k : ℕ) (r : Report) (h : ℕ) (s : Slices) (o : Handing) → a ≡ mounted w .answer → r ≡ mounted w .report
-    → k ≡ mounted w .steps → handing (mounted w) h s ≡ o → handing (of-mount a r k) h s ≡ o
-mounted-handed w a k r h s o p q t e = ap (λ (x : Numbers). handing x h s) (mounted-numbers w a k r p q t) ∙ e
+pub stored-handed : (w : Stored) (n k : ℕ) (x : Space) (h : ℕ) (s : Slices) (o : Handing) → n ≡ stored w .answer → x ≡ stored w .space
+    → k ≡ stored w .steps → handing (stored w) h s ≡ o → handing (of-put n x k) h s ≡ o
+stored-handed w n k x h s o p q r e = ap (λ (y : Numbers). handing y h s) (stored-numbers w n k x p q r) ∙ e
 
-pub swept-handed : (w : Swept) (n i k h : ℕ) (s : Slices) (o : Handing) → n ≡ swept w .answer → i ≡ swept w .moves → k ≡ swept w .steps
-    → handing (swept w) h s ≡ o → handing (of-sweep n i k) h s ≡ o
-swept-handed w n i k h s o p q r e = ap (λ (x : Numbers). handing x h s) (swept-numbers w n i k p q r) ∙ e
+pub mounted-handed : (w : Mounted) (a k : ℕ) (r : Report) (x : Space) (h : ℕ) (s : Slices) (o : Handing) → a ≡ mounted w .answer
+    → r ≡ mounted w .report → x ≡ mounted w .space → k ≡ mounted w .steps → handing (mounted w) h s ≡ o → handing (of-mount a r x k) h s ≡ o
+mounted-handed w a k r x h s o p q u t e = ap (λ (y : Numbers). handing y h s) (mounted-numbers w a k r x p q u t) ∙ e
+
+pub swept-handed : (w : Swept) (n i k : ℕ) (x : Space) (h : ℕ) (s : Slices) (o : Handing) → n ≡ swept w .answer → i ≡ swept w .moves
+    → x ≡ swept w .space → k ≡ swept w .steps → handing (swept w) h s ≡ o → handing (of-sweep n i x k) h s ≡ o
+swept-handed w n i k x h s o p q u r e = ap (λ (y : Numbers). handing y h s) (swept-numbers w n i k x p q u r) ∙ e

@@ -16,7 +16,7 @@ use Rattle.spec.specs.Files.{has-name, file-named}
 use Rattle.spec.specs.Chain.{Reading}
 use Rattle.spec.specs.Place.{fits, fits-all, room}
 use Rattle.spec.specs.Write.{put-steps}
-use Rattle.spec.specs.Answers.{Plan, carry-out, doing, put-into}
+use Rattle.spec.specs.Answers.{Plan, carry-out, putting, put-into}
 use Rattle.record.specs.Within.{Name-length}
 use Rattle.reading.specs.declared.Spot.{Spot}
 use Rattle.reading.specs.declared.Found.{Found}
@@ -86,13 +86,14 @@ ready-place image s n d asked w l f z =
 
 module _ (name content : List ℕ) where
   -- the steps, if there is room (t)
-  abbrev put-if : Reading → Bool → Answer Plan
-  put-if r t = checked t (numbered 28) (give (doing (put-steps (r .place) (file-named name (r .entries)) name content)))
+  abbrev put-if : Image → Reading → Bool → Answer Plan
+  put-if image r t = checked t (numbered 28) (give (putting name content image r))
 
-  pub room-plan : (r : Reading) (t : Bool) → t ≡ room-in r name (length content) → put-if r t ≡ put-into name content r
+  pub room-plan : (image : Image) (r : Reading) (t : Bool) → t ≡ room-in r name (length content)
+      → put-if image r t ≡ put-into name content image r
   unfolding put-into
-  room-plan r t e = ap (put-if r) e
+  room-plan image r t e = ap (put-if image r) e
 
   pub put-room : (image : Image) (k : ℕ) (r : Reading) (t : Bool) → t ≡ room-in r name (length content)
-      → carry-out image k (put-if r t) ≡ carry-out image k (put-into name content r)
-  put-room image k r t e = ap (carry-out image k) (room-plan r t e)
+      → carry-out image k (put-if image r t) ≡ carry-out image k (put-into name content image r)
+  put-room image k r t e = ap (carry-out image k) (room-plan image r t e)

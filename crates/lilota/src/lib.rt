@@ -22,6 +22,7 @@ use reading::Found;
 use spec::Extent;
 use spec::Refusal;
 use spec::Report;
+use spec::Space;
 use spec::Status;
 use writing::Old;
 use writing::format::format_image;
@@ -41,21 +42,47 @@ pub enum Written {
     Refused(Refusal),
 }
 
-// What mount answers: done, with what it reports of the image it leaves; cut; or refused.
-pub enum Mounted {
-    Done { report: Report, steps: usize },
+// What put answers: done, with what the bytes of the image that it leaves are good for; cut; or refused.
+pub enum Stored {
+    Done { space: Space, steps: usize },
     Cut { steps: usize },
     Refused(Refusal),
 }
 
-// What sweep answers: done, with the number of its moves; cut, after so many finished moves; or refused.
-pub enum Swept {
-    Done { moves: usize, steps: usize },
-    Cut { moves: usize, steps: usize },
+// What mount answers: done, with what it reports of the image it leaves; cut; or refused.
+pub enum Mounted {
+    Done {
+        report: Report,
+        space: Space,
+        steps: usize,
+    },
+    Cut {
+        steps: usize,
+    },
     Refused(Refusal),
 }
 
-// What a planned put or remove answers: as the call itself does with enough allowance; and how many steps it handed out.
+// What sweep answers: done, with the number of its moves, and as put; cut, after so many finished moves; or refused.
+pub enum Swept {
+    Done {
+        moves: usize,
+        space: Space,
+        steps: usize,
+    },
+    Cut {
+        moves: usize,
+        steps: usize,
+    },
+    Refused(Refusal),
+}
+
+// What a planned put answers: as the call itself does with enough allowance; and how many steps it handed out.
+pub struct PlannedPut {
+    pub answer: Stored,
+    pub handed: usize,
+}
+
+// What a planned remove answers: as the call itself does with enough allowance; and how many steps it handed out.
 pub struct PlannedWrite {
     pub answer: Written,
     pub handed: usize,

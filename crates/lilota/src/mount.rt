@@ -2,23 +2,27 @@
 use crate::Mounted;
 use crate::door::accepted;
 use flash::Meter;
+use planner::space::mount_space;
 use reading::Judged;
 use reading::Judgement;
 use reading::Survey;
 use recovery::mend;
 use spec::Report;
+use spec::Space;
 ghost use mathlib.Core.Path.{_≡_};
-ghost use Rattle.spec.specs.Mount.{settled};
+ghost use Rattle.spec.specs.Mount.{mended, settled};
+ghost use Rattle.spec.specs.Space.{no-space, space-left};
 ghost use Rattle.spec.specs.Numbers.{outcome-of, no-report};
 ghost use Rattle.spec.specs.Answers.{carry-out, mount-of, mount};
 ghost use Rattle.reading.specs.Read.{reading-of};
 ghost use Rattle.reading.specs.Accepted.{Accepted};
 ghost use Rattle.lilota.specs.declared.Mounted.{Mounted};
+ghost use Rattle.lilota.specs.Space.{Legal};
 ghost use Rattle.lilota.specs.Numbers.{mounted, report, Mounted-told};
 
 // What is reported of an image on which mount has no step to do.
-fn unchanged(s: Survey) -> Mounted
-    ensures { λ r. ⌜ r ≡ Mounted.Done (report (s .place .head) (s .place .tail) (s .tally .files)) 0 ⌝ }
+fn unchanged(s: Survey, space: Space) -> Mounted
+    ensures { λ r. ⌜ r ≡ Mounted.Done (report (s .place .head) (s .place .tail) (s .tally .files)) space 0 ⌝ }
 {
     let p = s.place;
     let t = s.tally;
@@ -28,13 +32,14 @@ fn unchanged(s: Survey) -> Mounted
             tail: p.tail,
             files: t.files,
         },
+        space: space,
         steps: 0,
     }
 }
 
-// The repairs, on an image that was read.
-fn mount_repaired(image: &mut [u8], s: Survey, allowance: usize) -> Mounted
-    requires { ⌜ Accepted (now image) s ⌝ }
+// The repairs, on an image that was read; the space is that of the image that they leave.
+fn mount_repaired(image: &mut [u8], s: Survey, space: Space, allowance: usize) -> Mounted
+    requires { ⌜ Accepted (now image) s × (space ≡ space-left (mended (now image) (reading-of (now image) s))) ⌝ }
     ensures { λ r. ⌜ (outcome-of (mounted r) (now (image .exit))
         ≡ carry-out (now (image .entry)) allowance (mount-of (now (image .entry)) (reading-of (now (image .entry)) s)))
         × Mounted-told r ⌝ }
@@ -58,22 +63,25 @@ fn mount_repaired(image: &mut [u8], s: Survey, allowance: usize) -> Mounted
             tail: w.tail,
             files: w.files,
         },
+        space: space,
         steps: m.asked,
     }
 }
 
 // Mount on an image that was read: a settled one needs no further look.
 fn mount_from(image: &mut [u8], j: Judged, allowance: usize) -> Mounted
-    requires { ⌜ Accepted (now image) (j .survey) × (j .settled ≡ settled (now image) (reading-of (now image) (j .survey))) ⌝ }
+    requires { ⌜ Accepted (now image) (j .survey) × (j .settled ≡ settled (now image) (reading-of (now image) (j .survey)))
+        × Legal (now image) (j .survey) ⌝ }
     ensures { λ r. ⌜ (outcome-of (mounted r) (now (image .exit))
         ≡ carry-out (now (image .entry)) allowance (mount-of (now (image .entry)) (reading-of (now (image .entry)) (j .survey))))
         × Mounted-told r ⌝ }
 {
     let s = j.survey;
+    let space = mount_space(image, s);
     if j.settled {
-        return unchanged(s);
+        return unchanged(s, space);
     }
-    mount_repaired(image, s, allowance)
+    mount_repaired(image, s, space, allowance)
 }
 
 // Repairs the image, within this allowance of flash steps.
@@ -97,6 +105,17 @@ fn no_report() -> Report
     }
 }
 
+pub fn no_space() -> Space
+    ensures { λ r. ⌜ r ≡ no-space ⌝ }
+{
+    Space {
+        live: 0,
+        dead: 0,
+        free: 0,
+        lost: 0,
+    }
+}
+
 impl Mounted {
     // Document 01's number.
     pub fn answer(self) -> u32
@@ -105,6 +124,7 @@ impl Mounted {
         match self {
             Mounted::Done {
                 report: _,
+                space: _,
                 steps: _,
             } => 0,
             Mounted::Cut { steps: _ } => 4,
@@ -117,9 +137,28 @@ impl Mounted {
         ensures { λ r. ⌜ r ≡ mounted self .report ⌝ }
     {
         match self {
-            Mounted::Done { report, steps: _ } => report,
+            Mounted::Done {
+                report,
+                space: _,
+                steps: _,
+            } => report,
             Mounted::Cut { steps: _ } => no_report(),
             Mounted::Refused(_) => no_report(),
+        }
+    }
+
+    // Live, dead, free and lost bytes of the image that mount leaves; zeros where it was cut or refused.
+    pub fn space(self) -> Space
+        ensures { λ r. ⌜ r ≡ mounted self .space ⌝ }
+    {
+        match self {
+            Mounted::Done {
+                report: _,
+                space,
+                steps: _,
+            } => space,
+            Mounted::Cut { steps: _ } => no_space(),
+            Mounted::Refused(_) => no_space(),
         }
     }
 
@@ -128,7 +167,11 @@ impl Mounted {
         ensures { λ r. ⌜ r ≡ mounted self .steps ⌝ }
     {
         match self {
-            Mounted::Done { report: _, steps } => steps,
+            Mounted::Done {
+                report: _,
+                space: _,
+                steps,
+            } => steps,
             Mounted::Cut { steps } => steps,
             Mounted::Refused(_) => 0,
         }

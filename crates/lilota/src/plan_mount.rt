@@ -4,10 +4,12 @@ use crate::PlannedMount;
 use crate::door::accepted;
 use planner::mount::hand_mend;
 use planner::mount::planned_report;
+use planner::space::mount_space;
 use reading::Judgement;
 use reading::Survey;
 use spec::Refusal;
 use spec::Report;
+use spec::Space;
 use window::Window;
 use window::shortest;
 ghost use mathlib.Core.Path.{_≡_};
@@ -20,15 +22,16 @@ ghost use Rattle.window.specs.Handed.{slices};
 ghost use Rattle.lilota.specs.declared.Mounted.{Mounted};
 ghost use Rattle.lilota.specs.Numbers.{mounted, Mounted-told};
 ghost use Rattle.lilota.specs.Planned.{handing};
-ghost use Rattle.lilota.specs.PlanMount.{Legal};
+ghost use Rattle.lilota.specs.Space.{Legal};
 
 // All steps were passed.
-fn planned_mount(report: Report, w: Window, slots: usize) -> PlannedMount
-    ensures { λ r. ⌜ r ≡ record { answer = Mounted.Done report (w .passed); handed = min slots (w .passed - w .first) } ⌝ }
+fn planned_mount(report: Report, space: Space, w: Window, slots: usize) -> PlannedMount
+    ensures { λ r. ⌜ r ≡ record { answer = Mounted.Done report space (w .passed); handed = min slots (w .passed - w .first) } ⌝ }
 {
     PlannedMount {
         answer: Mounted::Done {
             report: report,
+            space: space,
             steps: w.passed,
         },
         handed: w.handed(slots),
@@ -62,8 +65,9 @@ fn plan_mount_from(
 {
     let slots = shortest(kinds.len(), addresses.len(), bytes.len());
     let report = planned_report(image, s);
+    let space = mount_space(image, s);
     let w = hand_mend(kinds, addresses, bytes, image, s, Window::from(first));
-    planned_mount(report, w, slots)
+    planned_mount(report, space, w, slots)
 }
 
 // Hands out the steps of a mount, from the step `first` on; the image stays as it is.

@@ -1,9 +1,10 @@
 // The steps of a put, handed out and not done.
-use crate::PlannedWrite;
+use crate::PlannedPut;
 use crate::door::admitted_named;
 use crate::old_file;
-use crate::planned::planned_write;
-use crate::planned::refused_write;
+use crate::planned::planned_put;
+use crate::planned::refused_put;
+use planner::space::put_space;
 use reading::Found;
 use reading::Read;
 use reading::Survey;
@@ -16,6 +17,8 @@ ghost use mathlib.Core.Path.{_≡_};
 ghost use mathlib.Core.Bool.{true};
 ghost use Prim.Native.Nat.{_≤_};
 ghost use lib.ListN.{length};
+ghost use Rattle.spec.specs.Basics.{give};
+ghost use Rattle.spec.specs.Door.{admitted-named};
 ghost use Rattle.spec.specs.Record.{size-of};
 ghost use Rattle.spec.specs.Files.{file-named};
 ghost use Rattle.spec.specs.Place.{fits};
@@ -25,7 +28,7 @@ ghost use Rattle.spec.specs.Planner.{Writing, hand-out, planned};
 ghost use Rattle.reading.specs.Read.{reading-of, File-told};
 ghost use Rattle.reading.specs.Accepted.{Settled};
 ghost use Rattle.window.specs.Handed.{slices, Handed};
-ghost use Rattle.lilota.specs.Numbers.{written, Written-told};
+ghost use Rattle.lilota.specs.Numbers.{stored, Stored-told};
 ghost use Rattle.lilota.specs.Planned.{handing};
 
 // Put's steps, where there is room.
@@ -64,14 +67,16 @@ fn plan_put_from(
     kinds: &mut [u32],
     addresses: &mut [u32],
     bytes: &mut [u32],
-) -> PlannedWrite
-    requires { ⌜ Settled (now image) s × (length (now name) ≤ 63) × File-told (now image) (now name) s f ⌝ }
-    ensures { λ r. ⌜ (handing (written (r .answer)) (r .handed) (slices (now (kinds .exit)) (now (addresses .exit)) (now (bytes .exit)))
-        ≡ hand-out (put-into (now (name .entry)) (now (content .entry)) (reading-of (now (image .entry)) s)) first
+) -> PlannedPut
+    requires { ⌜ Settled (now image) s × (length (now name) ≤ 63)
+        × (give (reading-of (now image) s) ≡ admitted-named (now name) (now image)) × File-told (now image) (now name) s f ⌝ }
+    ensures { λ r. ⌜ (handing (stored (r .answer)) (r .handed) (slices (now (kinds .exit)) (now (addresses .exit)) (now (bytes .exit)))
+        ≡ hand-out (put-into (now (name .entry)) (now (content .entry)) (now (image .entry)) (reading-of (now (image .entry)) s)) first
         (slices (now (kinds .entry)) (now (addresses .entry)) (now (bytes .entry))))
-        × Written-told (r .answer) ⌝ }
+        × Stored-told (r .answer) ⌝ }
 {
     if has_room(image, s, name, content.len()) {
+        let space = put_space(image, s, name, content.len());
         let slots = shortest(kinds.len(), addresses.len(), bytes.len());
         let w = plan_replace(
             image,
@@ -84,9 +89,9 @@ fn plan_put_from(
             bytes,
             Window::from(first),
         );
-        return planned_write(w, slots);
+        return planned_put(space, w, slots);
     }
-    refused_write(Refusal { number: 28 })
+    refused_put(Refusal { number: 28 })
 }
 
 // Hands out the steps of a put, from the step `first` on; the image stays as it is.
@@ -98,17 +103,17 @@ pub fn plan_put(
     kinds: &mut [u32],
     addresses: &mut [u32],
     bytes: &mut [u32],
-) -> PlannedWrite
-    ensures { λ r. ⌜ (handing (written (r .answer)) (r .handed) (slices (now (kinds .exit)) (now (addresses .exit)) (now (bytes .exit)))
+) -> PlannedPut
+    ensures { λ r. ⌜ (handing (stored (r .answer)) (r .handed) (slices (now (kinds .exit)) (now (addresses .exit)) (now (bytes .exit)))
         ≡ planned (Writing.put (now (name .entry)) (now (content .entry))) (now (image .entry)) first
         (slices (now (kinds .entry)) (now (addresses .entry)) (now (bytes .entry))))
-        × Written-told (r .answer) × (now (image .exit) ≡ now (image .entry)) ⌝ }
+        × Stored-told (r .answer) × (now (image .exit) ≡ now (image .entry)) ⌝ }
 {
     let d = admitted_named(image, name);
     let x = d.read;
     let f = d.file;
     match x {
         Read::Good(s) => plan_put_from(image, s, f, name, content, first, kinds, addresses, bytes),
-        Read::Refused(y) => refused_write(y),
+        Read::Refused(y) => refused_put(y),
     }
 }

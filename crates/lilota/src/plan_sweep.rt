@@ -3,6 +3,7 @@ use crate::PlannedSweep;
 use crate::door::admitted;
 use crate::planned::planned_sweep;
 use crate::planned::refused_sweep;
+use planner::stride::sweep_space;
 use planner::sweep::hand_sweep;
 use reading::Read;
 use reading::Survey;
@@ -43,6 +44,7 @@ fn plan_sweep_from(
     if no_room(image, place) {
         return refused_sweep(Refusal { number: 28 });
     }
+    let space = sweep_space(image, s, at_most(t.records));
     let slots = shortest(kinds.len(), addresses.len(), bytes.len());
     let start = first_cursor(image, place.head);
     let w = Window::from(first);
@@ -56,7 +58,7 @@ fn plan_sweep_from(
         at_most(t.records),
         w,
     );
-    planned_sweep(m, slots)
+    planned_sweep(m, space, slots)
 }
 
 // Hands out the steps of a sweep, from the step `first` on; the image stays as it is.

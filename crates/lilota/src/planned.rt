@@ -1,17 +1,44 @@
 // What a planned call answers, from the window that its emitters left.
+use crate::PlannedPut;
 use crate::PlannedSweep;
 use crate::PlannedWrite;
+use crate::Stored;
 use crate::Swept;
 use crate::Written;
 use planner::Moves;
 use spec::Refusal;
+use spec::Space;
 use window::Window;
 ghost use mathlib.Core.Path.{_≡_};
 ghost use Prim.Native.Nat.{_-_, min};
 ghost use Rattle.lilota.specs.declared.Written.{Written};
+ghost use Rattle.lilota.specs.declared.Stored.{Stored};
 ghost use Rattle.lilota.specs.declared.Swept.{Swept};
 
-// All steps of a put or a remove were passed.
+// All steps of a put were passed.
+pub fn planned_put(space: Space, w: Window, slots: usize) -> PlannedPut
+    ensures { λ r. ⌜ r ≡ record { answer = Stored.Done space (w .passed); handed = min slots (w .passed - w .first) } ⌝ }
+{
+    PlannedPut {
+        answer: Stored::Done {
+            space: space,
+            steps: w.passed,
+        },
+        handed: w.handed(slots),
+    }
+}
+
+// A refusal hands out nothing.
+pub fn refused_put(x: Refusal) -> PlannedPut
+    ensures { λ r. ⌜ r ≡ record { answer = Stored.Refused x; handed = 0 } ⌝ }
+{
+    PlannedPut {
+        answer: Stored::Refused(x),
+        handed: 0,
+    }
+}
+
+// All steps of a remove were passed.
 pub fn planned_write(w: Window, slots: usize) -> PlannedWrite
     ensures { λ r. ⌜ r ≡ record { answer = Written.Done (w .passed); handed = min slots (w .passed - w .first) } ⌝ }
 {
@@ -21,7 +48,6 @@ pub fn planned_write(w: Window, slots: usize) -> PlannedWrite
     }
 }
 
-// A refusal hands out nothing.
 pub fn refused_write(x: Refusal) -> PlannedWrite
     ensures { λ r. ⌜ r ≡ record { answer = Written.Refused x; handed = 0 } ⌝ }
 {
@@ -32,9 +58,9 @@ pub fn refused_write(x: Refusal) -> PlannedWrite
 }
 
 // All moves of a sweep were passed.
-pub fn planned_sweep(m: Moves, slots: usize) -> PlannedSweep
+pub fn planned_sweep(m: Moves, space: Space, slots: usize) -> PlannedSweep
     ensures { λ r. ⌜ r ≡ record {
-      answer = Swept.Done (m .moves) (m .window .passed);
+      answer = Swept.Done (m .moves) space (m .window .passed);
       handed = min slots (m .window .passed - m .window .first);
     } ⌝ }
 {
@@ -42,6 +68,7 @@ pub fn planned_sweep(m: Moves, slots: usize) -> PlannedSweep
     PlannedSweep {
         answer: Swept::Done {
             moves: m.moves,
+            space: space,
             steps: w.passed,
         },
         handed: w.handed(slots),

@@ -160,7 +160,7 @@ walk-ready N p n d passed g f l h =
 
 -- ---- (a), then (b) to (f)
 
-copied-is : (p : Place) (z : ℕ) → come-round (place-after p z) ≡ copied-place p z
+pub copied-is : (p : Place) (z : ℕ) → come-round (place-after p z) ≡ copied-place p z
 unfolding copied-place
 copied-is p z = refl
 

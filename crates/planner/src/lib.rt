@@ -6,6 +6,8 @@ mod free;
 mod last;
 pub mod mount;
 mod place;
+pub mod space;
+pub mod stride;
 mod superseded;
 pub mod sweep;
 
@@ -30,6 +32,24 @@ pub struct Walk {
 pub enum Moved {
     Stop,
     On(Walk, Window),
+}
+
+// The live bytes of what was read, and where its wrap marker stands; at the image's end there is none.
+pub struct Count {
+    pub live: usize,
+    pub wall: usize,
+}
+
+// Where a sweep stands of which only the place is asked, and where its image then has a wrap marker: there, or nowhere if that is its end.
+pub struct Course {
+    pub walk: Walk,
+    pub wall: usize,
+}
+
+// A move that is only walked: there is none, or the sweep goes on there.
+pub enum Strode {
+    Stop,
+    On(Course),
 }
 
 // The moves of a planned sweep, and its window.

@@ -85,7 +85,7 @@ pub fn hand_mend(
 }
 
 // The place that is read when the repairs are done.
-fn mended_place(image: &[u8], s: Survey) -> Place
+pub fn mended_place(image: &[u8], s: Survey) -> Place
     requires { ⌜ Surveyed (now image) s ⌝ }
     ensures { λ r. ⌜ r ≡ behind-place (s .place) (reading-of (now (image .entry)) s .entries) ⌝ }
 {

@@ -38,7 +38,7 @@ ghost use Rattle.planner.specs.Walk.{copy-entry, address-of, first-of, o
 ghost use Rattle.planner.specs.Moves.{Below, Walkable, Known, Over-handed, Live-handed, Move-handed};
 ghost use Rattle.planner.specs.Sweep.{Moves-handed};
 
-fn first_of(c: Copied, at: usize) -> Copied
+pub fn first_of(c: Copied, at: usize) -> Copied
     ensures { λ r. ⌜ r ≡ first-of c at ⌝ }
 {
     match c {
@@ -48,7 +48,7 @@ fn first_of(c: Copied, at: usize) -> Copied
 }
 
 // Where Y stands, if there is one: at the cursor behind X, or the first copy.
-fn find_next(image: &[u8], past: Cursor, copy: Copied) -> Copied
+pub fn find_next(image: &[u8], past: Cursor, copy: Copied) -> Copied
     requires { ⌜ Cursor-sound (now image) past × Below copy (length (now image)) ⌝ }
     ensures { λ r. ⌜ (let s = now (image .entry) in
         (r ≡ address-of (next-of (rest s past .entries) (copy-entry copy))) × Below r (length s)) ⌝ }

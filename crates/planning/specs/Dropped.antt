@@ -239,7 +239,7 @@ drops-by im es inside =
     }
 
 -- the records of a reading lie inside
-row-inside : {im : Image} {lim : ℕ} {o : Bool} {a : ℕ} {es : List Entry} {p : Bool} {b : ℕ} (N : ℕ) → lim ≤ N → Row im lim o a es p b
+pub row-inside : {im : Image} {lim : ℕ} {o : Bool} {a : ℕ} {es : List Entry} {p : Bool} {b : ℕ} (N : ℕ) → lim ≤ N → Row im lim o a es p b
     → Each (λ e. e .at + 2 < N) es
 row-inside N l row-none = tt
 row-inside N l (row-more e f w r) = (omega (arith, w .fits), row-inside N l r)

@@ -21,7 +21,7 @@ use Rattle.planning.specs.Kinds.{tag, Recordish, low-lowly, lowly-record
 use Rattle.planning.specs.Row.{Stands, Row, row-none, row-more}
 use Rattle.planning.specs.Frame.{row-le}
 use Rattle.planning.specs.Spots.{next-kind}
-use Rattle.planning.specs.Stops.{Stop, Ends-here, Turns, Ends-low, turn-tag}
+use Rattle.planning.specs.Stops.{Stop, Ends-here, Turns, Ends-low, here-tag, turn-tag}
 use Rattle.planning.specs.Reads.{Reads, reads-here, reads-round, reads-torn}
 
 -- ---- a row taken apart
@@ -58,6 +58,14 @@ module _ {im : Image} {h : ℕ} (ish : Recordish (next (part h (length im) im)))
       sym (ap₂ (λ (o : Bool) (a : ℕ). allowed o (next (part a (length im) im))) (z .0) (z .1)) ∙ s in
       absurd (⊎-elim (λ (q : tag (next (part h (length im) im)) ≡ 0). omega (arith, ap tag e))
       (λ (q : tag (next (part h (length im) im)) ≡ 5). omega (arith, ap tag e)) ish)
+
+  pub reads-filled : {r : Reading} → Reads im h r → r .entries ≡ [] → ⊥
+  reads-filled (reads-here {es = []} row s m e) q = filled row s (omega (arith, here-tag m .0)) (here-tag m .1)
+  reads-filled (reads-here {es = u ∷ us} row s m e) q = omega (arith, ap length (sym (ap (λ (z : Reading). z .entries) e) ∙ q))
+  reads-filled (reads-torn {es = []} row s n e) q = filled row s (omega arith) (omega arith)
+  reads-filled (reads-torn {es = u ∷ us} row s n e) q = omega (arith, ap length (sym (ap (λ (z : Reading). z .entries) e) ∙ q))
+  reads-filled (reads-round {es = []} row s t n rows k m e) q = filled row s (turn-tag t .0) (turn-tag t .1)
+  reads-filled (reads-round {es = u ∷ us} row s t n rows k m e) q = omega (arith, ap length (sym (ap (λ (z : Reading). z .entries) e) ∙ q))
 
 -- ---- the place of a reading
 

@@ -16,6 +16,7 @@ pub mod Stops
 pub mod Reads
 pub mod First
 pub mod Known
+pub mod Scattered
 -- ---- what a list of steps does to one byte
 pub mod Effect
 pub mod Copy
@@ -41,9 +42,23 @@ pub mod Mends
 pub mod Rested
 pub mod Handing
 pub mod NewCopy
-pub mod Copying
+pub mod Putting
+pub mod PutRested
 pub mod Copied
 pub mod Moves
 -- ---- the same sweep by the entry chain
 pub mod Lone
 pub mod Walked
+-- ---- request K3: live, dead, free and lost bytes, their sum, and how they are counted from the first reading
+pub mod Puts
+pub mod Space
+pub mod Spaces
+pub mod MountCounts
+pub mod Filed
+pub mod Markers
+pub mod LedMarkers
+pub mod CallMarkers
+pub mod SweepCounts
+pub mod PutCounts
+pub mod Walls
+pub mod Strides

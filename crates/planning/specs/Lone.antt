@@ -31,15 +31,15 @@ and-second true b e h = h
 and-second false b e h = absurd (false≢true e)
 
 module _ {A : Type 0} (p : A → Bool) where
-  any-first : (x : A) (xs : List A) → any p (x ∷ xs) ≡ false → (p x ≡ false) × (any p xs ≡ false)
+  pub any-first : (x : A) (xs : List A) → any p (x ∷ xs) ≡ false → (p x ≡ false) × (any p xs ≡ false)
   any-first x xs h = let z = any-none-each p (x ∷ xs) h in (z .0, any-none p xs (z .1))
 
-  any-both : (xs ys : List A) → any p xs ≡ false → any p ys ≡ false → any p (xs ++ ys) ≡ false
+  pub any-both : (xs ys : List A) → any p xs ≡ false → any p ys ≡ false → any p (xs ++ ys) ≡ false
   any-both xs ys h k =
       any-none p (xs ++ ys) (each-append (λ x. p x ≡ false) xs ys (any-none-each p xs h) (any-none-each p ys k))
 
 -- of two facts on each
-each-zip : (P Q R : Entry → Type 0) (es : List Entry) → ((e : Entry) → P e → Q e → R e) → Each P es → Each Q es → Each R es
+pub each-zip : (P Q R : Entry → Type 0) (es : List Entry) → ((e : Entry) → P e → Q e → R e) → Each P es → Each Q es → Each R es
 each-zip P Q R es f a b = each-map {P = λ e. P e × Q e} {Q = R} es (λ e p. f e (p .0) (p .1)) (each-both P Q es a b)
 
 -- ---- no F8 record has a rival
@@ -91,7 +91,7 @@ module _ (x : Entry) (xs : List Entry) where
       all-right (y ∷ ys) = (inr e, all-right ys)
 
 -- behind the first
-unrivalled-rest : (x : Entry) (xs : List Entry) → Each (Unrivalled (x ∷ xs)) xs → Each (Unrivalled xs) xs
+pub unrivalled-rest : (x : Entry) (xs : List Entry) → Each (Unrivalled (x ∷ xs)) xs → Each (Unrivalled xs) xs
 unfolding has-named
 unrivalled-rest x xs a =
     each-map {P = Unrivalled (x ∷ xs)} {Q = Unrivalled xs} xs (λ y u n. any-first (named-as 0xFC y) x xs (u n) .1) a

@@ -20,6 +20,7 @@ use Rattle.spec.specs.Mount.{last-steps, torn-wrap-steps, drop-steps, repair-1,
 use Rattle.spec.specs.Numbers.{of-mount}
 use Rattle.spec.specs.Answers.{report-of, mount-of}
 use Rattle.laws.specs.Length.{Good, good}
+use Rattle.laws.specs.Steps.{run-append}
 use Rattle.laws.specs.Settled.{close-filled, filled-some}
 use Rattle.planning.specs.Repairs.{steps-1, pair-steps, steps-2, steps-3, repair-1-is, repair-3-is, repair-4-is}
 use Rattle.planning.specs.Planned.{led-place, with-low, start-if, started, paired, first-mended, voided, half-mended, planned-mend}
@@ -220,13 +221,22 @@ module _ (im : Image) (r : Reading) (n : good-length (length im) ≡ true) (e : 
       ap (λ (w : Work). w .reading) all
       ∙ ap (λ (us : List Entry). record { place = r-2 .place; entries = us; ending = Ending.Tail }) (dropped-is es es)
 
-  -- so mount's plan: its steps, h, T and the count of live files
-  pub mount-as-planned : mount-of im r
-      ≡ give (record {
-        steps = planned-mend im r;
-        moves = [];
-        done = of-mount 0 (report-of (mended-reading r)) (length (planned-mend im r));
-      })
-  mount-as-planned =
-      ap₂ (λ (ss : List Step) (s : Reading). give (record { steps = ss; moves = []; done = of-mount 0 (report-of s) (length ss) }))
-      mended-as-planned mended-reads-planned
+  -- the image after these steps, of the same length, on which that is read on from the head in it
+  pub mended-image : mended im r .image ≡ run im (mended im r .steps)
+  mended-image =
+      let on : (i : Image) (us vs : List Step) → i ≡ run im us → run i vs ≡ run im (us ++ vs) =
+      λ i us vs q. ap (λ (j : Image). run j vs) q ∙ sym (run-append im us vs) in
+      ap (λ (w : Work). w .image) all
+      ∙ on im-3 ((ss-1 ++ ss-2) ++ ss-3) ss-4 (on im-2 (ss-1 ++ ss-2) ss-3 (on im-1 ss-1 ss-2 refl))
+      ∙ ap (λ (w : Work). run im (w .steps)) (sym all)
+
+  pub mended-left : (length (mended im r .image) ≡ length im) × (mended im r .reading .place .head ≤ length im)
+      × Reads (mended im r .image) (mended im r .reading .place .head) (mended im r .reading)
+  mended-left =
+      subst (λ (w : Work). (length (w .image) ≡ length im) × (w .reading .place .head ≤ length im)
+      × Reads (w .image) (w .reading .place .head) (w .reading))
+      (sym all) (
+        drops-by im-3 es (reads-inside fits-3 (s-3 .1)) .len ∙ s-3 .0 ∙ s-2 .len ∙ s-1 .len,
+        omega (arith, s-2 .inside, s-1 .len),
+        repair-4-reads fits-3 (s-3 .1),
+      )

@@ -31,13 +31,12 @@ use Rattle.planning.specs.Phase.{work, after-known}
 use Rattle.planning.specs.Rested.{Rested, rested-reading, live-finished, settled-rested}
 use Rattle.planning.specs.Handing.{Handed, hand-rested}
 use Rattle.planning.specs.NewCopy.{new, new-length}
-use Rattle.planning.specs.Copying.{copied-reading}
-use Rattle.planning.specs.Copied.{copy-rested}
+use Rattle.planning.specs.Copied.{copied-reading, copy-rested}
 
 -- ---- (a)
 
 -- what is read after (a)
-abbrev after-a : Reading → Reading
+abbrev pub after-a : Reading → Reading
 after-a r = record { place = after-copy (r .place) (r .entries); entries = copied (r .place) (r .entries); ending = Ending.Tail }
 
 -- (a) leaves a settled image with a second record
@@ -119,7 +118,7 @@ module _ (im : Image) (g : Good (length im)) (r : Reading) (w : Rested im r) (n 
               absurd (false≢true (sym (not-end r n) ∙ ap at-end (q ∙ ap (λ (us : List Entry). x ∷ us) e) ∙ end-dead x d))
           second (y ∷ us) e = omega (arith, ap length e)
 
-first : (im : Image) → Good (length im) → (r : Reading) → Rested im r → stuck r ≡ false → First im r
+pub first : (im : Image) → Good (length im) → (r : Reading) → Rested im r → stuck r ≡ false → First im r
 unfolding at-end
 first im g r w n = go (r .entries) refl where
   by : (x : Entry) (es : List Entry) → r .entries ≡ x ∷ es → (t : Bool) → live (x ∷ es) x ≡ t → First im r
@@ -150,6 +149,7 @@ hand-known w p (x ∷ (y ∷ es)) two e =
 -- what a move is, on a settled image: the steps that the reading plans, and the reading that it plans
 pub record Move (im : Image) (r : Reading) : Type 0 where
   pub is : move (begin im r) ≡ record { image = run im (move-steps r); reading = moved-reading r; steps = move-steps r }
+  pub len : length (run im (move-steps r)) ≡ length im
   pub good : Good (length (run im (move-steps r)))
   pub rested : Rested (run im (move-steps r)) (moved-reading r)
 
@@ -196,6 +196,7 @@ module _ (im : Image) (g : Good (length im)) (r : Reading) (w : Rested im r) (n 
       ap length q ∙ ap (λ (ss : List Step). length (run mid ss)) (sym same-steps) ∙ second .len ∙ a .len in
       record {
         is = ap moved-on w-1 ∙ w-2 ∙ ap (λ (i : Image). work i (moved-reading r) (move-steps r)) (sym q);
+        len = len;
         good = subst Good (sym len) g;
         rested = subst (λ (i : Image). Rested i (moved-reading r)) (sym q) rested-2;
       }

@@ -100,3 +100,7 @@ module _ (p : Place) (s : ℕ) where
 pub copied-head : (p : Place) (s : ℕ) → (copied-place p s .head ≡ p .head) × (copied-place p s .length ≡ p .length)
 unfolding copied-place place-after
 copied-head p s = round-keeps (place-after p s)
+
+pub led-length : (p : Place) (y : ℕ) → led-place p y .length ≡ p .length
+unfolding led-place
+led-length p y = round-keeps (record { head = y; tail = p .tail; turned = p .turned && not (eqb y 0); length = p .length }) .1

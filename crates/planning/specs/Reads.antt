@@ -67,7 +67,7 @@ pub data Reads (im : Image) (h : ℕ) (r : Reading) : Type 0 where
 head-part : (im : Image) (h : ℕ) → drop h im ≡ part h (length im) im
 head-part im h = ap (drop h) (sym (take-length im))
 
-head-chain : {im : Image} {h : ℕ} {es : List Entry} {p : Bool} {b : ℕ} (x : Next) → h ≤ length im → Row im (length im) false h es p b
+pub head-chain : {im : Image} {h : ℕ} {es : List Entry} {p : Bool} {b : ℕ} (x : Next) → h ≤ length im → Row im (length im) false h es p b
     → Stop im (length im) p b x → Not-record x → from-head im h ≡ chain-of es p b x
 head-chain {im} {h} x l r s z = ap (chain (suc (length im)) false h) (head-part im h) ∙ whole-chain x (omega arith) l r s z
 
@@ -112,7 +112,7 @@ module _ (im : Image) (h : ℕ) where
   torn-read es p b n = on-more im h (chain-of es p b Next.TornWrap) n
 
 -- what ends or turns a chain is no record
-stopping : (x : Next) → 1 ≤ tag x → Not-record x
+pub stopping : (x : Next) → 1 ≤ tag x → Not-record x
 stopping (Next.Record n d) h = absurd (omega arith)
 stopping Next.Wrap h = tt
 stopping Next.TornWrap h = tt

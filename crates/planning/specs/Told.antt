@@ -96,7 +96,7 @@ live-test all =
           (dead-unnamed 0xF8 b e (λ q. omega arith));
     }
 
-live-low : (all : List Entry) (b : ℕ) (e : Entry) → live all (with-low b e) ≡ live all e
+pub live-low : (all : List Entry) (b : ℕ) (e : Entry) → live all (with-low b e) ≡ live all e
 unfolding live named has-named
 live-low all b e = refl
 
@@ -145,7 +145,7 @@ count-lowered all true (x ∷ es) = go (live all x) refl where
   go true e = ap length (keep-yes (live all) (with-low 0x00 x) es (live-low all 0x00 x ∙ e)) ∙ sym (ap length (keep-yes (live all) x es e))
   go false e = ap length (keep-no (live all) (with-low 0x00 x) es (live-low all 0x00 x ∙ e)) ∙ sym (ap length (keep-no (live all) x es e))
 
-keep-behind : (es : List Entry) → marks-ok es ≡ true → keep (live es) (behind es) ≡ keep (live es) es
+pub keep-behind : (es : List Entry) → marks-ok es ≡ true → keep (live es) (behind es) ≡ keep (live es) es
 unfolding behind
 keep-behind [] m = refl
 keep-behind (x ∷ []) m = refl
@@ -184,13 +184,17 @@ module _ (r : Reading) (m : marks-ok (r .entries) ≡ true) where
   unfolding live
   live-4 f = ap (λ (t : Bool). named 0xFC f || (named 0xF8 f && not t)) (rivals f)
 
-  pub files-told : length (files (mended-reading r .entries)) ≡ length (files (r .entries))
+  -- the files are those of the records that repair 2 leaves, live as in the first reading
+  pub files-left : files (mended-reading r .entries) ≡ keep (live es-0) es-2
   unfolding mended-reading
+  files-left =
+      let dead : (e : Entry) → superseded es-3 e ≡ true → live es-0 e ≡ false = λ e s. superseded-dead es-0 e (sym (superseded-3 e) ∙ s) in
+      keep-like (live es-4) (live es-0) es-4 live-4 ∙ keep-dropped (live es-0) es-3 dead (λ e. live-test es-0 .dead (e .it .low) e) es-3
+      ∙ keep-voided (live es-0) (live-test es-0) es-2
+
+  pub files-told : length (files (mended-reading r .entries)) ≡ length (files (r .entries))
   files-told =
       let h = half r in
-      let dead : (e : Entry) → superseded es-3 e ≡ true → live es-0 e ≡ false = λ e s. superseded-dead es-0 e (sym (superseded-3 e) ∙ s) in
-      ap length
-      (keep-like (live es-4) (live es-0) es-4 live-4 ∙ keep-dropped (live es-0) es-3 dead (λ e. live-test es-0 .dead (e .it .low) e) es-3
-      ∙ keep-voided (live es-0) (live-test es-0) es-2)
+      ap length files-left
       ∙ ap (λ (es : List Entry). length (keep (live es-0) es)) (h .entries) ∙ count-lowered es-0 (h .t) (behind es-0)
       ∙ ap length (keep-behind es-0 m)

@@ -32,26 +32,26 @@ use Rattle.planning.specs.Lone.{Lone, lone-first, lone-passed, lone-copi
 -- ---- one move
 
 -- the queue that is left, from Y on
-abbrev onward-from : Place → Entry → List Entry → Reading
+abbrev pub onward-from : Place → Entry → List Entry → Reading
 onward-from p y es = record { place = led-place p (y .at); entries = with-low 0x00 y ∷ es; ending = Ending.Tail }
 
 module _ (p : Place) (e : Ending) (b : ℕ) (x : Entry) (es : List Entry) where
-  abbrev queue : List Entry
+  abbrev pub queue : List Entry
   queue = with-low b x ∷ es
 
-  abbrev now : Reading
+  abbrev pub now : Reading
   now = record { place = p; entries = queue; ending = e }
 
-  abbrev own : Entry
+  abbrev pub own : Entry
   own = with-low b x
 
-  stuck-live : (t : Bool) → live queue own ≡ true → fits p (size x) ≡ t → stuck now ≡ not t
+  pub stuck-live : (t : Bool) → live queue own ≡ true → fits p (size x) ≡ t → stuck now ≡ not t
   stuck-live t l f = stuck-room now (end-live own es l) ∙ room-live now own es t l f
 
-  stuck-dead : (y : Entry) (us : List Entry) → es ≡ y ∷ us → live queue own ≡ false → stuck now ≡ false
+  pub stuck-dead : (y : Entry) (us : List Entry) → es ≡ y ∷ us → live queue own ≡ false → stuck now ≡ false
   stuck-dead y us q l = stuck-room now (ap (λ (vs : List Entry). at-end (own ∷ vs)) q ∙ end-two own y us) ∙ room-dead now own es l
 
-  stuck-last : es ≡ [] → live queue own ≡ false → stuck now ≡ true
+  pub stuck-last : es ≡ [] → live queue own ≡ false → stuck now ≡ true
   stuck-last q l =
       stuck-end now
       (ap (λ (vs : List Entry). at-end (own ∷ vs)) q ∙ end-dead own (ap (λ (vs : List Entry). live (own ∷ vs) own) (sym q) ∙ l))
@@ -63,7 +63,7 @@ module _ (p : Place) (e : Ending) (b : ℕ) (x : Entry) (es : List Entry) where
   module _ (y : Entry) (us : List Entry) where
     -- X is live: its copy goes to the end of the queue
     module _ (l : live queue own ≡ true) (q : es ++ (copy-of p x ∷ []) ≡ y ∷ us) where
-      copied-is : copied p queue ≡ with-status 0x00 own ∷ (y ∷ us)
+      pub copied-is : copied p queue ≡ with-status 0x00 own ∷ (y ∷ us)
       unfolding copied
       copied-is =
           ap (λ (a : Bool). elim a [ true ↦ with-status 0x00 own ∷ (es ++ (copy-of p x ∷ [])) | false ↦ queue ]) l
@@ -84,13 +84,13 @@ module _ (p : Place) (e : Ending) (b : ℕ) (x : Entry) (es : List Entry) where
           (ap (hand-steps (p .length)) copied-is
           ∙ ap (λ (ss : List Step). program (y .at) 0xA0 ∷ ss) (close-like (p .length) 0xA0 b 0x00 x y))
 
-      live-left : moved-reading now ≡ onward-from (copied-place p (size x)) y us
+      pub live-left : moved-reading now ≡ onward-from (copied-place p (size x)) y us
       unfolding handed
       live-left = ap₂ handed after-is copied-is
 
     -- X is not
     module _ (l : live queue own ≡ false) (q : es ≡ y ∷ us) where
-      same-is : copied p queue ≡ own ∷ (y ∷ us)
+      pub same-is : copied p queue ≡ own ∷ (y ∷ us)
       unfolding copied
       same-is =
           ap (λ (a : Bool). elim a [ true ↦ with-status 0x00 own ∷ (es ++ (copy-of p x ∷ [])) | false ↦ queue ]) l
@@ -110,7 +110,7 @@ module _ (p : Place) (e : Ending) (b : ℕ) (x : Entry) (es : List Entry) where
           (ap (hand-steps (p .length)) same-is
           ∙ ap (λ (ss : List Step). program (y .at) 0xA0 ∷ ss) (close-like (p .length) 0xA0 b (x .it .status) x y))
 
-      dead-left : moved-reading now ≡ onward-from p y us
+      pub dead-left : moved-reading now ≡ onward-from p y us
       unfolding handed
       dead-left = ap₂ handed stays-is same-is
 

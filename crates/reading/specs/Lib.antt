@@ -10,6 +10,7 @@ pub mod Fold
 pub mod Plain
 pub mod FileLaws
 pub mod Seek
+pub mod Sums
 pub mod Tally
 pub mod Faithful
 pub mod TallyLaws

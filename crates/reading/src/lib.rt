@@ -15,6 +15,7 @@ mod rules;
 pub mod scan;
 mod skip;
 mod sought;
+pub mod space;
 
 use spec::Ending;
 use spec::Place;
@@ -67,6 +68,12 @@ pub enum Item {
 pub enum Nearby {
     Record { spot: Spot, next: Cursor },
     Other,
+}
+
+// The sizes of the live records, and of the records that stand before the turn.
+pub struct Sums {
+    pub live: usize,
+    pub upper: usize,
 }
 
 // What is looked for among the files.

@@ -3,7 +3,9 @@ use Rattle.spec.specs.Prelude.{ℕ, Bool, _||_, List, take, drop, eqb}
 use Rattle.spec.specs.declared.Refusal.{Refusal}
 use Rattle.spec.specs.declared.Report.{Report}
 use Rattle.spec.specs.declared.Extent.{Extent}
+use Rattle.spec.specs.declared.Space.{Space}
 use Rattle.spec.specs.Step.{Image}
+use Rattle.spec.specs.Space.{no-space}
 
 pub record Numbers : Type 0 where
   pub answer : ℕ
@@ -15,6 +17,8 @@ pub record Numbers : Type 0 where
   pub extent : Extent
   -- list: the file's "length"
   pub size : ℕ
+  -- mount, put and sweep: "live bytes .., dead bytes .., free bytes .. and lost bytes", of the image they leave
+  pub space : Space
   -- "Writing calls .. report steps used"
   pub steps : ℕ
 
@@ -34,25 +38,35 @@ no-report = record { head = 0; tail = 0; files = 0 }
 abbrev pub no-extent : Extent
 no-extent = record { offset = 0; length = 0 }
 
--- format, put and remove: answer and steps
+-- format and remove: answer and steps
 abbrev pub of-write : ℕ → ℕ → Numbers
-of-write answer steps = record { answer = answer; report = no-report; moves = 0; extent = no-extent; size = 0; steps = steps }
+of-write answer steps =
+    record { answer = answer; report = no-report; moves = 0; extent = no-extent; size = 0; space = no-space; steps = steps }
 
--- "Mount's success gives h, T, the count of live files (of the image it leaves), steps"
-abbrev pub of-mount : ℕ → Report → ℕ → Numbers
-of-mount answer report steps = record { answer = answer; report = report; moves = 0; extent = no-extent; size = 0; steps = steps }
+-- put: "the same record on success, for the image they leave"
+abbrev pub of-put : ℕ → Space → ℕ → Numbers
+of-put answer space steps =
+    record { answer = answer; report = no-report; moves = 0; extent = no-extent; size = 0; space = space; steps = steps }
 
--- "Sweep's success gives finished moves and steps"; answer, moves and steps
-abbrev pub of-sweep : ℕ → ℕ → ℕ → Numbers
-of-sweep answer moves steps = record { answer = answer; report = no-report; moves = moves; extent = no-extent; size = 0; steps = steps }
+-- "Mount's success gives h, T, the count of live files (of the image it leaves), steps", and that record
+abbrev pub of-mount : ℕ → Report → Space → ℕ → Numbers
+of-mount answer report space steps =
+    record { answer = answer; report = report; moves = 0; extent = no-extent; size = 0; space = space; steps = steps }
+
+-- "Sweep's success gives finished moves and steps", and that record; answer, moves, record and steps
+abbrev pub of-sweep : ℕ → ℕ → Space → ℕ → Numbers
+of-sweep answer moves space steps =
+    record { answer = answer; report = no-report; moves = moves; extent = no-extent; size = 0; space = space; steps = steps }
 
 -- "there get gives offset and length"
 abbrev pub of-get : ℕ → Extent → Numbers
-of-get answer extent = record { answer = answer; report = no-report; moves = 0; extent = extent; size = 0; steps = 0 }
+of-get answer extent =
+    record { answer = answer; report = no-report; moves = 0; extent = extent; size = 0; space = no-space; steps = 0 }
 
 -- "List by index (chain order) gives name part and length"
 abbrev pub of-list : ℕ → Extent → ℕ → Numbers
-of-list answer extent size = record { answer = answer; report = no-report; moves = 0; extent = extent; size = size; steps = 0 }
+of-list answer extent size =
+    record { answer = answer; report = no-report; moves = 0; extent = extent; size = size; space = no-space; steps = 0 }
 
 -- a refusal: "zeros, image same"
 abbrev pub refusal : Refusal → Numbers

@@ -126,6 +126,15 @@ pub struct Report {
     pub files: usize,
 }
 
+// What the bytes of an image are good for, as mount, put and sweep tell it of the image that they leave.
+#[repr(C)]
+pub struct Space {
+    pub live: usize,
+    pub dead: usize,
+    pub free: usize,
+    pub lost: usize,
+}
+
 // A stretch of the image.
 pub struct Extent {
     pub offset: usize,

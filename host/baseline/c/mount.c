@@ -94,13 +94,14 @@ static void repair_superseded(Flash *f, const Reading *s)
 }
 
 uint32_t baseline_mount(uint8_t *m, size_t n, size_t allowance, size_t *head, size_t *tail, size_t *files,
-                        size_t *steps)
+                        size_t *live, size_t *dead, size_t *blank, size_t *lost, size_t *steps)
 {
     Flash f = {m, allowance, 0};
     Query q = nothing();
     Reading s;
     uint32_t answer;
     *head = *tail = *files = *steps = 0;
+    *live = *dead = *blank = *lost = 0;
     answer = bl_read(m, n, &q, &s);
     if (answer != DONE)
         return answer;
@@ -112,6 +113,7 @@ uint32_t baseline_mount(uint8_t *m, size_t n, size_t allowance, size_t *head, si
         *head = s.place.head;
         *tail = s.place.tail;
         *files = s.files;
+        bl_tell(m, n, s.place.head, live, dead, blank, lost);
     }
     return answer_of(&f, steps);
 }

@@ -64,7 +64,8 @@ static Move move(Flash *f, Place *p)
     return MOVED;
 }
 
-uint32_t baseline_sweep(uint8_t *m, size_t n, size_t allowance, size_t *moves, size_t *steps)
+uint32_t baseline_sweep(uint8_t *m, size_t n, size_t allowance, size_t *moves, size_t *live, size_t *dead, size_t *blank, size_t *lost,
+                        size_t *steps)
 {
     Flash f = {m, allowance, 0};
     Query q = nothing();
@@ -72,6 +73,7 @@ uint32_t baseline_sweep(uint8_t *m, size_t n, size_t allowance, size_t *moves, s
     Move made = MOVED;
     uint32_t answer;
     *moves = *steps = 0;
+    *live = *dead = *blank = *lost = 0;
     answer = bl_read_settled(m, n, &q, &s);
     if (answer != DONE)
         return answer;
@@ -81,5 +83,9 @@ uint32_t baseline_sweep(uint8_t *m, size_t n, size_t allowance, size_t *moves, s
             break;
         ++*moves;
     }
-    return made == NO_PLACE && *moves == 0 ? NO_ROOM : answer_of(&f, steps);
+    if (made == NO_PLACE && *moves == 0)
+        return NO_ROOM;
+    if (!is_cut(&f))
+        bl_tell(m, n, s.place.head, live, dead, blank, lost);
+    return answer_of(&f, steps);
 }

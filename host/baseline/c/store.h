@@ -46,6 +46,10 @@ typedef struct {
 bool bl_fit(Place *p, size_t size, Spot *spot);
 void bl_move_head(Place *p, const Record *y);
 
+/* space.c: what the bytes are good for, of an image with nothing to repair */
+
+void bl_tell(const uint8_t *m, size_t n, size_t head, size_t *live, size_t *dead, size_t *blank, size_t *lost);
+
 /* head.c: the head, and a stretch that the search for it found to be FF */
 
 typedef struct {

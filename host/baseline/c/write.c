@@ -94,7 +94,7 @@ static bool has_room(const Reading *s, const Query *q, size_t data_length, Spot 
 }
 
 uint32_t baseline_put(uint8_t *m, size_t n, const uint8_t *name, size_t name_length, const uint8_t *data,
-                      size_t data_length, size_t allowance, size_t *steps)
+                      size_t data_length, size_t allowance, size_t *live, size_t *dead, size_t *blank, size_t *lost, size_t *steps)
 {
     Flash f = {m, allowance, 0};
     Content content = {name, data, name_length, data_length};
@@ -103,6 +103,7 @@ uint32_t baseline_put(uint8_t *m, size_t n, const uint8_t *name, size_t name_len
     Spot spot;
     uint32_t answer;
     *steps = 0;
+    *live = *dead = *blank = *lost = 0;
     if (!bl_ask(&q, name, name_length))
         return INVALID;
     answer = bl_read_settled(m, n, &q, &s);
@@ -111,6 +112,8 @@ uint32_t baseline_put(uint8_t *m, size_t n, const uint8_t *name, size_t name_len
     if (!has_room(&s, &q, data_length, &spot))
         return NO_ROOM;
     bl_write(&f, q.found ? &q.file : NULL, spot, &content);
+    if (!is_cut(&f))
+        bl_tell(m, n, s.place.head, live, dead, blank, lost);
     return answer_of(&f, steps);
 }
 

@@ -77,7 +77,19 @@ unsafe extern "C" fn format(_: *mut u8, _: usize, _: usize, _: Number) -> u32 {
     note()
 }
 
-unsafe extern "C" fn mount(_: *mut u8, _: usize, _: usize, _: Number, _: Number, _: Number, _: Number) -> u32 {
+unsafe extern "C" fn mount(
+    _: *mut u8,
+    _: usize,
+    _: usize,
+    _: Number,
+    _: Number,
+    _: Number,
+    _: Number,
+    _: Number,
+    _: Number,
+    _: Number,
+    _: Number,
+) -> u32 {
     note()
 }
 
@@ -89,6 +101,10 @@ unsafe extern "C" fn put(
     _: *const u8,
     _: usize,
     _: usize,
+    _: Number,
+    _: Number,
+    _: Number,
+    _: Number,
     _: Number,
 ) -> u32 {
     note()
@@ -106,7 +122,17 @@ unsafe extern "C" fn remove(_: *mut u8, _: usize, _: *const u8, _: usize, _: usi
     note()
 }
 
-unsafe extern "C" fn sweep(_: *mut u8, _: usize, _: usize, _: Number, _: Number) -> u32 {
+unsafe extern "C" fn sweep(
+    _: *mut u8,
+    _: usize,
+    _: usize,
+    _: Number,
+    _: Number,
+    _: Number,
+    _: Number,
+    _: Number,
+    _: Number,
+) -> u32 {
     note()
 }
 
@@ -138,7 +164,19 @@ mod tests {
     use std::hint::black_box;
 
     /// Needs 5,000 bytes.
-    unsafe extern "C" fn deep(_: *mut u8, _: usize, _: usize, _: Number, _: Number, _: Number, _: Number) -> u32 {
+    unsafe extern "C" fn deep(
+        _: *mut u8,
+        _: usize,
+        _: usize,
+        _: Number,
+        _: Number,
+        _: Number,
+        _: Number,
+        _: Number,
+        _: Number,
+        _: Number,
+        _: Number,
+    ) -> u32 {
         black_box(&mut [0u8; 5000]);
         0
     }

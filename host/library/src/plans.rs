@@ -2,6 +2,7 @@
 use model::{Handing, Reply, Report};
 use std::cell::Cell;
 use std::ptr;
+use testing::c_calls::space;
 use testing::call::Call;
 use testing::planner::Planner;
 
@@ -21,6 +22,10 @@ extern "C" {
         bytes: *mut u32,
         bytes_length: usize,
         handed: *mut usize,
+        live: *mut usize,
+        dead: *mut usize,
+        free: *mut usize,
+        lost: *mut usize,
         steps: *mut usize,
     ) -> u32;
     fn lilota_plan_remove(
@@ -50,6 +55,10 @@ extern "C" {
         bytes_length: usize,
         handed: *mut usize,
         moves: *mut usize,
+        live: *mut usize,
+        dead: *mut usize,
+        free: *mut usize,
+        lost: *mut usize,
         steps: *mut usize,
     ) -> u32;
     fn lilota_plan_mount(
@@ -66,6 +75,10 @@ extern "C" {
         head: *mut usize,
         tail: *mut usize,
         files: *mut usize,
+        live: *mut usize,
+        dead: *mut usize,
+        free: *mut usize,
+        lost: *mut usize,
         steps: *mut usize,
     ) -> u32;
 }
@@ -105,33 +118,39 @@ impl Plans {
         let (at, n, first) = (self.bytes(img), img.len(), first as usize);
         let [(k, kl), (a, al), (b, bl)] = slices.map(|s| self.slots(s));
         let [mut handed, mut head, mut tail, mut files, mut moves, mut steps] = [UNWRITTEN; 6];
+        let mut told = [UNWRITTEN; 4];
+        let [live, dead, free, lost] = &mut told;
         // Safety: each pointer comes with the length of the slice that it is of, or is
         // null with length 0; the slices and the numbers are different ones.
         let answer = unsafe {
             match call {
                 Call::Put(name, data, _) => {
                     let (p, pl, d, dl) = (self.bytes(name), name.len(), self.bytes(data), data.len());
-                    lilota_plan_put(at, n, p, pl, d, dl, first, k, kl, a, al, b, bl, &mut handed, &mut steps)
+                    let (h, s) = (&mut handed, &mut steps);
+                    lilota_plan_put(at, n, p, pl, d, dl, first, k, kl, a, al, b, bl, h, live, dead, free, lost, s)
                 }
                 Call::Remove(name, _) => {
                     let (p, pl) = (self.bytes(name), name.len());
                     lilota_plan_remove(at, n, p, pl, first, k, kl, a, al, b, bl, &mut handed, &mut steps)
                 }
                 Call::Sweep(_) => {
-                    lilota_plan_sweep(at, n, first, k, kl, a, al, b, bl, &mut handed, &mut moves, &mut steps)
+                    let (h, m, s) = (&mut handed, &mut moves, &mut steps);
+                    lilota_plan_sweep(at, n, first, k, kl, a, al, b, bl, h, m, live, dead, free, lost, s)
                 }
                 Call::Mount(_) => {
-                    let (h, t, f) = (&mut head, &mut tail, &mut files);
-                    lilota_plan_mount(at, n, first, k, kl, a, al, b, bl, &mut handed, h, t, f, &mut steps)
+                    let (n_, h, t, f, s) = (&mut handed, &mut head, &mut tail, &mut files, &mut steps);
+                    lilota_plan_mount(at, n, first, k, kl, a, al, b, bl, n_, h, t, f, live, dead, free, lost, s)
                 }
                 other => unreachable!("{} is not planned", other.kind()),
             }
         };
         let report = Report { head: head as u64, tail: tail as u64, files: files as u64 };
         let (moves, steps, zeros) = (moves as u64, steps as u64, Reply::refusal(answer));
+        let space = space(told);
         let reply = match call {
-            Call::Mount(_) => Reply { report, steps, ..zeros },
-            Call::Sweep(_) => Reply { moves, steps, ..zeros },
+            Call::Put(..) => Reply { space, steps, ..zeros },
+            Call::Mount(_) => Reply { report, space, steps, ..zeros },
+            Call::Sweep(_) => Reply { moves, space, steps, ..zeros },
             _ => Reply { steps, ..zeros },
         };
         Handing { reply, handed: handed as u64 }

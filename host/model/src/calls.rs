@@ -4,6 +4,7 @@ use crate::flash::carry_out;
 use crate::geometry::*;
 use crate::plan::{planned, Ask, Plan};
 use crate::rules::read_settled;
+use crate::space::Space;
 
 /// What mount reports of the image it leaves: h, T, the count of live files.
 #[derive(Clone, Copy, PartialEq, Eq, Debug, Default)]
@@ -28,8 +29,8 @@ impl Extent {
 }
 
 /// What a call answers: mount its report, sweep its finished moves, get where the
-/// content stands, list where the name stands and the content's length. All else
-/// is zero.
+/// content stands, list where the name stands and the content's length; mount, put and
+/// sweep the bytes of the image that they leave (K3). All else is zero.
 #[derive(Clone, Copy, PartialEq, Eq, Debug, Default)]
 pub struct Reply {
     pub answer: u32,
@@ -37,6 +38,7 @@ pub struct Reply {
     pub moves: u64,
     pub extent: Extent,
     pub size: u64,
+    pub space: Space,
     pub steps: u64,
 }
 

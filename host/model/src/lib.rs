@@ -1,4 +1,4 @@
-//! Document 01 with requests K14, K6 and K1 of document 02, read literally, as a
+//! Document 01 with requests K14, K6, K1 and K3 of document 02, read literally, as a
 //! program: what each call answers and leaves.
 //!
 //! One module for each section of 01; quoted text is the documents' own, a request's
@@ -24,6 +24,7 @@ pub mod plan;
 pub mod planner;
 pub mod repair;
 pub mod rules;
+pub mod space;
 pub mod sweep;
 pub mod torn;
 pub mod write;
@@ -37,3 +38,4 @@ pub use place::{put_room, sizes_behind, Place, Placed};
 pub use plan::{planned, Ask, Plan};
 pub use planner::{hand_out, plan_out, Handing};
 pub use rules::{read_image, settled};
+pub use space::{space, space_told, Space};

@@ -4,6 +4,7 @@ use crate::flash::Step;
 use crate::geometry::DELETED;
 use crate::place::put_room;
 use crate::repair::mount_steps;
+use crate::space::{space, space_after};
 use crate::sweep::sweep_steps;
 use crate::write::{format_steps, put_steps, Old};
 
@@ -50,7 +51,8 @@ fn plan_mount(img: &[u8]) -> Result<Plan, u32> {
     accepted(img, None)?;
     let (steps, c) = mount_steps(img)?;
     let report = Report { head: c.head, tail: c.tail, files: c.live_count() };
-    let done = Reply { report, ..Reply::default() };
+    let space = space(&c, img.len() as u64);
+    let done = Reply { report, space, ..Reply::default() };
     Ok(Plan { done, ..Plan::of(steps) })
 }
 
@@ -59,12 +61,15 @@ fn plan_put(img: &[u8], name: &[u8], data: &[u8]) -> Result<Plan, u32> {
     let c = read(img, Some(name))?;
     let placed = put_room(img, &c, name, data.len() as u64).ok_or(28u32)?;
     let old = c.find_live(img, name).map(|r| Old { at: r.at, status: r.status });
-    Ok(Plan::of(put_steps(old, &placed, name, data)))
+    let steps = put_steps(old, &placed, name, data);
+    let done = Reply { space: space_after(img, &steps, c.head), ..Reply::default() };
+    Ok(Plan { done, ..Plan::of(steps) })
 }
 
 /// "Sweep's success gives finished moves and steps". 28: "no move made, for want of room".
 fn plan_sweep(img: &[u8]) -> Result<Plan, u32> {
     let sweep = sweep_steps(img, read(img, None)?).ok_or(28u32)?;
-    let done = Reply { moves: sweep.ends.len() as u64, ..Reply::default() };
+    let space = space(&sweep.left, img.len() as u64);
+    let done = Reply { moves: sweep.ends.len() as u64, space, ..Reply::default() };
     Ok(Plan { done, ends: sweep.ends, ..Plan::of(sweep.steps) })
 }

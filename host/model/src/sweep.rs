@@ -58,10 +58,12 @@ pub fn close(d: &mut Draft, x: &Record, y: &Record) {
     }
 }
 
-/// The step list of a sweep, and how many steps are done at the end of each move.
+/// The step list of a sweep, how many steps are done at the end of each move, and the
+/// chain of the image that it leaves.
 pub struct SweepSteps {
     pub steps: Vec<Step>,
     pub ends: Vec<u64>,
+    pub left: Chain,
 }
 
 /// One move, on from the chain `c`. None: X is live and doesn't fit.
@@ -92,12 +94,12 @@ pub fn sweep_steps(img: &[u8], mut c: Chain) -> Option<SweepSteps> {
         if !c.records[0].live && c.records.len() == 1 {
             break;
         }
-        match make_move(&mut d, c) {
+        match make_move(&mut d, c.clone()) {
             Some(next) => c = next,
             None if ends.is_empty() => return None,
             None => break,
         }
         ends.push(d.steps.len() as u64);
     }
-    Some(SweepSteps { steps: d.steps, ends })
+    Some(SweepSteps { steps: d.steps, ends, left: c })
 }

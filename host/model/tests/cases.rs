@@ -34,8 +34,20 @@ fn fresh() -> Vec<u8> {
     img
 }
 
+/// With the head at 0 and no turn: what isn't live below the tail is dead, all above it is free.
+fn below(tail: u64, live: u64) -> Space {
+    Space { live, dead: tail - live, free: N as u64 - tail, lost: 0 }
+}
+
+/// One "dose" of three bytes takes 24: the first goes to 16, the one that replaces it, in 19
+/// steps, to 40.
 fn put_dose(img: &mut [u8], data: &[u8; 3], allowance: u64, answer: u32, steps: u64) {
-    assert_eq!(put(img, b"dose", data, allowance), Reply { steps, ..Reply::refusal(answer) });
+    let space = match (answer, steps) {
+        (0, 17) => below(40, 24),
+        (0, 19) => below(64, 24),
+        _ => Space::default(),
+    };
+    assert_eq!(put(img, b"dose", data, allowance), Reply { space, steps, ..Reply::refusal(answer) });
 }
 
 fn dose() -> Vec<u8> {
@@ -45,8 +57,14 @@ fn dose() -> Vec<u8> {
 }
 
 fn mounts(img: &mut [u8], h: u64, t: u64, files: u64, steps: u64) {
-    let report = Report { head: h, tail: t, files };
-    assert_eq!(mount(img, ALL), Reply { report, steps, ..Reply::default() });
+    mounts_with(img, Report { head: h, tail: t, files }, 24 * files, steps);
+}
+
+/// So many bytes in files; the heads of these cases stand in the first sector.
+fn mounts_with(img: &mut [u8], report: Report, live: u64, steps: u64) {
+    let Report { head, tail, .. } = report;
+    let space = Space { live, dead: tail - head - live, free: N as u64 - tail, lost: head };
+    assert_eq!(mount(img, ALL), Reply { report, space, steps, ..Reply::default() });
 }
 
 fn gives(img: &[u8], name: &[u8], offset: u64, length: u64) {
@@ -218,8 +236,9 @@ fn room_of_the_first_put() {
     // sector and is counted again: 16 + 4 * (8 + 8 + 2024) = 8176; with 2025 bytes it would be 8208
     let mut img = fresh();
     let steps = 4 + 2024 + 10;
-    assert_eq!(put(&mut img, b"dose", &[7; 2024], ALL), Reply { steps, ..Reply::default() });
-    mounts(&mut img, 0, 2056, 1, 0);
+    let space = below(2056, 2040);
+    assert_eq!(put(&mut img, b"dose", &[7; 2024], ALL), Reply { space, steps, ..Reply::default() });
+    mounts_with(&mut img, Report { head: 0, tail: 2056, files: 1 }, 2040, 0);
     let mut img = fresh();
     assert_eq!(put(&mut img, b"dose", &[7; 2025], ALL), Reply::refusal(28));
     assert_eq!(img, image(&[&FIRST]));
@@ -230,7 +249,8 @@ fn sweep_after_the_first_put() {
     for (data, cleaned, steps) in [([1, 2, 3], [1, 2, 3], 27), ([0x00, 0x5A, 3], [0x00, 0x00, 3], 28)] {
         let mut img = fresh();
         put_dose(&mut img, &data, ALL, 0, 17);
-        assert_eq!(sweep(&mut img, ALL), Reply { moves: 2, steps, ..Reply::default() });
+        let space = Space { live: 24, dead: 0, free: 8128, lost: 40 };
+        assert_eq!(sweep(&mut img, ALL), Reply { moves: 2, space, steps, ..Reply::default() });
         let first = edited(&FIRST, &[(1, 0x00)]);
         let old = edited(&DOSE, &[(0, 0x00), (1, 0x00), (2, 0x00), (16, cleaned[0]), (17, cleaned[1])]);
         let copy = edited(&DOSE, &[(0, 0x00), (16, data[0]), (17, data[1])]);
@@ -242,7 +262,10 @@ fn sweep_after_the_first_put() {
 #[test]
 fn names_and_empty_content() {
     let mut img = fresh();
-    assert_eq!(put(&mut img, &[b'x'; 63], b"1", ALL), Reply { steps: 63 + 1 + 10, ..Reply::default() });
+    assert_eq!(
+        put(&mut img, &[b'x'; 63], b"1", ALL),
+        Reply { space: below(96, 80), steps: 63 + 1 + 10, ..Reply::default() }
+    );
     let before = img.clone();
     for bad in [&[b'x'; 64][..], b"a/", b"", b"a b", b"\x7F", b"\x20"] {
         assert_eq!(put(&mut img, bad, b"1", ALL), Reply::refusal(22));
@@ -250,7 +273,7 @@ fn names_and_empty_content() {
         assert_eq!(remove(&mut img, bad, ALL), Reply::refusal(22));
     }
     assert_eq!(img, before);
-    assert_eq!(put(&mut img, b"e", b"", ALL), Reply { steps: 1 + 10, ..Reply::default() });
+    assert_eq!(put(&mut img, b"e", b"", ALL), Reply { space: below(112, 96), steps: 1 + 10, ..Reply::default() });
     // the first at 16, with 8 + 64 + 8 bytes; the second at 96
     gives(&img, &[b'x'; 63], 88, 1);
     gives(&img, b"e", 112, 0);

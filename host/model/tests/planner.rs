@@ -64,6 +64,11 @@ fn rows(slices: &[Vec<u32>; 3], count: u64) -> Vec<Numbers> {
     (0..count as usize).map(|i| [slices[0][i], slices[1][i], slices[2][i]]).collect()
 }
 
+/// Done, with these live, dead, free and lost bytes (K3).
+fn done(live: u64, dead: u64, free: u64, lost: u64) -> Reply {
+    Reply { space: Space { live, dead, free, lost }, ..Reply::default() }
+}
+
 /// Everything at once, into slots of which some are left over.
 fn hands_out(img: &[u8], ask: Ask, reply: Reply, steps: &[Numbers]) {
     let length = steps.len() + 3;
@@ -95,7 +100,7 @@ fn first_put_byte_by_byte() {
         [1, 34, 0x03],
         [1, 18, 0xFC],
     ];
-    hands_out(&formatted(), Ask::Put(b"dose", &[1, 2, 3]), Reply::default(), &steps);
+    hands_out(&formatted(), Ask::Put(b"dose", &[1, 2, 3]), done(24, 16, 8152, 0), &steps);
     assert_eq!(record(16, b"dose", &[1, 2, 3]), steps);
 }
 
@@ -103,7 +108,7 @@ fn first_put_byte_by_byte() {
 fn replacing_and_removing() {
     let img = dose(ALL);
     let steps = [vec![program(18, 0xF8)], record(40, b"dose", &[4, 5, 6]), vec![program(18, 0x00)]].concat();
-    hands_out(&img, Ask::Put(b"dose", &[4, 5, 6]), Reply::default(), &steps);
+    hands_out(&img, Ask::Put(b"dose", &[4, 5, 6]), done(24, 40, 8128, 0), &steps);
     hands_out(&img, Ask::Remove(b"dose"), Reply::default(), &[program(18, 0x00)]);
 }
 
@@ -115,7 +120,7 @@ fn sweep_after_the_first_put() {
     let copy = [vec![program(18, 0xF8)], record(40, b"dose", &[1, 2, 3]), vec![program(18, 0x00)]].concat();
     let steps = [head_moves(16, 0), copy, head_moves(40, 16)].concat();
     assert_eq!(steps.len(), 27);
-    hands_out(&dose(ALL), Ask::Sweep, Reply { moves: 2, ..Reply::default() }, &steps);
+    hands_out(&dose(ALL), Ask::Sweep, Reply { moves: 2, ..done(24, 0, 8128, 40) }, &steps);
 }
 
 #[test]
@@ -124,13 +129,13 @@ fn a_sweep_that_erases() {
     let copy = [vec![program(4098, 0xF8)], record(4120, b"a", &[0x77]), vec![program(4098, 0x00)]].concat();
     let last = [(4120, 0xA0), (4120, 0x80), (4120, 0x00), (4097, 0x00)].map(|(a, b)| program(a, b)).to_vec();
     let steps = [first, copy, last].concat();
-    hands_out(&two_sectors(), Ask::Sweep, Reply { moves: 2, ..Reply::default() }, &steps);
+    hands_out(&two_sectors(), Ask::Sweep, Reply { moves: 2, ..done(24, 0, 8144, 24) }, &steps);
 }
 
 /// Head, tail and files are those of the image that the steps leave.
 #[test]
 fn mount_after_a_cut_put() {
-    let mounted = |tail| Reply { report: Report { head: 0, tail, files: 0 }, ..Reply::default() };
+    let mounted = |tail| Reply { report: Report { head: 0, tail, files: 0 }, ..done(0, tail, 8192 - tail, 0) };
     let zeros = (20..=24).map(|a| program(a, 0x00)).collect();
     let torn = [vec![program(16, 0xA5), program(17, 0x5A)], zeros, vec![program(18, 0x7F), program(18, 0x00)]].concat();
     hands_out(&dose(1), Ask::Mount, mounted(32), &torn);
@@ -150,7 +155,7 @@ fn windows() {
             let (handing, slices) = window(&img, ask, first, lengths);
             let shortest = *lengths.iter().min().expect("three") as u64;
             let handed = 17u64.saturating_sub(first).min(shortest);
-            assert_eq!(handing, Handing { reply: Reply { steps: 17, ..Reply::default() }, handed });
+            assert_eq!(handing, Handing { reply: Reply { steps: 17, ..done(24, 16, 8152, 0) }, handed });
             let from = (first as usize).min(17);
             assert_eq!(rows(&slices, handed), list[from..from + handed as usize]);
             assert!(slices.iter().all(|s| s[handed as usize..].iter().all(|&slot| slot == MARK)));

@@ -6,7 +6,7 @@
 mod plans;
 
 use model::faults::{self, Fault};
-use model::Reply;
+use model::{Reply, Space};
 use std::panic::{catch_unwind, AssertUnwindSafe};
 use std::sync::OnceLock;
 
@@ -28,6 +28,14 @@ fn run(call: impl FnOnce() -> Reply) -> Reply {
         None => call(),
     };
     catch_unwind(AssertUnwindSafe(seeded)).unwrap_or(Reply::refusal(TRIPPED))
+}
+
+/// # Safety
+/// Pointers to four numbers.
+unsafe fn give_space(s: Space, to: [*mut usize; 4]) {
+    for (number, at) in [s.live, s.dead, s.free, s.lost].into_iter().zip(to) {
+        *at = number as usize;
+    }
 }
 
 /// # Safety
@@ -69,12 +77,17 @@ pub unsafe extern "C" fn lilota_mount(
     head: *mut usize,
     tail: *mut usize,
     files: *mut usize,
+    live: *mut usize,
+    dead: *mut usize,
+    free: *mut usize,
+    lost: *mut usize,
     steps: *mut usize,
 ) -> u32 {
     let reply = run(|| model::mount(slice_mut(image, length), allowance as u64));
     *head = reply.report.head as usize;
     *tail = reply.report.tail as usize;
     *files = reply.report.files as usize;
+    give_space(reply.space, [live, dead, free, lost]);
     *steps = reply.steps as usize;
     reply.answer
 }
@@ -90,10 +103,15 @@ pub unsafe extern "C" fn lilota_put(
     content: *const u8,
     content_length: usize,
     allowance: usize,
+    live: *mut usize,
+    dead: *mut usize,
+    free: *mut usize,
+    lost: *mut usize,
     steps: *mut usize,
 ) -> u32 {
     let (name, content) = (slice(name, name_length), slice(content, content_length));
     let reply = run(|| model::put(slice_mut(image, length), name, content, allowance as u64));
+    give_space(reply.space, [live, dead, free, lost]);
     *steps = reply.steps as usize;
     reply.answer
 }
@@ -157,10 +175,15 @@ pub unsafe extern "C" fn lilota_sweep(
     length: usize,
     allowance: usize,
     moves: *mut usize,
+    live: *mut usize,
+    dead: *mut usize,
+    free: *mut usize,
+    lost: *mut usize,
     steps: *mut usize,
 ) -> u32 {
     let reply = run(|| model::sweep(slice_mut(image, length), allowance as u64));
     *moves = reply.moves as usize;
+    give_space(reply.space, [live, dead, free, lost]);
     *steps = reply.steps as usize;
     reply.answer
 }

@@ -1,5 +1,5 @@
 //! The planning calls (K1) of the stand-in: the model's planner under the C names.
-use crate::{fault, slice, slice_mut, TRIPPED};
+use crate::{fault, give_space, slice, slice_mut, TRIPPED};
 use model::faults;
 use model::{plan_out, Ask, Handing, Reply};
 use std::panic::{catch_unwind, AssertUnwindSafe};
@@ -38,12 +38,17 @@ pub unsafe extern "C" fn lilota_plan_put(
     bytes: *mut u32,
     bytes_length: usize,
     handed: *mut usize,
+    live: *mut usize,
+    dead: *mut usize,
+    free: *mut usize,
+    lost: *mut usize,
     steps: *mut usize,
 ) -> u32 {
     let slices = [(kinds, kinds_length), (addresses, addresses_length), (bytes, bytes_length)];
     let ask = Ask::Put(slice(name, name_length), slice(content, content_length));
     let told = run(slice(image, length), ask, first, slices);
     *handed = told.handed as usize;
+    give_space(told.reply.space, [live, dead, free, lost]);
     *steps = told.reply.steps as usize;
     told.reply.answer
 }
@@ -88,12 +93,17 @@ pub unsafe extern "C" fn lilota_plan_sweep(
     bytes_length: usize,
     handed: *mut usize,
     moves: *mut usize,
+    live: *mut usize,
+    dead: *mut usize,
+    free: *mut usize,
+    lost: *mut usize,
     steps: *mut usize,
 ) -> u32 {
     let slices = [(kinds, kinds_length), (addresses, addresses_length), (bytes, bytes_length)];
     let told = run(slice(image, length), Ask::Sweep, first, slices);
     *handed = told.handed as usize;
     *moves = told.reply.moves as usize;
+    give_space(told.reply.space, [live, dead, free, lost]);
     *steps = told.reply.steps as usize;
     told.reply.answer
 }
@@ -115,6 +125,10 @@ pub unsafe extern "C" fn lilota_plan_mount(
     head: *mut usize,
     tail: *mut usize,
     files: *mut usize,
+    live: *mut usize,
+    dead: *mut usize,
+    free: *mut usize,
+    lost: *mut usize,
     steps: *mut usize,
 ) -> u32 {
     let slices = [(kinds, kinds_length), (addresses, addresses_length), (bytes, bytes_length)];
@@ -123,6 +137,7 @@ pub unsafe extern "C" fn lilota_plan_mount(
     *head = told.reply.report.head as usize;
     *tail = told.reply.report.tail as usize;
     *files = told.reply.report.files as usize;
+    give_space(told.reply.space, [live, dead, free, lost]);
     *steps = told.reply.steps as usize;
     told.reply.answer
 }

@@ -1,12 +1,13 @@
 //! The header, and the C examples with the stand-in. (With the proved library:
 //! package compare.)
 use std::path::{Path, PathBuf};
-use testing::cc::{accepted_by_both, expected, host, run_example, EXAMPLES};
+use testing::cc::{accepted_by_both, expected, host, run_example, run_report, EXAMPLES};
+use testing::ALL;
 
 #[test]
 fn header_is_c_and_cpp() {
     accepted_by_both(&host().join("../include/lilota.h"));
-    for example in EXAMPLES {
+    for example in EXAMPLES.into_iter().chain(["report"]) {
         accepted_by_both(&host().join(format!("examples/{example}.c")));
     }
 }
@@ -29,4 +30,14 @@ fn examples_print_what_they_should() {
         let printed = run_example(example, &archive(), Path::new(env!("CARGO_TARGET_TMPDIR")));
         assert_eq!(printed, expected(example));
     }
+}
+
+/// After the first put of "dose" and a sweep: head 40, tail 64.
+#[test]
+fn service_screen() {
+    let mut img = testing::call::formatted(8192);
+    assert_eq!(model::put(&mut img, b"dose", &[1, 2, 3], ALL).answer, 0);
+    assert_eq!(model::sweep(&mut img, ALL).answer, 0);
+    let printed = run_report(&archive(), Path::new(env!("CARGO_TARGET_TMPDIR")), &img);
+    assert_eq!(printed, expected("report"));
 }

@@ -1,7 +1,7 @@
 //! The seven calls as C functions: the signatures of include/lilota.h, and a
 //! store that calls them.
 use crate::call::{Call, Store};
-use model::{Extent, Reply, Report};
+use model::{Extent, Reply, Report, Space};
 use std::cell::Cell;
 use std::ptr;
 
@@ -13,12 +13,37 @@ type Number = *mut usize;
 #[derive(Clone, Copy)]
 pub struct Functions {
     pub format: unsafe extern "C" fn(Image, usize, usize, Number) -> u32,
-    pub mount: unsafe extern "C" fn(Image, usize, usize, Number, Number, Number, Number) -> u32,
-    pub put: unsafe extern "C" fn(Image, usize, Bytes, usize, Bytes, usize, usize, Number) -> u32,
+    pub mount: unsafe extern "C" fn(
+        Image,
+        usize,
+        usize,
+        Number,
+        Number,
+        Number,
+        Number,
+        Number,
+        Number,
+        Number,
+        Number,
+    ) -> u32,
+    pub put: unsafe extern "C" fn(
+        Image,
+        usize,
+        Bytes,
+        usize,
+        Bytes,
+        usize,
+        usize,
+        Number,
+        Number,
+        Number,
+        Number,
+        Number,
+    ) -> u32,
     pub get: unsafe extern "C" fn(Bytes, usize, Bytes, usize, Number, Number) -> u32,
     pub list: unsafe extern "C" fn(Bytes, usize, usize, Number, Number, Number) -> u32,
     pub remove: unsafe extern "C" fn(Image, usize, Bytes, usize, usize, Number) -> u32,
-    pub sweep: unsafe extern "C" fn(Image, usize, usize, Number, Number) -> u32,
+    pub sweep: unsafe extern "C" fn(Image, usize, usize, Number, Number, Number, Number, Number, Number) -> u32,
 }
 
 /// Stands in the numbers before a call: one that the call leaves is seen.
@@ -58,21 +83,22 @@ impl Library {
         let at = if self.goes_as_null(img) { ptr::null_mut() } else { img.as_mut_ptr() };
         let n = img.len();
         let mut out = Numbers::UNWRITTEN;
-        let Numbers { head, tail, files, moves, offset, length, size, steps } = &mut out;
+        let Numbers { head, tail, files, moves, offset, length, size, space, steps } = &mut out;
+        let [live, dead, free, lost] = space;
         // Safety: each pointer comes with the length of the slice that it is of,
         // or is null with length 0; the numbers are different ones.
         let answer = unsafe {
             match call {
                 Call::Format(k) => (f.format)(at, n, *k as usize, steps),
-                Call::Mount(k) => (f.mount)(at, n, *k as usize, head, tail, files, steps),
+                Call::Mount(k) => (f.mount)(at, n, *k as usize, head, tail, files, live, dead, free, lost, steps),
                 Call::Put(name, data, k) => {
                     let (name_at, data_at) = (self.pointer(name), self.pointer(data));
-                    (f.put)(at, n, name_at, name.len(), data_at, data.len(), *k as usize, steps)
+                    (f.put)(at, n, name_at, name.len(), data_at, data.len(), *k as usize, live, dead, free, lost, steps)
                 }
                 Call::Get(name) => (f.get)(at, n, self.pointer(name), name.len(), offset, length),
                 Call::List(index) => (f.list)(at, n, *index as usize, offset, length, size),
                 Call::Remove(name, k) => (f.remove)(at, n, self.pointer(name), name.len(), *k as usize, steps),
-                Call::Sweep(k) => (f.sweep)(at, n, *k as usize, moves, steps),
+                Call::Sweep(k) => (f.sweep)(at, n, *k as usize, moves, live, dead, free, lost, steps),
             }
         };
         out.reply(call, answer)
@@ -91,6 +117,11 @@ impl Library {
     }
 }
 
+/// Live, dead, free and lost bytes, in this order.
+pub fn space([live, dead, free, lost]: [usize; 4]) -> Space {
+    Space { live: live as u64, dead: dead as u64, free: free as u64, lost: lost as u64 }
+}
+
 /// The numbers that the calls give back, each call its own.
 struct Numbers {
     head: usize,
@@ -100,6 +131,7 @@ struct Numbers {
     offset: usize,
     length: usize,
     size: usize,
+    space: [usize; 4],
     steps: usize,
 }
 
@@ -112,6 +144,7 @@ impl Numbers {
         offset: UNWRITTEN,
         length: UNWRITTEN,
         size: UNWRITTEN,
+        space: [UNWRITTEN; 4],
         steps: UNWRITTEN,
     };
 
@@ -120,13 +153,14 @@ impl Numbers {
         let report = Report { head: self.head as u64, tail: self.tail as u64, files: self.files as u64 };
         let extent = Extent { offset: self.offset as u64, length: self.length as u64 };
         let (moves, size, steps) = (self.moves as u64, self.size as u64, self.steps as u64);
-        let zeros = Reply::refusal(answer);
+        let (space, zeros) = (space(self.space), Reply::refusal(answer));
         match call {
-            Call::Format(_) | Call::Put(..) | Call::Remove(..) => Reply { steps, ..zeros },
-            Call::Mount(_) => Reply { report, steps, ..zeros },
+            Call::Format(_) | Call::Remove(..) => Reply { steps, ..zeros },
+            Call::Put(..) => Reply { space, steps, ..zeros },
+            Call::Mount(_) => Reply { report, space, steps, ..zeros },
             Call::Get(_) => Reply { extent, ..zeros },
             Call::List(_) => Reply { extent, size, ..zeros },
-            Call::Sweep(_) => Reply { moves, steps, ..zeros },
+            Call::Sweep(_) => Reply { moves, space, steps, ..zeros },
         }
     }
 }
@@ -154,6 +188,10 @@ macro_rules! c_library {
                 head: *mut usize,
                 tail: *mut usize,
                 files: *mut usize,
+                live: *mut usize,
+                dead: *mut usize,
+                free: *mut usize,
+                lost: *mut usize,
                 steps: *mut usize,
             ) -> u32;
             pub fn $put(
@@ -164,6 +202,10 @@ macro_rules! c_library {
                 content: *const u8,
                 content_length: usize,
                 allowance: usize,
+                live: *mut usize,
+                dead: *mut usize,
+                free: *mut usize,
+                lost: *mut usize,
                 steps: *mut usize,
             ) -> u32;
             pub fn $get(
@@ -190,8 +232,17 @@ macro_rules! c_library {
                 allowance: usize,
                 steps: *mut usize,
             ) -> u32;
-            pub fn $sweep(image: *mut u8, length: usize, allowance: usize, moves: *mut usize, steps: *mut usize)
-                -> u32;
+            pub fn $sweep(
+                image: *mut u8,
+                length: usize,
+                allowance: usize,
+                moves: *mut usize,
+                live: *mut usize,
+                dead: *mut usize,
+                free: *mut usize,
+                lost: *mut usize,
+                steps: *mut usize,
+            ) -> u32;
         }
 
         pub fn functions() -> $crate::c_calls::Functions {

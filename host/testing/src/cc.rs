@@ -31,9 +31,8 @@ pub fn accepted_by_both(source: &Path) {
     }
 }
 
-/// Compiles an example of host/examples with a static library, runs it with the path
-/// of an image file that it may write, and gives what it printed.
-pub fn run_example(name: &str, library: &Path, folder: &Path) -> String {
+/// Compiles an example of host/examples with a static library.
+fn compiled(name: &str, library: &Path, folder: &Path) -> PathBuf {
     let program = folder.join(name);
     let mut compile = Command::new("gcc");
     compile.args(["-std=c99", "-O2"]).args(STRICT).arg(include());
@@ -41,7 +40,23 @@ pub fn run_example(name: &str, library: &Path, folder: &Path) -> String {
     // a static library made by rustc wants these
     compile.args(["-lpthread", "-ldl", "-lm", "-o"]).arg(&program);
     succeed(&mut compile);
-    succeed(Command::new(&program).arg(folder.join(format!("{name}.image"))))
+    program
+}
+
+/// Runs an example with the path of an image file that it may write, and gives what it
+/// printed.
+pub fn run_example(name: &str, library: &Path, folder: &Path) -> String {
+    succeed(Command::new(compiled(name, library, folder)).arg(folder.join(format!("{name}.image"))))
+}
+
+/// What the service screen prints of this image, behind the file's name; the file stays
+/// as it is.
+pub fn run_report(library: &Path, folder: &Path, image: &[u8]) -> String {
+    let path = folder.join("report.image");
+    std::fs::write(&path, image).expect("a file");
+    let printed = succeed(Command::new(compiled("report", library, folder)).arg(&path));
+    assert_eq!(std::fs::read(&path).expect("the file"), image);
+    printed.strip_prefix(&format!("{}: ", path.display())).expect("the file's name").to_string()
 }
 
 /// What an example has to print, worked out by hand.

@@ -1,7 +1,7 @@
 //! K6 on the model: the store that got stuck under 01's rule, the promise under K6's,
 //! and wrong rules that the promise must notice.
 use model::faults::{self, Fault};
-use model::{mount, put, remove, sweep, Reply, Report};
+use model::{mount, put, remove, sweep, Reply, Report, Space};
 use testing::call::{formatted, Call, Model};
 use testing::maker::Maker;
 use testing::progress::{gets_past, Progress};
@@ -62,12 +62,16 @@ fn cut_sweeps_can_fill_a_store() {
     for (allowance, tail) in [(12, 4096), (7, 6136), (7, 8176)] {
         assert_eq!(sweep(&mut img, allowance).answer, 4);
         let report = Report { head: 16, tail, files: 1 };
-        assert_eq!(mount(&mut img, ALL), Reply { report, steps: 4, ..Reply::default() });
+        // the file has 2,040 bytes, and so has each copy that was cut
+        let space = Space { live: 2040, dead: tail - 2056, free: 8192 - tail, lost: 16 };
+        assert_eq!(mount(&mut img, ALL), Reply { report, space, steps: 4, ..Reply::default() });
     }
     is_stuck(&mut img);
     assert_eq!(put(&mut img, b"x", b"", ALL), Reply::refusal(28));
     assert_eq!(remove(&mut img, b"dose", ALL).answer, 0);
-    assert_eq!(sweep(&mut img, ALL), Reply { moves: 3, steps: 12, ..Reply::default() });
+    // head at 6,136 with one dead copy; the first sector is free again
+    let space = Space { live: 0, dead: 2040, free: 4112, lost: 2040 };
+    assert_eq!(sweep(&mut img, ALL), Reply { moves: 3, space, steps: 12, ..Reply::default() });
     // a small file, whose move takes the head to 0, and all room is back
     assert_eq!(put(&mut img, b"x", b"", ALL).answer, 0);
     assert_eq!(sweep(&mut img, ALL).answer, 0);

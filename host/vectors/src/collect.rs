@@ -6,6 +6,7 @@ use crate::orders::{self, ORDERS};
 use crate::plans;
 use crate::required::{REQUIRED, SOURCES};
 use crate::rooms::{self, ROOM_STATES};
+use crate::spaces;
 use model::*;
 use std::collections::BTreeMap;
 use std::fmt::Write as _;
@@ -95,7 +96,7 @@ impl Collection {
         let tags = tags.map(|t| format!("tag {t}"));
         let sources = SOURCES.iter().map(|s| format!("source {s}"));
         let lacking = answers.chain(tags).chain(sources).filter(|w| self.count(w) < EACH);
-        lacking.chain(plans::lacking(self)).collect()
+        lacking.chain(plans::lacking(self)).chain(spaces::lacking(self)).collect()
     }
 
     /// The coverage: calls by answers, then tags, sources and histories.
@@ -285,6 +286,7 @@ pub fn collect() -> Collection {
     histories::add(&mut r, &mut c, HISTORIES);
     orders::add(&mut c);
     plans::add(&mut c);
+    spaces::add(&mut c);
     c
 }
 

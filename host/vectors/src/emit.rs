@@ -1,5 +1,5 @@
 //! Vectors as antt text.
-use model::{put_room, Chain, Extent, Place, Record, Reply, Report};
+use model::{put_room, Chain, Extent, Place, Record, Reply, Report, Space};
 use std::fmt::Write as _;
 use testing::call::Call;
 
@@ -92,6 +92,10 @@ fn report(r: &Report) -> String {
     format!("(report {} {} {})", r.head, r.tail, r.files)
 }
 
+fn space(s: &Space) -> String {
+    format!("(space {} {} {} {})", s.live, s.dead, s.free, s.lost)
+}
+
 fn extent(x: &Extent) -> String {
     format!("(extent {} {})", x.offset, x.length)
 }
@@ -100,11 +104,12 @@ fn extent(x: &Extent) -> String {
 pub fn numbers(call: &Call, r: &Reply) -> String {
     let (answer, steps) = (r.answer, r.steps);
     match call {
-        Call::Mount(_) => format!("(of-mount {answer} {} {steps})", report(&r.report)),
-        Call::Sweep(_) => format!("(of-sweep {answer} {} {steps})", r.moves),
+        Call::Mount(_) => format!("(of-mount {answer} {} {} {steps})", report(&r.report), space(&r.space)),
+        Call::Put(..) => format!("(of-put {answer} {} {steps})", space(&r.space)),
+        Call::Sweep(_) => format!("(of-sweep {answer} {} {} {steps})", r.moves, space(&r.space)),
         Call::Get(_) => format!("(of-get {answer} {})", extent(&r.extent)),
         Call::List(_) => format!("(of-list {answer} {} {})", extent(&r.extent), r.size),
-        Call::Format(_) | Call::Put(..) | Call::Remove(..) => format!("(of-write {answer} {steps})"),
+        Call::Format(_) | Call::Remove(..) => format!("(of-write {answer} {steps})"),
     }
 }
 
@@ -149,8 +154,8 @@ pub fn file(vectors: &[(usize, &Vector)]) -> String {
          use mathlib.Core.Bool.{Bool, true, false}\n\
          use mathlib.Core.List.{List, [], _∷_}\n\
          use Rattle.spec.specs.History.{Request, put, remove, sweep, mount, get, list}\n\
-         use Rattle.spec.specs.Numbers.{of-write, of-mount, of-sweep, of-get, of-list}\n\
-         use Rattle.spec.specs.Run.{fill, lit, build, call, file, entry, report, extent}\n\
+         use Rattle.spec.specs.Numbers.{of-write, of-put, of-mount, of-sweep, of-get, of-list}\n\
+         use Rattle.spec.specs.Run.{fill, lit, build, call, file, entry, report, space, extent}\n\
          use Rattle.spec.specs.Run.{check, check-format, check-part, check-place, check-room, check-history}\n\
          use Rattle.spec.specs.Planner as Planner\n\
          use Rattle.spec.specs.Run.{lent, check-plan, check-in-turn}\n",

@@ -4,6 +4,7 @@ use crate::emit::Vector;
 use crate::inside_faults::INSIDE_FAULTS;
 use crate::plan_faults::PLAN_FAULTS;
 use crate::room_faults::ROOM_FAULTS;
+use crate::space_faults::SPACE_FAULTS;
 use std::path::Path;
 
 pub struct Fault {
@@ -241,6 +242,7 @@ pub fn run(spec: &Path, vectors: &[Vector], jobs: usize, only: Option<&str>) -> 
         .chain(INSIDE_FAULTS)
         .chain(ROOM_FAULTS)
         .chain(PLAN_FAULTS)
+        .chain(SPACE_FAULTS)
         .filter(|f| only.is_none_or(|what| f.what.starts_with(what)))
         .collect();
     let results = shared(&faults, jobs, |job, fault| {

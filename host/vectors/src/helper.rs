@@ -11,10 +11,11 @@ use mathlib.Core.List.{List, [], _∷_, _++_}
 use lib.ListN.{length, take, drop, replicate, set, getD}
 use lib.Dec.{eqb}
 use lib.Bits.{bitAnd}
-use Rattle.spec.specs.Numbers.{Numbers, Outcome, of-write, of-mount, of-sweep, of-get, of-list, part-of}
+use Rattle.spec.specs.Numbers.{Numbers, Outcome, of-write, of-put, of-mount, of-sweep, of-get, of-list, part-of}
 use Rattle.spec.specs.Answers.{format}
 use Rattle.spec.specs.declared.Report.{Report}
 use Rattle.spec.specs.declared.Extent.{Extent}
+use Rattle.spec.specs.declared.Space.{Space}
 use Rattle.spec.specs.History.{Request, put, remove, sweep, mount, get, list, Call, outcome, replay, steps-done, steps-of, File, Ledger, ledger}
 use Rattle.spec.specs.Step.{Step, program, erase, apply}
 use Rattle.spec.specs.declared.Place.{Place}
@@ -46,6 +47,9 @@ file n c = record { name = n; content = c }
 abbrev pub report : ℕ → ℕ → ℕ → Report
 report head tail files = record { head = head; tail = tail; files = files }
 
+abbrev pub space : ℕ → ℕ → ℕ → ℕ → Space
+space live dead free lost = record { live = live; dead = dead; free = free; lost = lost }
+
 abbrev pub extent : ℕ → ℕ → Extent
 extent offset length = record { offset = offset; length = length }
 
@@ -54,7 +58,9 @@ abbrev pub told : Numbers → Numbers → Bool
 told n m =
     eqb (n .answer) (m .answer) && eqb (n .report .head) (m .report .head) && eqb (n .report .tail) (m .report .tail)
     && eqb (n .report .files) (m .report .files) && eqb (n .moves) (m .moves) && eqb (n .extent .offset) (m .extent .offset)
-    && eqb (n .extent .length) (m .extent .length) && eqb (n .size) (m .size) && eqb (n .steps) (m .steps)
+    && eqb (n .extent .length) (m .extent .length) && eqb (n .size) (m .size) && eqb (n .space .live) (m .space .live)
+    && eqb (n .space .dead) (m .space .dead) && eqb (n .space .free) (m .space .free) && eqb (n .space .lost) (m .space .lost)
+    && eqb (n .steps) (m .steps)
 
 abbrev pub right : Outcome → Numbers → List ℕ → Bool
 right o n m = told (o .numbers) n && Basics.same (o .image) m

@@ -18,6 +18,8 @@ mod plans;
 mod required;
 mod room_faults;
 mod rooms;
+mod space_faults;
+mod spaces;
 
 use collect::Collection;
 use emit::Vector;

@@ -10,6 +10,9 @@ mount-requires c κs = search needs
 report-requires : tie.Need-report-requires
 report-requires c κs = search needs
 
+space-requires : tie.Need-space-requires
+space-requires c κs = search needs
+
 steps-requires : tie.Need-steps-requires
 steps-requires c κs = search needs
 
@@ -21,11 +24,13 @@ same-length c = search needs
 
 returns : tie.Need-returns
 returns c =
-    let c5 = c .before .before .before .before .before in
-    mounted-given (c5 .mount .result) _ _ _ _ _ (c .answer .ensures) (c .before .before .report .ensures) (c .before .steps .ensures)
-    (c5 .mount .ensures .0)
+    let c2 = c .before .before in
+    let c3 = c2 .before in
+    let c6 = c3 .before .before .before in
+    mounted-given (c6 .mount .result) _ _ _ _ _ _ (c .answer .ensures) (c3 .report .ensures) (c2 .space .ensures) (c .before .steps .ensures)
+    (c6 .mount .ensures .0)
 
 pub lilota-mount-spec : {M : Type 1} → statement M
 lilota-mount-spec =
     tie.close
-    (tie.spec mount-requires report-requires steps-requires answer-requires same-length returns)
+    (tie.spec mount-requires report-requires space-requires steps-requires answer-requires same-length returns)

@@ -11,6 +11,9 @@ plan-mount-requires c κs = search needs
 report-requires : tie.Need-report-requires
 report-requires c κs = search needs
 
+space-requires : tie.Need-space-requires
+space-requires c κs = search needs
+
 steps-requires : tie.Need-steps-requires
 steps-requires c κs = search needs
 
@@ -29,9 +32,10 @@ same-length-3 c = search needs
 returns : tie.Need-returns
 returns c =
     let c2 = c .before .before in
-    let c9 = c2 .before .before .before .before .before .before .before in
-    let done = c9 .plan-mount in (
-      mounted-handed (done .result .answer) _ _ _ _ _ _ (c .answer .ensures) (c2 .report .ensures) (c .before .steps .ensures) (done .ensures .0),
+    let c3 = c2 .before in
+    let c10 = c3 .before .before .before .before .before .before .before in
+    let done = c10 .plan-mount in (
+      mounted-handed (done .result .answer) _ _ _ _ _ _ _ (c .answer .ensures) (c3 .report .ensures) (c2 .space .ensures) (c .before .steps .ensures) (done .ensures .0),
       refl,
     )
 
@@ -41,6 +45,7 @@ lilota-plan-mount-spec =
     (tie.spec
     plan-mount-requires
     report-requires
+    space-requires
     steps-requires
     answer-requires
     same-length

@@ -1,12 +1,15 @@
 -- The numbers of the plan's answer, through pointers.
 use mathlib.Core.Path.{refl}
-use Rattle.lilota.specs.Planned.{written-handed}
+use Rattle.lilota.specs.Planned.{stored-handed}
 use borrow.Author.Needs.{needs}
 use Rattle.lilota.proofs.c.lilota_plan_put.Statement.{statement}
 use Rattle.lilota.proofs.c.lilota_plan_put.Tie as tie
 
 plan-put-requires : tie.Need-plan-put-requires
 plan-put-requires c κs = search needs
+
+space-requires : tie.Need-space-requires
+space-requires c κs = search needs
 
 steps-requires : tie.Need-steps-requires
 steps-requires c κs = search needs
@@ -26,8 +29,9 @@ same-length-3 c = search needs
 returns : tie.Need-returns
 returns c =
     let c1 = c .before in
-    let c8 = c1 .before .before .before .before .before .before .before in (
-      written-handed (c8 .plan-put .result .answer) _ _ _ _ _ (c .answer .ensures) (c1 .steps .ensures) (c8 .plan-put .ensures .0),
+    let c2 = c1 .before in
+    let c9 = c2 .before .before .before .before .before .before .before in (
+      stored-handed (c9 .plan-put .result .answer) _ _ _ _ _ _ (c .answer .ensures) (c2 .space .ensures) (c1 .steps .ensures) (c9 .plan-put .ensures .0),
       refl,
     )
 
@@ -36,6 +40,7 @@ lilota-plan-put-spec =
     tie.close
     (tie.spec
     plan-put-requires
+    space-requires
     steps-requires
     answer-requires
     same-length

@@ -11,6 +11,9 @@ plan-sweep-requires c κs = search needs
 moves-requires : tie.Need-moves-requires
 moves-requires c κs = search needs
 
+space-requires : tie.Need-space-requires
+space-requires c κs = search needs
+
 steps-requires : tie.Need-steps-requires
 steps-requires c κs = search needs
 
@@ -29,9 +32,10 @@ same-length-3 c = search needs
 returns : tie.Need-returns
 returns c =
     let c2 = c .before .before in
-    let c9 = c2 .before .before .before .before .before .before .before in
-    let done = c9 .plan-sweep in (
-      swept-handed (done .result .answer) _ _ _ _ _ _ (c .answer .ensures) (c2 .moves .ensures) (c .before .steps .ensures)
+    let c3 = c2 .before in
+    let c10 = c3 .before .before .before .before .before .before .before in
+    let done = c10 .plan-sweep in (
+      swept-handed (done .result .answer) _ _ _ _ _ _ _ (c .answer .ensures) (c3 .moves .ensures) (c2 .space .ensures) (c .before .steps .ensures)
           (done .ensures .0),
       refl,
     )
@@ -42,6 +46,7 @@ lilota-plan-sweep-spec =
     (tie.spec
     plan-sweep-requires
     moves-requires
+    space-requires
     steps-requires
     answer-requires
     same-length

@@ -10,6 +10,9 @@ sweep-requires c κs = search needs
 moves-requires : tie.Need-moves-requires
 moves-requires c κs = search needs
 
+space-requires : tie.Need-space-requires
+space-requires c κs = search needs
+
 steps-requires : tie.Need-steps-requires
 steps-requires c κs = search needs
 
@@ -21,10 +24,13 @@ same-length c = search needs
 
 returns : tie.Need-returns
 returns c =
-    let c5 = c .before .before .before .before .before in
-    swept-given (c5 .sweep .result) _ _ _ _ _ (c .answer .ensures) (c .before .before .moves .ensures) (c .before .steps .ensures) (c5 .sweep .ensures .0)
+    let c2 = c .before .before in
+    let c3 = c2 .before in
+    let c6 = c3 .before .before .before in
+    swept-given (c6 .sweep .result) _ _ _ _ _ _ (c .answer .ensures) (c3 .moves .ensures) (c2 .space .ensures) (c .before .steps .ensures)
+    (c6 .sweep .ensures .0)
 
 pub lilota-sweep-spec : {M : Type 1} → statement M
 lilota-sweep-spec =
     tie.close
-    (tie.spec sweep-requires moves-requires steps-requires answer-requires same-length returns)
+    (tie.spec sweep-requires moves-requires space-requires steps-requires answer-requires same-length returns)

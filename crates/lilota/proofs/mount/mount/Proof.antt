@@ -4,6 +4,7 @@ use Rattle.spec.specs.Answers.{mount-of}
 use Rattle.reading.specs.Read.{judged-as, reading-of}
 use Rattle.lilota.specs.Carry.{shut, let-in}
 use Rattle.lilota.specs.Calls.{mount-is}
+use Rattle.lilota.specs.Space.{legal-given}
 use borrow.Author.Needs.{needs}
 use Rattle.lilota.proofs.mount.mount.Statement.{statement}
 use Rattle.lilota.proofs.mount.mount.Tie as tie
@@ -15,7 +16,12 @@ enum-known-x : tie.Need-enum-known-x
 enum-known-x c = search needs
 
 mount-from-requires : tie.Need-mount-from-requires
-mount-from-requires c κs = rw (c .before .before .x .given .1) at (c .before .before .before .before .accepted .ensures .1)
+mount-from-requires c κs =
+    let c2 = c .before .before in
+    let c4 = c2 .before .before in
+    let read = c4 .accepted .ensures in
+    let a = rw (c2 .x .given .1) at (read .1) in
+    (a .0, a .1, legal-given _ (c2 .x .given .0 .0) (read .0) (c2 .x .given .1))
 
 enum-known-x-2 : tie.Need-enum-known-x-2
 enum-known-x-2 c = search needs

@@ -17,7 +17,7 @@ returns c =
     let c9 = c .before .before .before .before .before .before .before .before .before in
     let w = c .before .before .before .before .before .mend in
     let used : w .result .meter .allowance < w .result .meter .asked = omega arith in
-    (mount-cut _ _ _ _ (c9 .pre) _ (w .ensures) used, tt)
+    (mount-cut _ _ _ _ (c9 .pre .0) _ (w .ensures) used, tt)
 
 same-length-2 : tie.Need-same-length-2
 same-length-2 c = search needs
@@ -27,7 +27,7 @@ returns-2 c =
     let c9 = c .before .before .before .before .before .before .before .before .before in
     let w = c .before .before .before .before .before .mend in
     let within : w .result .meter .asked ≤ w .result .meter .allowance = omega arith in
-    (mount-done _ _ _ _ (c9 .pre) _ (w .ensures) within, tt)
+    (mount-done _ _ _ _ (c9 .pre .0) _ (w .ensures) (c9 .args .space) (c9 .pre .1) within, tt)
 
 pub mount-repaired-spec : {M : Type 1} → statement M
 mount-repaired-spec = tie.close (tie.spec mend-requires same-length returns same-length-2 returns-2)

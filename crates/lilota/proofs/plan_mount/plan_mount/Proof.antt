@@ -4,7 +4,7 @@ use Rattle.spec.specs.Answers.{mount-of}
 use Rattle.reading.specs.Read.{judged-as, reading-of}
 use Rattle.window.specs.Handed.{slices}
 use Rattle.lilota.specs.Planned.{shut-out, let-out, mount-planned}
-use Rattle.lilota.specs.PlanMount.{legal-given}
+use Rattle.lilota.specs.Space.{legal-given}
 use borrow.Author.Needs.{needs}
 use Rattle.lilota.proofs.plan_mount.plan_mount.Statement.{statement}
 use Rattle.lilota.proofs.plan_mount.plan_mount.Tie as tie

@@ -1,6 +1,7 @@
 -- The repairs that the first reading plans are the definition's, and so is the report.
 use native.Mathlib.Omega.{arith}
 use Rattle.planner.specs.Mount.{torn-told}
+use Rattle.lilota.specs.Space.{mount-told}
 use Rattle.lilota.specs.PlanMount.{marks-are, mount-out}
 use borrow.Author.Needs.{needs}
 use Rattle.lilota.proofs.plan_mount.plan_mount_from.Statement.{statement}
@@ -14,14 +15,17 @@ planned-report-requires c κs =
     let p = c .before .before .before .before .before .pre in
     (p .0 .surveyed, marks-are (p .1))
 
+mount-space-requires : tie.Need-mount-space-requires
+mount-space-requires c κs = c .before .before .before .before .before .before .pre .0 .surveyed
+
 from-requires : tie.Need-from-requires
 from-requires c κs = search needs
 
 hand-mend-requires : tie.Need-hand-mend-requires
 hand-mend-requires c κs =
-    let c10 = c .before .before .before .before .before .before .before .before .before .before in
-    let a = c10 .args in
-    let p = c10 .pre in (
+    let c11 = c .before .before .before .before .before .before .before .before .before .before .before in
+    let a = c11 .args in
+    let p = c11 .pre in (
       (p .0 .surveyed, torn-told (a .image .now) (a .s) (p .0), omega (arith, c .from .ensures .1, p .0 .led .small)),
       marks-are (p .1),
     )
@@ -44,10 +48,13 @@ returns c =
     let c8 = c7 .before in
     let c12 = c8 .before .before .before .before in
     let c13 = c12 .before in
-    let c18 = c13 .before .before .before .before .before in
+    let c14 = c13 .before in
+    let c19 = c14 .before .before .before .before .before in
+    let a = c19 .args in
     let from = c8 .from .ensures in
-    rw (c .planned-mount .ensures, c13 .shortest .ensures) (
-      mount-out (c18 .pre .1) (c18 .args .first) (c12 .planned-report .ensures) (from .0) (from .1) (c7 .hand-mend .ensures),
+    rw (c .planned-mount .ensures, c14 .shortest .ensures) (
+      mount-out (c19 .pre .1) (a .first) (c13 .planned-report .ensures)
+          (mount-told (a .image .now) (a .s) _ (c19 .pre .1) (c12 .mount-space .ensures)) (from .0) (from .1) (c7 .hand-mend .ensures),
       tt,
     )
 
@@ -57,6 +64,7 @@ plan-mount-from-spec =
     (tie.spec
     shortest-requires
     planned-report-requires
+    mount-space-requires
     from-requires
     hand-mend-requires
     planned-mount-requires

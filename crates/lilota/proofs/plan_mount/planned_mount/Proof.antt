@@ -13,7 +13,7 @@ handed-requires c κs = search needs
 returns : tie.Need-returns
 returns c =
     let a = c .before .args in
-    let f : ℕ → PlannedMount = λ k. record { answer = Mounted.Done (a .report) (a .w .passed); handed = k } in
+    let f : ℕ → PlannedMount = λ k. record { answer = Mounted.Done (a .report) (a .space) (a .w .passed); handed = k } in
     ap f (c .handed .ensures)
 
 pub planned-mount-spec : {M : Type 1} → statement M

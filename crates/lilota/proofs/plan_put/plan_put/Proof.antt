@@ -20,13 +20,13 @@ plan-put-from-requires c κs =
     let x = c4 .x .given .1 in
     let d = c4 .before .before .admitted-named .ensures in
     let w = rw x at (d .1) in
-    (w .0, w .1, rw x at (d .2))
+    (w .0, w .1, sym (ap (answered _) x) ∙ d .0, rw x at (d .2))
 
 enum-known-x-2 : tie.Need-enum-known-x-2
 enum-known-x-2 c = search needs
 
-refused-write-requires : tie.Need-refused-write-requires
-refused-write-requires c κs = search needs
+refused-put-requires : tie.Need-refused-put-requires
+refused-put-requires c κs = search needs
 
 same-length : tie.Need-same-length
 same-length c = search needs
@@ -47,7 +47,7 @@ returns c =
     let s = slices (a .kinds .now) (a .addresses .now) (a .bytes .now) in
     let i = a .image .now in (
       c6 .plan-put-from .ensures .0
-          ∙ let-out (reading-of i (c11 .x .given .0 .0)) (a .first) s (put-into (a .name .now) (a .content .now))
+          ∙ let-out (reading-of i (c11 .x .given .0 .0)) (a .first) s (put-into (a .name .now) (a .content .now) i)
           (sym (ap (answered i) (c11 .x .given .1)) ∙ c13 .admitted-named .ensures .0)
           ∙ put-planned i (a .first) s (a .name .now) (a .content .now),
       c6 .plan-put-from .ensures .1,
@@ -62,8 +62,8 @@ returns-2 c =
     let a = c11 .args in
     let s = slices (a .kinds .now) (a .addresses .now) (a .bytes .now) in
     let i = a .image .now in
-    rw (c .refused-write .ensures) (
-      shut-out _ (a .first) s (put-into (a .name .now) (a .content .now)) (sym (ap (answered i) (c2 .x2 .given .1)) ∙ c4 .admitted-named .ensures .0)
+    rw (c .refused-put .ensures) (
+      shut-out _ (a .first) s (put-into (a .name .now) (a .content .now) i) (sym (ap (answered i) (c2 .x2 .given .1)) ∙ c4 .admitted-named .ensures .0)
           ∙ put-planned i (a .first) s (a .name .now) (a .content .now),
       rw (c2 .x2 .given .1) at (c4 .admitted-named .ensures .1),
       refl,
@@ -77,7 +77,7 @@ plan-put-spec =
     enum-known-x
     plan-put-from-requires
     enum-known-x-2
-    refused-write-requires
+    refused-put-requires
     same-length
     same-length-2
     same-length-3

@@ -10,6 +10,7 @@ use Rattle.reading.specs.Standing.{start-sound}
 use Rattle.window.specs.Handed.{slices}
 use Rattle.lilota.specs.Numbers.{no-room}
 use Rattle.lilota.specs.Sweep.{headed}
+use Rattle.lilota.specs.Space.{sweep-told}
 use Rattle.lilota.specs.Planned.{refused-out}
 use Rattle.lilota.specs.PlanSweep.{walkable, sweep-out, moves-out}
 use borrow.Author.Needs.{needs}
@@ -37,6 +38,14 @@ returns c =
       no-room,
     )
 
+at-most-requires : tie.Need-at-most-requires
+at-most-requires c κs = search needs
+
+sweep-space-requires : tie.Need-sweep-space-requires
+sweep-space-requires c κs =
+    let c9 = c .before .before .before .before .before .before .before .before .before in
+    (c9 .pre .0 .accepted .surveyed, walkable (c9 .args .image .now) (c9 .args .s) (c9 .pre .0 .accepted))
+
 shortest-requires : tie.Need-shortest-requires
 shortest-requires c κs = search needs
 
@@ -46,19 +55,19 @@ first-cursor-requires c κs = search needs
 from-requires : tie.Need-from-requires
 from-requires c κs = search needs
 
-at-most-requires : tie.Need-at-most-requires
-at-most-requires c κs = search needs
+at-most-requires-2 : tie.Need-at-most-requires-2
+at-most-requires-2 c κs = search needs
 
 hand-sweep-requires : tie.Need-hand-sweep-requires
 hand-sweep-requires c κs =
     let c4 = c .before .before .before .before in
     let c5 = c4 .before in
-    let c15 = c5 .before .before .before .before .before .before .before .before .before .before in
-    let a = c15 .args in
-    let w = c15 .pre .0 .accepted in (
+    let c17 = c5 .before .before .before .before .before .before .before .before .before .before .before .before in
+    let a = c17 .args in
+    let w = c17 .pre .0 .accepted in (
       start-sound (w .led) (c5 .first-cursor .ensures),
       walkable (a .image .now) (a .s) w,
-      omega (arith, c .at-most .ensures),
+      omega (arith, c .at-most2 .ensures),
       c4 .from .ensures .1,
     )
 
@@ -83,13 +92,17 @@ returns-2 c =
     let c14 = c13 .before in
     let c15 = c14 .before in
     let c16 = c15 .before in
-    let c23 = c16 .before .before .before .before .before .before .before in
-    let a = c23 .args in
-    let p = c23 .pre in
+    let c17 = c16 .before in
+    let c18 = c17 .before in
+    let c25 = c18 .before .before .before .before .before .before .before in
+    let a = c25 .args in
+    let p = c25 .pre in
     let from = c12 .from .ensures in
-    let room = sym (flag (c16 .no-room .ensures) (c15 .if1 .left)) in
+    let room = sym (flag (c18 .no-room .ensures) (c17 .if1 .left)) in
+    let told = sweep-told (a .image .now) (a .s) (c15 .sweep-space .result) (p .0 .accepted) (p .1) (c16 .at-most .ensures)
+    (c15 .sweep-space .ensures) in
     rw (c .planned-sweep .ensures, c14 .shortest .ensures) (
-      moves-out (a .image .now) (a .s) (p .0 .accepted) (a .first) (p .1) room (c8 .at-most .ensures) (c13 .first-cursor .ensures)
+      moves-out (a .image .now) (a .s) (p .0 .accepted) (a .first) (p .1) told room (c8 .at-most2 .ensures) (c13 .first-cursor .ensures)
           (from .0) (from .1) (c7 .hand-sweep .ensures),
       tt,
     )
@@ -101,10 +114,12 @@ plan-sweep-from-spec =
     no-room-requires
     refused-sweep-requires
     returns
+    at-most-requires
+    sweep-space-requires
     shortest-requires
     first-cursor-requires
     from-requires
-    at-most-requires
+    at-most-requires-2
     hand-sweep-requires
     planned-sweep-requires
     same-length

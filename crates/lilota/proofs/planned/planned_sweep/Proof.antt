@@ -13,7 +13,7 @@ handed-requires c κs = search needs
 returns : tie.Need-returns
 returns c =
     let a = c .before .before .args in
-    let f : ℕ → PlannedSweep = λ k. record { answer = Swept.Done (a .m .moves) (a .m .window .passed); handed = k } in
+    let f : ℕ → PlannedSweep = λ k. record { answer = Swept.Done (a .m .moves) (a .space) (a .m .window .passed); handed = k } in
     ap f (c .handed .ensures)
 
 pub planned-sweep-spec : {M : Type 1} → statement M

@@ -19,7 +19,7 @@ put-from-requires c κs =
     let x = c .before .before .x .given .1 in
     let d = c .before .before .before .before .admitted-named .ensures in
     let w = rw x at (d .1) in
-    (w .0, w .1, rw x at (d .2))
+    (w .0, w .1, sym (ap (answered _) x) ∙ d .0, rw x at (d .2))
 
 enum-known-x-2 : tie.Need-enum-known-x-2
 enum-known-x-2 c = search needs
@@ -34,7 +34,7 @@ returns c =
     let s = a .image .now in
     let x = c .before .before .before .before .before .x .given in (
       c .before .before .put-from .ensures .0
-          ∙ let-in s (a .allowance) (reading-of s (x .0 .0)) (put-into (a .name .now) (a .content .now))
+          ∙ let-in s (a .allowance) (reading-of s (x .0 .0)) (put-into (a .name .now) (a .content .now) s)
           (sym (ap (answered s) (x .1)) ∙ c7 .admitted-named .ensures .0) ∙ put-is s (a .allowance) (a .name .now) (a .content .now),
       c .before .before .put-from .ensures .1,
     )
@@ -49,7 +49,7 @@ returns-2 c =
     let s = a .image .now in
     let x = c .before .x2 .given .1 in
     let d = c3 .admitted-named .ensures in (
-      shut s (a .allowance) _ (put-into (a .name .now) (a .content .now)) (sym (ap (answered s) x) ∙ d .0)
+      shut s (a .allowance) _ (put-into (a .name .now) (a .content .now) s) (sym (ap (answered s) x) ∙ d .0)
           ∙ put-is s (a .allowance) (a .name .now) (a .content .now),
       rw x at (d .1),
     )

@@ -15,7 +15,10 @@ enum-known-x : tie.Need-enum-known-x
 enum-known-x c = search needs
 
 sweep-from-requires : tie.Need-sweep-from-requires
-sweep-from-requires c κs = rw (c .before .before .x .given .1) at (c .before .before .before .before .admitted .ensures .1)
+sweep-from-requires c κs =
+    let c2 = c .before .before in
+    let read = c2 .before .before .admitted .ensures in
+    (rw (c2 .x .given .1) at (read .1), sym (ap (answered _) (c2 .x .given .1)) ∙ read .0)
 
 enum-known-x-2 : tie.Need-enum-known-x-2
 enum-known-x-2 c = search needs

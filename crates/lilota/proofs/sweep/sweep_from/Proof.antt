@@ -5,6 +5,8 @@ use Rattle.laws.specs.Flag.{flag}
 use Rattle.spec.specs.Basics.{numbered}
 use Rattle.lilota.specs.Numbers.{no-room}
 use Rattle.lilota.specs.Carry.{refused}
+use Rattle.lilota.specs.Space.{sweep-told}
+use Rattle.lilota.specs.PlanSweep.{walkable}
 use Rattle.lilota.specs.Sweep.{swept-done, swept-cut, sweep-room, headed}
 use native.Mathlib.Omega.{arith}
 use borrow.Author.Needs.{needs}
@@ -12,7 +14,7 @@ use Rattle.lilota.proofs.sweep.sweep_from.Statement.{statement}
 use Rattle.lilota.proofs.sweep.sweep_from.Tie as tie
 
 no-room-requires : tie.Need-no-room-requires
-no-room-requires c κs = let a = c .before .before .before .before in headed (a .args .image .now) (a .args .s) (a .pre .accepted)
+no-room-requires c κs = let a = c .before .before .before .before in headed (a .args .image .now) (a .args .s) (a .pre .0 .accepted)
 
 same-length : tie.Need-same-length
 same-length c = search needs
@@ -21,26 +23,41 @@ returns : tie.Need-returns
 returns c =
     let a = c .before .before .before .before .before .before .args in (
       refused (a .image .now) (a .allowance) (numbered 28)
-          ∙ sweep-room (a .image .now) (a .allowance) (a .s) true (c .before .before .before .before .before .before .pre .accepted)
-          (sym (flag (c .before .no-room .ensures) (c .if1 .taken))),
+          ∙ sweep-room (a .image .now) (a .allowance) (a .s) true _ (c .before .before .before .before .before .before .pre .0 .accepted)
+          (sym (flag (c .before .no-room .ensures) (c .if1 .taken))) refl,
       no-room,
     )
 
+at-most-requires : tie.Need-at-most-requires
+at-most-requires c κs = search needs
+
+sweep-space-requires : tie.Need-sweep-space-requires
+sweep-space-requires c κs =
+    let c8 = c .before .before .before .before .before .before .before .before in
+    (c8 .pre .0 .accepted .surveyed, walkable (c8 .args .image .now) (c8 .args .s) (c8 .pre .0 .accepted))
+
 sweep-requires : tie.Need-sweep-requires
 sweep-requires c κs =
-    let a = c .before .before .before .before .before .before .before in
-    (headed (a .args .image .now) (a .args .s) (a .pre .accepted), omega arith)
+    let c10 = c .before .before .before .before .before .before .before .before .before .before in
+    (headed (c10 .args .image .now) (c10 .args .s) (c10 .pre .0 .accepted), omega arith)
 
 same-length-2 : tie.Need-same-length-2
 same-length-2 c = search needs
 
 returns-2 : tie.Need-returns-2
 returns-2 c =
-    let c5 = c .before .before .before .before .before in let c7 = c5 .before .before in let c8 = c7 .before in
-    let c13 = c8 .before .before .before .before .before in
-    let a = c13 .args in (
-      swept-done (a .allowance) refl refl (c5 .sweep .ensures) (c .if2 .taken)
-          ∙ sweep-room (a .image .now) (a .allowance) (a .s) false (c13 .pre .accepted) (sym (flag (c8 .no-room .ensures) (c7 .if1 .left))),
+    let c5 = c .before .before .before .before .before in
+    let c7 = c5 .before .before in
+    let c8 = c7 .before in
+    let c10 = c8 .before .before in
+    let c11 = c10 .before in
+    let c16 = c11 .before .before .before .before .before in
+    let a = c16 .args in
+    let p = c16 .pre in
+    let x = c7 .sweep-space .result in
+    let told = sweep-told (a .image .now) (a .s) x (p .0 .accepted) (p .1) (c8 .at-most .ensures) (c7 .sweep-space .ensures) in (
+      swept-done (a .allowance) refl refl (c5 .sweep .ensures) x (c .if2 .taken)
+          ∙ sweep-room (a .image .now) (a .allowance) (a .s) false x (p .0 .accepted) (sym (flag (c11 .no-room .ensures) (c10 .if1 .left))) told,
       tt,
     )
 
@@ -49,11 +66,18 @@ same-length-3 c = search needs
 
 returns-3 : tie.Need-returns-3
 returns-3 c =
-    let c5 = c .before .before .before .before .before in let c7 = c5 .before .before in let c8 = c7 .before in
-    let c13 = c8 .before .before .before .before .before in
-    let a = c13 .args in (
-      swept-cut (a .allowance) refl refl (c5 .sweep .ensures) (c .if2 .left)
-          ∙ sweep-room (a .image .now) (a .allowance) (a .s) false (c13 .pre .accepted) (sym (flag (c8 .no-room .ensures) (c7 .if1 .left))),
+    let c5 = c .before .before .before .before .before in
+    let c7 = c5 .before .before in
+    let c8 = c7 .before in
+    let c10 = c8 .before .before in
+    let c11 = c10 .before in
+    let c16 = c11 .before .before .before .before .before in
+    let a = c16 .args in
+    let p = c16 .pre in
+    let x = c7 .sweep-space .result in
+    let told = sweep-told (a .image .now) (a .s) x (p .0 .accepted) (p .1) (c8 .at-most .ensures) (c7 .sweep-space .ensures) in (
+      swept-cut (a .allowance) refl refl (c5 .sweep .ensures) x (c .if2 .left)
+          ∙ sweep-room (a .image .now) (a .allowance) (a .s) false x (p .0 .accepted) (sym (flag (c11 .no-room .ensures) (c10 .if1 .left))) told,
       tt,
     )
 
@@ -64,6 +88,8 @@ sweep-from-spec =
     no-room-requires
     same-length
     returns
+    at-most-requires
+    sweep-space-requires
     sweep-requires
     same-length-2
     returns-2

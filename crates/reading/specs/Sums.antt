@@ -1,0 +1,71 @@
+-- Request K3: sizes of records summed along the chain. A sum and what is left to read are never more than there was at the start.
+use Prim.Native.Nat.{ℕ, _+_, _≤_}
+use native.Mathlib.Omega.{arith}
+use native.Mathlib.Nat.{add-zero, zero-add}
+use mathlib.Core.Path.{_≡_, refl, sym, ap, ap₂, _∙_}
+use mathlib.Core.Bool.{Bool, true, false}
+use mathlib.Core.List.{List, [], _∷_}
+use lib.ListN.{length}
+use Rattle.spec.specs.Basics.{keep}
+use Rattle.spec.specs.Record.{Entry, size, size-of}
+use Rattle.spec.specs.Space.{sizes}
+use Rattle.laws.specs.Lists.{keep-yes, keep-no}
+use Rattle.reading.specs.declared.Cursor.{Cursor}
+use Rattle.reading.specs.declared.Spot.{Spot}
+use Rattle.reading.specs.declared.Item.{Item}
+use Rattle.reading.specs.Cursor.{advance, left, Cursor-sound}
+use Rattle.reading.specs.Along.{Reached, reached, from-left}
+use Rattle.reading.specs.Rest.{Run, rest, entry-of}
+use Rattle.reading.specs.Fold.{Whole, name-length-is, content-length-is, Passes, Not-record, Folded, fold-start, fold-end, fold-step}
+
+-- a sum, with a size if it counts
+abbrev pub added : ℕ → ℕ → Bool → ℕ
+added m z true = m + z
+added m z false = m
+
+-- m, and the sizes of the records of r that pass
+abbrev pub sum-of : (Entry → Bool) → ℕ → Run → ℕ
+sum-of p m r = m + sizes (keep p (r .entries))
+
+-- m was summed up to c
+pub record Summed (p : Entry → Bool) (image : List ℕ) (start c : Cursor) (m : ℕ) : Type 0 where
+  pub fold : Folded (sum-of p) image start 0 c m
+  pub few : m + left c ≤ left start
+
+pub sum-start : (p : Entry → Bool) {image : List ℕ} {start : Cursor} → Cursor-sound image start → Summed p image start start 0
+sum-start p {image} {start} s = record { fold = fold-start (sum-of p) image start 0 s; few = omega arith }
+
+-- a record takes its size from what is left
+pub reached-more : {image : List ℕ} {c : Cursor} {e : Spot} {next : Cursor} → Reached image c e next
+    → left next + size-of (e .n) (e .d) ≤ left c
+reached-more r = rw (r .next-is) (omega (arith, r .fits, from-left (r .from)))
+
+pub size-is : {image : List ℕ} {e : Spot} → Whole image e → size (entry-of image e) ≡ size-of (e .n) (e .d)
+size-is {image} {e} w = ap₂ size-of (name-length-is image e w) (content-length-is image e w)
+
+module _ (p : Entry → Bool) {image : List ℕ} {start c : Cursor} {m : ℕ} (w : Summed p image start c m) where
+  pub sum-over : (r : Item) → r ≡ advance image c → Not-record r → m ≡ sizes (keep p (rest image start .entries))
+  sum-over r e z =
+      sym (add-zero m) ∙ fold-end (sum-of p) image start 0 c m (w .fold) r e z ∙ zero-add (sizes (keep p (rest image start .entries)))
+
+  pub sum-most : m ≤ left start
+  sum-most = omega (arith, w .few)
+
+  module _ {e : Spot} {next : Cursor} (t : Passes image c e next) (r : Reached image c e next) where
+    -- the record's size can be added
+    pub sum-room : m + size-of (e .n) (e .d) ≤ left start
+    sum-room = omega (arith, w .few, reached-more r)
+
+    pub sum-step : (b : Bool) → p (entry-of image e) ≡ b → Summed p image start next (added m (size-of (e .n) (e .d)) b)
+    sum-step true h =
+        record {
+          fold =
+              fold-step (sum-of p) image start 0 c m (w .fold) e next t (m + size-of (e .n) (e .d))
+              (rw (keep-yes p (entry-of image e) (rest image next .entries) h) (omega (arith, size-is (t .whole))));
+          few = omega (arith, w .few, reached-more r);
+        }
+    sum-step false h =
+        record {
+          fold = fold-step (sum-of p) image start 0 c m (w .fold) e next t m (rw (keep-no p (entry-of image e) (rest image next .entries) h));
+          few = omega (arith, w .few, reached-more r);
+        }
