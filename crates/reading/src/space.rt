@@ -29,7 +29,8 @@ fn added(sum: usize, size: usize, counts: bool) -> usize
 pub fn sums(image: &[u8], start: Cursor, h: usize) -> Sums
     requires { ⌜ Cursor-sound (now image) start ⌝ }
     ensures { λ r. ⌜ (let es = rest (now (image .entry)) start .entries in
-        (r .live ≡ live-bytes es) × (r .upper ≡ sizes (keep (λ e. leb h (e .at)) es)) × (r .live ≤ left start) × (r .upper ≤ left start)) ⌝ }
+        (r .live ≡ live-bytes es) × (r .upper ≡ sizes (keep (λ e. leb h (e .at)) es)) × (r .live ≤ left start)
+        × (r .upper ≤ left start)) ⌝ }
 {
     let mut c = start;
     let mut live = 0;
