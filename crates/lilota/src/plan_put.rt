@@ -15,7 +15,6 @@ use window::file::hand_file;
 use window::shortest;
 ghost use mathlib.Core.Path.{_≡_};
 ghost use mathlib.Core.Bool.{true};
-ghost use Prim.Native.Nat.{_≤_};
 ghost use lib.ListN.{length};
 ghost use Rattle.spec.specs.Basics.{give};
 ghost use Rattle.spec.specs.Door.{admitted-named};
@@ -25,6 +24,7 @@ ghost use Rattle.spec.specs.Place.{fits};
 ghost use Rattle.spec.specs.Write.{put-steps};
 ghost use Rattle.spec.specs.Answers.{put-into};
 ghost use Rattle.spec.specs.Planner.{Writing, hand-out, planned};
+ghost use Rattle.record.specs.Within.{Name-length};
 ghost use Rattle.reading.specs.Read.{reading-of, File-told};
 ghost use Rattle.reading.specs.Accepted.{Settled};
 ghost use Rattle.window.specs.Handed.{slices, Handed};
@@ -43,7 +43,7 @@ fn plan_replace(
     bytes: &mut [u32],
     w: Window,
 ) -> Window
-    requires { ⌜ Settled (now image) s × (length (now name) ≤ 63)
+    requires { ⌜ Settled (now image) s × Name-length (length (now name))
         × (fits (s .place) (size-of (length (now name)) (length (now content))) ≡ true) × (w .passed ≡ 0)
         × File-told (now image) (now name) s f ⌝ }
     ensures { λ r. ⌜ Handed (slices (now (kinds .entry)) (now (addresses .entry)) (now (bytes .entry))) w
@@ -68,7 +68,7 @@ fn plan_put_from(
     addresses: &mut [u32],
     bytes: &mut [u32],
 ) -> PlannedPut
-    requires { ⌜ Settled (now image) s × (length (now name) ≤ 63)
+    requires { ⌜ Settled (now image) s × Name-length (length (now name))
         × (give (reading-of (now image) s) ≡ admitted-named (now name) (now image)) × File-told (now image) (now name) s f ⌝ }
     ensures { λ r. ⌜ (handing (stored (r .answer)) (r .handed) (slices (now (kinds .exit)) (now (addresses .exit)) (now (bytes .exit)))
         ≡ hand-out (put-into (now (name .entry)) (now (content .entry)) (now (image .entry)) (reading-of (now (image .entry)) s)) first

@@ -30,6 +30,7 @@ ghost use Rattle.spec.specs.Record.{name-of, content-of, size-of};
 ghost use Rattle.spec.specs.Place.{fits};
 ghost use Rattle.spec.specs.Write.{put-steps};
 ghost use Rattle.planning.specs.Planned.{next-of, walked};
+ghost use Rattle.record.specs.Within.{Name-length};
 ghost use Rattle.reading.specs.Cursor.{Cursor-sound};
 ghost use Rattle.reading.specs.Rest.{entry-of, rest};
 ghost use Rattle.reading.specs.Fold.{Whole};
@@ -123,7 +124,8 @@ fn hand_copy(
     place: Place,
     w: Window,
 ) -> Window
-    requires { ⌜ Whole (now image) x × (x .n ≤ 63) × Walkable (length (now image)) place × (fits place (size-of (x .n) (x .d)) ≡ true) ⌝ }
+    requires { ⌜ Whole (now image) x × Name-length (x .n) × Walkable (length (now image)) place
+        × (fits place (size-of (x .n) (x .d)) ≡ true) ⌝ }
     requires { ⌜ w .passed ≤ 2 ^ 31 ⌝ }
     ensures { λ r. ⌜ (let e = entry-of (now (image .entry)) x in
         Handed (slices (now (kinds .entry)) (now (addresses .entry)) (now (bytes .entry))) w
@@ -167,7 +169,7 @@ fn hand_live(
 ) -> Moved
     requires { ⌜ Cursor-sound (now image) past × Whole (now image) x × Below copy (length (now image))
         × Walkable (length (now image)) place ⌝ }
-    requires { ⌜ (x .n ≤ 63) × (x .d < 2 ^ 32) × (w .passed ≤ 2 ^ 30) ⌝ }
+    requires { ⌜ Name-length (x .n) × (x .d < 2 ^ 32) × (w .passed ≤ 2 ^ 30) ⌝ }
     ensures { λ r. ⌜ Live-handed (now (image .entry)) x past place copy
         (slices (now (kinds .entry)) (now (addresses .entry)) (now (bytes .entry))) w
         (slices (now (kinds .exit)) (now (addresses .exit)) (now (bytes .exit))) r ⌝ }

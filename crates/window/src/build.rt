@@ -14,6 +14,7 @@ ghost use Prim.Native.Nat.{_+_, _<_, _≤_, _^_};
 ghost use lib.ListN.{length};
 ghost use Rattle.spec.specs.Step.{Step, shifted};
 ghost use Rattle.spec.specs.Write.{marker-steps, header-steps, name-end-steps, name-steps, data-steps, commit-steps, record-steps};
+ghost use Rattle.record.specs.Within.{Name-length};
 ghost use Rattle.window.specs.Handed.{slices, Handed, Counts};
 
 // The status byte of the record at this address.
@@ -100,7 +101,7 @@ fn hand_name(
     name: &[u8],
     w: Window,
 ) -> Window
-    requires { ⌜ (at ≤ 2 ^ 24) × (length (now name) ≤ 63) ⌝ }
+    requires { ⌜ (at ≤ 2 ^ 24) × Name-length (length (now name)) ⌝ }
     requires { ⌜ Counts w (length (now name) + 2) ⌝ }
     ensures { λ r. ⌜ Handed (slices (now (kinds .entry)) (now (addresses .entry)) (now (bytes .entry))) w
         (shifted at (name-steps (now (name .entry))))
@@ -120,7 +121,7 @@ fn hand_opening(
     d: usize,
     w: Window,
 ) -> Window
-    requires { ⌜ (at ≤ 2 ^ 24) × (length (now name) ≤ 63) ⌝ }
+    requires { ⌜ (at ≤ 2 ^ 24) × Name-length (length (now name)) ⌝ }
     requires { ⌜ Counts w (length (now name) + 9) ⌝ }
     ensures { λ r. ⌜ Handed (slices (now (kinds .entry)) (now (addresses .entry)) (now (bytes .entry))) w
         (shifted at (header-steps d ++ name-steps (now (name .entry))))
@@ -160,7 +161,7 @@ pub fn hand_record(
     content: &[u8],
     w: Window,
 ) -> Window
-    requires { ⌜ (at ≤ 2 ^ 24) × (length (now name) ≤ 63) × (length (now content) ≤ 2 ^ 24) ⌝ }
+    requires { ⌜ (at ≤ 2 ^ 24) × Name-length (length (now name)) × (length (now content) ≤ 2 ^ 24) ⌝ }
     requires { ⌜ Counts w (length (now name) + length (now content) + 10) ⌝ }
     ensures { λ r. ⌜ Handed (slices (now (kinds .entry)) (now (addresses .entry)) (now (bytes .entry))) w
         (shifted at (record-steps (now (name .entry)) (now (content .entry))))

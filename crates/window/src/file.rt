@@ -17,6 +17,7 @@ ghost use Rattle.spec.specs.Step.{shifted};
 ghost use Rattle.spec.specs.Write.{record-steps, migrate-steps, delete-steps, put-steps};
 ghost use Rattle.writing.specs.Old.{old-entry, Lies};
 ghost use Rattle.writing.specs.Put.{marks, Ready};
+ghost use Rattle.record.specs.Within.{Name-length};
 ghost use Rattle.window.specs.Handed.{slices, Handed, Counts};
 
 // The old file's status FC to F8, if it is FC.
@@ -96,7 +97,7 @@ fn hand_new(
     content: &[u8],
     w: Window,
 ) -> Window
-    requires { ⌜ Lies old (2 ^ 24) × (at ≤ 2 ^ 24) × (length (now name) ≤ 63) × (length (now content) ≤ 2 ^ 24) ⌝ }
+    requires { ⌜ Lies old (2 ^ 24) × (at ≤ 2 ^ 24) × Name-length (length (now name)) × (length (now content) ≤ 2 ^ 24) ⌝ }
     requires { ⌜ Counts w (length (now name) + length (now content) + 11) ⌝ }
     ensures { λ r. ⌜ Handed (slices (now (kinds .entry)) (now (addresses .entry)) (now (bytes .entry))) w
         (shifted at (record-steps (now (name .entry)) (now (content .entry))) ++ delete-steps (old-entry old))
