@@ -82,7 +82,7 @@ fn gather_file(
     let s = name.signature;
     let o = seen_or(name.hash == wanted, f, e);
     let m = repeats_signed(image, start, t.records, table, n, e, s);
-    let u = noted_plain(t, e, t.files + 1, both(t.fine, name.fine), next.pending);
+    let u = noted_plain(t, e, true, both(t.fine, name.fine), next.pending);
     Gathered {
         cursor: next,
         tally: u,
@@ -117,7 +117,7 @@ fn gather_plain(
             let t = g.tally;
             let n = g.repeats;
             let f = g.sight;
-            let u = noted_plain(t, e, t.files, t.fine, next.pending);
+            let u = noted_plain(t, e, false, t.fine, next.pending);
             g = Gathered {
                 cursor: next,
                 tally: u,

@@ -1,5 +1,6 @@
 -- gather_file: the name is noted by its marks, the record as one behind the second.
 use mathlib.Core.Path.{refl}
+use Rattle.reading.specs.Tally.{addable-size}
 use Rattle.reading.specs.Gather.{gathering-file}
 use borrow.Author.Needs.{needs}
 use native.Mathlib.Omega.{arith}
@@ -15,28 +16,23 @@ seen-or-requires c κs = search needs
 repeats-signed-requires : tie.Need-repeats-signed-requires
 repeats-signed-requires c κs = search needs
 
-add-noted-plain : tie.Need-add-noted-plain
-add-noted-plain c =
-    let p = c .before .before .before .before .before .before .before .before .before .before .before .pre in
-    let w = p .1 .state .passing in
-    omega (arith, w .few, w .files, p .0 .inside, p .0 .room, p .0 .small)
-
 both-requires : tie.Need-both-requires
 both-requires c κs = search needs
 
 noted-plain-requires : tie.Need-noted-plain-requires
 noted-plain-requires c κs =
-    let p = c .before .before .before .before .before .before .before .before .before .before .before .before .pre in
-    omega (arith, p .1 .state .passing .few, p .0 .inside, p .0 .room, p .0 .small)
+    let p = c .before .before .before .before .before .before .before .before .before .before .before .pre in
+    let w = p .1 .state .passing in
+    (omega (arith, w .few, p .0 .inside, p .0 .room, p .0 .small), w .files, addable-size (p .0) w (p .1 .passes))
 
 returns : tie.Need-returns
 returns c =
-    let c3 = c .before .before .before in let c5 = c3 .before .before in let c8 = c5 .before .before .before in
-    let p = c8 .before .before .before .before .before .pre in
-    let m = c8 .marks-of .ensures in
+    let c2 = c .before .before in let c4 = c2 .before .before in let c7 = c4 .before .before .before in
+    let p = c7 .before .before .before .before .before .pre in
+    let m = c7 .marks-of .ensures in
     let g =
     gathering-file (p .1) (p .2 .two) (p .2 .unmarked) (p .2 .file) (c .noted-plain .ensures) (c .before .both .ensures) (m .fine)
-    (c3 .repeats-signed .ensures) (rw (m .hash) at (c5 .seen-or .ensures)) in
+    (c2 .repeats-signed .ensures) (rw (m .hash) at (c4 .seen-or .ensures)) in
     (g .0, refl, g .1)
 
 pub gather-file-spec : {M : Type 1} → statement M
@@ -46,7 +42,6 @@ gather-file-spec =
     marks-of-requires
     seen-or-requires
     repeats-signed-requires
-    add-noted-plain
     both-requires
     noted-plain-requires
     returns)

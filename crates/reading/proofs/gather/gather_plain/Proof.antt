@@ -2,6 +2,7 @@
 use Prim.Native.Nat.{_≤_}
 use Rattle.laws.specs.Flag.{flag}
 use Rattle.reading.specs.Cursor.{Cursor-sound, left}
+use Rattle.reading.specs.Tally.{addable-size}
 use Rattle.reading.specs.Gather.{Gathering, gathering-dead}
 use borrow.Author.Needs.{needs}
 use native.Mathlib.Omega.{arith}
@@ -64,8 +65,11 @@ loop-again c =
 
 noted-plain-requires : tie.Need-noted-plain-requires Inv-loop μ-loop
 noted-plain-requires c κs =
-    let inv = c .before .before .before .before .before .before .before .before .before .before .loop .inv in
-    omega (arith, inv .1 .passing .few, inv .0 .inside, inv .0 .room, inv .0 .small)
+    let c6 = c .before .before .before .before .before .before in let c8 = c6 .before .before in
+    let inv = c8 .before .before .loop .inv in
+    let w = inv .1 .passing in
+    let t = (rw (c6 .s .given .1) at (c8 .near .ensures)) .0 in
+    (omega (arith, w .few, inv .0 .inside, inv .0 .room, inv .0 .small), w .files, addable-size (inv .0) w t)
 
 loop-less-2 : tie.Need-loop-less-2 Inv-loop μ-loop
 loop-less-2 c =
