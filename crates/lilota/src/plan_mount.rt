@@ -49,17 +49,17 @@ fn refused_mount(x: Refusal) -> PlannedMount
     }
 }
 
-// The plan on an image that was read.
+// The plan on an image that was read; idle: there is no step to do.
 fn plan_mount_from(
     image: &[u8],
     s: Survey,
-    settled: bool,
+    idle: bool,
     first: usize,
     kinds: &mut [u32],
     addresses: &mut [u32],
     bytes: &mut [u32],
 ) -> PlannedMount
-    requires { ⌜ Accepted (now image) s × Legal (now image) s × (settled ≡ settled (now image) (reading-of (now image) s)) ⌝ }
+    requires { ⌜ Accepted (now image) s × Legal (now image) s × (idle ≡ settled (now image) (reading-of (now image) s)) ⌝ }
     ensures { λ r. ⌜ (handing (mounted (r .answer)) (r .handed) (slices (now (kinds .exit)) (now (addresses .exit)) (now (bytes .exit)))
         ≡ hand-out (mount-of (now (image .entry)) (reading-of (now (image .entry)) s)) first
         (slices (now (kinds .entry)) (now (addresses .entry)) (now (bytes .entry))))
@@ -67,7 +67,7 @@ fn plan_mount_from(
 {
     let slots = shortest(kinds.len(), addresses.len(), bytes.len());
     let report = planned_report(image, s);
-    let space = mount_space(image, s, settled);
+    let space = mount_space(image, s, idle);
     let w = hand_mend(kinds, addresses, bytes, image, s, Window::from(first));
     planned_mount(report, space, w, slots)
 }

@@ -1,6 +1,7 @@
 -- Request K3 in the code's steps: the four numbers from live bytes, a place and a wall.
 use Prim.Native.Nat.{ℕ, _+_, _-_, _≤_, _<_, _^_}
 use native.Mathlib.Omega.{arith}
+use native.Mathlib.Nat.{zero-add}
 use mathlib.Core.Path.{_≡_, refl, sym, ap, ap₂, subst, _∙_}
 use mathlib.Core.Bool.{Bool, true, false}
 use mathlib.Core.Option.{Option, none, some}
@@ -11,7 +12,7 @@ use borrow.Author.Tests.{eq-eqb, ne-eqb, lt-ltb, le-ltb}
 use Rattle.spec.specs.declared.Place.{Place}
 use Rattle.spec.specs.declared.Space.{Space}
 use Rattle.spec.specs.Step.{Image}
-use Rattle.spec.specs.Basics.{Each}
+use Rattle.spec.specs.Basics.{Each, keep}
 use Rattle.spec.specs.Geometry.{floor}
 use Rattle.spec.specs.Record.{Entry, size-of}
 use Rattle.spec.specs.Reading.{marked}
@@ -28,6 +29,7 @@ use Rattle.reading.specs.declared.Survey.{Survey}
 use Rattle.reading.specs.declared.Tally.{Tally}
 use Rattle.reading.specs.declared.Read.{Read}
 use Rattle.reading.specs.Rest.{entry-of}
+use Rattle.reading.specs.FileLaws.{is-file}
 use Rattle.reading.specs.Sums.{sizes-most}
 use Rattle.reading.specs.Read.{first-cursor, reading-of, Surveyed, Quiet}
 use Rattle.reading.specs.Tally.{none-yet, tally, tally-sums}
@@ -127,7 +129,7 @@ module _ {im : Image} {s : Survey} (w : Countable im s) where
   pub live-is-counted : Quiet im (Read.Good s) → s .tally .sums .files ≡ live-bytes entries
   live-is-counted q =
       ap (λ (t : Tally). t .sums .files) (w .surveyed .tallied .same) ∙ tally-file-sizes none-yet entries
-      ∙ ap sizes (sym (files-are entries q))
+      ∙ zero-add (sizes (keep is-file entries)) ∙ ap sizes (sym (files-are entries q))
 
 -- ---- mount
 

@@ -139,12 +139,12 @@ pub fn count(image: &[u8], s: Survey) -> Count
     }
 }
 
-// The same where a file may be superseded, unless the image is settled.
-fn count_any(image: &[u8], s: Survey, settled: bool) -> Count
-    requires { ⌜ Countable (now image) s × (settled ≡ settled (now image) (reading-of (now image) s)) ⌝ }
+// The same where a file may be superseded; idle: the image is settled, and none is.
+fn count_any(image: &[u8], s: Survey, idle: bool) -> Count
+    requires { ⌜ Countable (now image) s × (idle ≡ settled (now image) (reading-of (now image) s)) ⌝ }
     ensures { λ r. ⌜ Counted (now (image .entry)) s (r .live) (r .wall) ⌝ }
 {
-    if settled {
+    if idle {
         return count(image, s);
     }
     let p = s.place;
@@ -167,14 +167,14 @@ fn mended_wall(image: &[u8], s: Survey, wall: usize) -> usize
     wall
 }
 
-// Of the image that a mount leaves; settled: it has no step to do.
-pub fn mount_space(image: &[u8], s: Survey, settled: bool) -> Space
-    requires { ⌜ Countable (now image) s × (settled ≡ settled (now image) (reading-of (now image) s)) ⌝ }
+// Of the image that a mount leaves; idle: it has no step to do.
+pub fn mount_space(image: &[u8], s: Survey, idle: bool) -> Space
+    requires { ⌜ Countable (now image) s × (idle ≡ settled (now image) (reading-of (now image) s)) ⌝ }
     ensures { λ r. ⌜ (let v = reading-of (now (image .entry)) s in
         r ≡ space-filled (live-bytes (v .entries)) (behind-place (v .place) (v .entries))
         (mended-wall (length (now (image .entry))) (v .entries) (wall-of v))) ⌝ }
 {
-    let c = count_any(image, s, settled);
+    let c = count_any(image, s, idle);
     let p = mended_place(image, s);
     filled(c.live, p, mended_wall(image, s, c.wall))
 }
