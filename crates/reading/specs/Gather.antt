@@ -96,12 +96,12 @@ module _ {image : List ℕ} {start : Cursor} {wanted : ℕ} where
       same file {fine} q f g =
           q ∙ noted-plain-is t e file fine (c .pending) (w .passes .whole) two plain f g (w .passes .onward .pending)
 
-      pub gathering-file : {ok fine : Bool} {m : Repeats} {f : Sight} {after : List ℕ} → is-file x ≡ true
+      pub gathering-file : {ok fine : Bool} {m : Repeats} {after : List ℕ} → is-file x ≡ true → has-hash wanted x ≡ false
           → u ≡ noted-plain t e true fine (c .pending) → fine ≡ (t .fine && ok) → ok ≡ name-ok (name-of x)
-          → Carried (front-and image start (t .records) e) m after → f ≡ seen-or (has-hash wanted x) (g .sight) e
-          → Gathering image start wanted (record { cursor = c; tally = u; repeats = m; sight = f }) after × (2 ≤ u .records)
+          → Carried (front-and image start (t .records) e) m after
+          → Gathering image start wanted (record { cursor = c; tally = u; repeats = m; sight = g .sight }) after × (2 ≤ u .records)
       unfolding name-fine
-      gathering-file y q a o h b = (gathering-next (same true q (sym y) (rw (name-fine, y, ← o) a)) h (rw y b), more true q)
+      gathering-file y k q a o h = (gathering-next (same true q (sym y) (rw (name-fine, y, ← o) a)) h (rw (y, k)), more true q)
 
       pub gathering-dead : is-file x ≡ false → u ≡ noted-plain t e false (t .fine) (c .pending)
           → Gathering image start wanted (record { cursor = c; tally = u; repeats = g .repeats; sight = g .sight }) table
