@@ -13,10 +13,12 @@ use Rattle.spec.specs.Record.{Entry, size-of}
 use Rattle.spec.specs.Chain.{Reading}
 use Rattle.spec.specs.Files.{has-name, file-named}
 use Rattle.spec.specs.Reading.{reading}
-use Rattle.spec.specs.Door.{accepted, admitted, admitted-named}
+use Rattle.spec.specs.Door.{settled-reading, accepted, admitted, admitted-named}
 use Rattle.spec.specs.Mount.{mended}
 use Rattle.spec.specs.Space.{live-bytes, space-left, put-work, sweep-work}
 use Rattle.laws.specs.Door.{accepted-gives, admitted-gives, named-gives}
+use Rattle.planning.specs.Known.{accepted-known}
+use Rattle.planning.specs.Rested.{settled-rested}
 use Rattle.planning.specs.Planned.{copied-place}
 use Rattle.planning.specs.Told.{behind-place}
 use Rattle.planning.specs.PutCounts.{replaced-bytes}
@@ -31,6 +33,7 @@ use Rattle.reading.specs.RuleLaws.{count-is}
 use Rattle.reading.specs.Room.{room-in}
 use Rattle.reading.specs.Read.{reading-of, judged-as}
 use Rattle.reading.specs.Accepted.{Accepted, Settled}
+use Rattle.planner.specs.Space.{Countable}
 
 -- the survey is the reading of an image of a good length
 pub record Legal (image : Image) (s : Survey) : Type 0 where
@@ -42,6 +45,20 @@ pub legal-given : (image : Image) (j : Judged) {x : Judgement} → judged-as ima
 legal-given image j e q =
     let p = accepted-gives image (reading-of image (j .survey)) (sym (sym (ap (judged-as image) q) ∙ e)) in
     record { sized = p .0; read = p .1 }
+
+-- what such a reading counts by
+pub countable-legal : {image : Image} {s : Survey} → Accepted image s → Legal image s → Countable image s
+countable-legal {image} {s} w l = record { surveyed = w .surveyed; reads = accepted-known image (reading-of image s) (l .read) .reads }
+
+countable-settled : {image : Image} {s : Survey} → Accepted image s → settled-reading image ≡ give (reading-of image s) → Countable image s
+countable-settled {image} {s} w e = record { surveyed = w .surveyed; reads = settled-rested image (reading-of image s) e .reads }
+
+pub countable-named : {image : Image} {s : Survey} (name : List ℕ) → Accepted image s
+    → give (reading-of image s) ≡ admitted-named name image → Countable image s
+countable-named {image} {s} name w d = countable-settled w (named-gives image (reading-of image s) name (sym d) .2)
+
+pub countable-admitted : {image : Image} {s : Survey} → Accepted image s → give (reading-of image s) ≡ admitted image → Countable image s
+countable-admitted {image} {s} w d = countable-settled w (admitted-gives image (reading-of image s) (sym d) .1)
 
 module _ (image : Image) (s : Survey) (x : Space) where
   abbrev r : Reading

@@ -77,7 +77,7 @@ fn mount_from(image: &mut [u8], j: Judged, allowance: usize) -> Mounted
         × Mounted-told r ⌝ }
 {
     let s = j.survey;
-    let space = mount_space(image, s);
+    let space = mount_space(image, s, j.settled);
     if j.settled {
         return unchanged(s, space);
     }

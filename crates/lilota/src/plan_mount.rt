@@ -17,6 +17,7 @@ ghost use Prim.Native.Nat.{_-_, min};
 ghost use Rattle.spec.specs.Answers.{mount-of};
 ghost use Rattle.spec.specs.Planner.{Writing, hand-out, planned};
 ghost use Rattle.reading.specs.Read.{reading-of};
+ghost use Rattle.spec.specs.Mount.{settled};
 ghost use Rattle.reading.specs.Accepted.{Accepted};
 ghost use Rattle.window.specs.Handed.{slices};
 ghost use Rattle.lilota.specs.declared.Mounted.{Mounted};
@@ -48,16 +49,17 @@ fn refused_mount(x: Refusal) -> PlannedMount
     }
 }
 
-// The plan on an image that was read.
+// The plan on an image that was read; idle: there is no step to do.
 fn plan_mount_from(
     image: &[u8],
     s: Survey,
+    idle: bool,
     first: usize,
     kinds: &mut [u32],
     addresses: &mut [u32],
     bytes: &mut [u32],
 ) -> PlannedMount
-    requires { ⌜ Accepted (now image) s × Legal (now image) s ⌝ }
+    requires { ⌜ Accepted (now image) s × Legal (now image) s × (idle ≡ settled (now image) (reading-of (now image) s)) ⌝ }
     ensures { λ r. ⌜ (handing (mounted (r .answer)) (r .handed) (slices (now (kinds .exit)) (now (addresses .exit)) (now (bytes .exit)))
         ≡ hand-out (mount-of (now (image .entry)) (reading-of (now (image .entry)) s)) first
         (slices (now (kinds .entry)) (now (addresses .entry)) (now (bytes .entry))))
@@ -65,7 +67,7 @@ fn plan_mount_from(
 {
     let slots = shortest(kinds.len(), addresses.len(), bytes.len());
     let report = planned_report(image, s);
-    let space = mount_space(image, s);
+    let space = mount_space(image, s, idle);
     let w = hand_mend(kinds, addresses, bytes, image, s, Window::from(first));
     planned_mount(report, space, w, slots)
 }
@@ -85,7 +87,7 @@ pub fn plan_mount(
 {
     let x = accepted(image);
     match x {
-        Judgement::Good(j) => plan_mount_from(image, j.survey, first, kinds, addresses, bytes),
+        Judgement::Good(j) => plan_mount_from(image, j.survey, j.settled, first, kinds, addresses, bytes),
         Judgement::Refused(y) => refused_mount(y),
     }
 }

@@ -76,7 +76,7 @@ fn plan_put_from(
         × Stored-told (r .answer) ⌝ }
 {
     if has_room(image, s, name, content.len()) {
-        let space = put_space(image, s, name, content.len());
+        let space = put_space(image, s, f, name, content.len());
         let slots = shortest(kinds.len(), addresses.len(), bytes.len());
         let w = plan_replace(
             image,

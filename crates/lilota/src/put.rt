@@ -75,7 +75,7 @@ fn put_from(
         × Stored-told r ⌝ }
 {
     if has_room(image, s, name, content.len()) {
-        let space = put_space(image, s, name, content.len());
+        let space = put_space(image, s, f, name, content.len());
         let m = Meter {
             allowance: allowance,
             asked: 0,

@@ -1,6 +1,7 @@
 -- Request K3 in the code's steps: the four numbers from live bytes, a place and a wall.
 use Prim.Native.Nat.{ℕ, _+_, _-_, _≤_, _<_, _^_}
 use native.Mathlib.Omega.{arith}
+use native.Mathlib.Nat.{zero-add}
 use mathlib.Core.Path.{_≡_, refl, sym, ap, ap₂, subst, _∙_}
 use mathlib.Core.Bool.{Bool, true, false}
 use mathlib.Core.Option.{Option, none, some}
@@ -11,25 +12,30 @@ use borrow.Author.Tests.{eq-eqb, ne-eqb, lt-ltb, le-ltb}
 use Rattle.spec.specs.declared.Place.{Place}
 use Rattle.spec.specs.declared.Space.{Space}
 use Rattle.spec.specs.Step.{Image}
-use Rattle.spec.specs.Basics.{Each}
+use Rattle.spec.specs.Basics.{Each, keep}
 use Rattle.spec.specs.Geometry.{floor}
 use Rattle.spec.specs.Record.{Entry, size-of}
 use Rattle.spec.specs.Reading.{marked}
 use Rattle.spec.specs.Place.{with-marker, place-after}
-use Rattle.spec.specs.Space.{live-bytes, free-bytes, lost-bytes, behind-marker}
+use Rattle.spec.specs.Space.{sizes, live-bytes, free-bytes, lost-bytes, behind-marker}
 use Rattle.laws.specs.Settled.{second-marked}
 use Rattle.planning.specs.Planned.{come-round, copied-place, led-place}
 use Rattle.planning.specs.Told.{behind-place}
 use Rattle.planning.specs.Places.{round-keeps, led-head, led-length}
+use Rattle.planning.specs.Reads.{Reads}
 use Rattle.planning.specs.Space.{marker-at}
-use Rattle.planning.specs.Walls.{first-wall, put-wall, led-wall, mended-wall, wall-of, space-filled}
+use Rattle.planning.specs.Walls.{first-wall, put-wall, led-wall, mended-wall, wall-of, wall-counted, space-filled}
 use Rattle.reading.specs.declared.Survey.{Survey}
 use Rattle.reading.specs.declared.Tally.{Tally}
+use Rattle.reading.specs.declared.Read.{Read}
 use Rattle.reading.specs.Rest.{entry-of}
-use Rattle.reading.specs.Read.{first-cursor, reading-of, Surveyed}
-use Rattle.reading.specs.Tally.{none-yet, tally}
+use Rattle.reading.specs.FileLaws.{is-file}
+use Rattle.reading.specs.Sums.{sizes-most}
+use Rattle.reading.specs.Read.{first-cursor, reading-of, Surveyed, Quiet}
+use Rattle.reading.specs.Tally.{none-yet, tally, tally-sums}
 use Rattle.reading.specs.Faithful.{Stands, faithful}
-use Rattle.reading.specs.TallyLaws.{second-is}
+use Rattle.reading.specs.TallyLaws.{second-is, tally-file-sizes}
+use Rattle.reading.specs.NamesLaw.{files-are}
 use Rattle.planner.specs.Moves.{copied-is}
 use Rattle.planner.specs.Mount.{place-led, place-stays}
 
@@ -90,11 +96,40 @@ module _ (N y wall : ℕ) where
   unfolding led-wall
   led-high h = rw (led-wall, ne-eqb y 0 h)
 
+-- what is counted is a reading that is not broken
+pub record Countable (image : Image) (s : Survey) : Type 0 where
+  pub surveyed : Surveyed image s
+  pub reads : Reads image (s .place .head) (reading-of image s)
+
 -- what was counted in the first reading
 pub record Counted (image : Image) (s : Survey) (live wall : ℕ) : Type 0 where
   pub live-is : live ≡ live-bytes (reading-of image s .entries)
   pub wall-is : wall ≡ wall-of (reading-of image s)
   pub few : live ≤ 2 ^ 25
+
+module _ {im : Image} {s : Survey} (w : Countable im s) where
+  abbrev entries : List Entry
+  entries = reading-of im s .entries
+
+  -- the tally has the sizes of all records
+  pub all-sizes : s .tally .sums .files + s .tally .sums .others ≡ sizes entries
+  all-sizes =
+      ap (λ (t : Tally). t .sums .files + t .sums .others) (w .surveyed .tallied .same) ∙ tally-sums none-yet entries ∙ omega arith
+
+  pub all-few : s .tally .sums .files + s .tally .sums .others ≤ 2 ^ 25
+  all-few =
+      let p = w .surveyed .place in
+      omega (arith, all-sizes, sizes-most im (first-cursor im (s .place .head)) (w .surveyed .tallied .sound), p .head, p .small)
+
+  pub wall-is-counted : {u wall : ℕ} → u ≡ (s .tally .sums .files + s .tally .sums .others) - s .place .tail → wall ≡ first-wall (s .place) u
+      → wall ≡ wall-of (reading-of im s)
+  wall-is-counted e f = f ∙ ap (first-wall (s .place)) e ∙ wall-counted _ (w .reads) all-sizes
+
+  -- where no file is superseded, those of the files are the live bytes
+  pub live-is-counted : Quiet im (Read.Good s) → s .tally .sums .files ≡ live-bytes entries
+  live-is-counted q =
+      ap (λ (t : Tally). t .sums .files) (w .surveyed .tallied .same) ∙ tally-file-sizes none-yet entries
+      ∙ zero-add (sizes (keep is-file entries)) ∙ ap sizes (sym (files-are entries q))
 
 -- ---- mount
 

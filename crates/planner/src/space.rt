@@ -7,9 +7,8 @@ use crate::superseded::leads;
 use reading::Found;
 use reading::Spot;
 use reading::Survey;
-use reading::files::file_named;
 use reading::image::first_cursor;
-use reading::space::sums;
+use reading::space::live_bytes;
 use record::size;
 use record::up_8;
 use spec::Place;
@@ -25,15 +24,19 @@ ghost use Rattle.spec.specs.Record.{size-of};
 ghost use Rattle.spec.specs.Files.{has-name};
 ghost use Rattle.spec.specs.Place.{fits};
 ghost use Rattle.spec.specs.Placed.{Place-sound};
+ghost use Rattle.spec.specs.Mount.{settled};
 ghost use Rattle.spec.specs.Space.{live-bytes, free-bytes, lost-bytes};
+ghost use Rattle.laws.specs.Length.{In-range};
 ghost use Rattle.planning.specs.Planned.{copied-place};
 ghost use Rattle.planning.specs.Told.{behind-place};
 ghost use Rattle.planning.specs.Space.{marker-at};
 ghost use Rattle.planning.specs.PutCounts.{replaced-bytes};
 ghost use Rattle.planning.specs.Walls.{first-wall, put-wall, led-wall, mended-wall, wall-of, space-filled};
 ghost use Rattle.reading.specs.FileLaws.{is-file};
-ghost use Rattle.reading.specs.Read.{reading-of, Surveyed};
-ghost use Rattle.planner.specs.Space.{Small, Counted};
+ghost use Rattle.reading.specs.declared.Read.{Read};
+ghost use Rattle.reading.specs.Seek.{found-in, Found-whole};
+ghost use Rattle.reading.specs.Read.{reading-of, Surveyed, Quiet, File-told};
+ghost use Rattle.planner.specs.Space.{Small, Countable, Counted};
 
 // The bytes from a up to b; none if b lies before a.
 fn gap(a: usize, b: usize) -> usize
@@ -112,16 +115,42 @@ pub fn put_wall(marker: bool, tail: usize, wall: usize) -> usize
     wall
 }
 
-// The live bytes of what was read, and its wall.
-pub fn count(image: &[u8], s: Survey) -> Count
-    requires { ⌜ Surveyed (now image) s ⌝ }
-    ensures { λ r. ⌜ Counted (now (image .entry)) s (r .live) (r .wall) ⌝ }
+// The wall of what was read. Behind the turn the records end at the tail; all others stand before it.
+fn wall_of(image: &[u8], s: Survey) -> usize
+    requires { ⌜ Countable (now image) s ⌝ }
+    ensures { λ r. ⌜ r ≡ wall-of (reading-of (now (image .entry)) s) ⌝ }
 {
     let p = s.place;
-    let c = sums(image, first_cursor(image, p.head), p.head);
+    let t = s.tally;
+    let c = t.sums;
+    first_wall(p, gap(p.tail, c.files + c.others))
+}
+
+// The live bytes of what was read, where no file is superseded, and its wall.
+pub fn count(image: &[u8], s: Survey) -> Count
+    requires { ⌜ Countable (now image) s × Quiet (now image) (Read.Good s) ⌝ }
+    ensures { λ r. ⌜ Counted (now (image .entry)) s (r .live) (r .wall) ⌝ }
+{
+    let t = s.tally;
+    let c = t.sums;
     Count {
-        live: c.live,
-        wall: first_wall(p, c.upper),
+        live: c.files,
+        wall: wall_of(image, s),
+    }
+}
+
+// The same where a file may be superseded; idle: the image is settled, and none is.
+fn count_any(image: &[u8], s: Survey, idle: bool) -> Count
+    requires { ⌜ Countable (now image) s × (idle ≡ settled (now image) (reading-of (now image) s)) ⌝ }
+    ensures { λ r. ⌜ Counted (now (image .entry)) s (r .live) (r .wall) ⌝ }
+{
+    if idle {
+        return count(image, s);
+    }
+    let p = s.place;
+    Count {
+        live: live_bytes(image, first_cursor(image, p.head)),
+        wall: wall_of(image, s),
     }
 }
 
@@ -138,14 +167,14 @@ fn mended_wall(image: &[u8], s: Survey, wall: usize) -> usize
     wall
 }
 
-// Of the image that a mount leaves.
-pub fn mount_space(image: &[u8], s: Survey) -> Space
-    requires { ⌜ Surveyed (now image) s ⌝ }
+// Of the image that a mount leaves; idle: it has no step to do.
+pub fn mount_space(image: &[u8], s: Survey, idle: bool) -> Space
+    requires { ⌜ Countable (now image) s × (idle ≡ settled (now image) (reading-of (now image) s)) ⌝ }
     ensures { λ r. ⌜ (let v = reading-of (now (image .entry)) s in
         r ≡ space-filled (live-bytes (v .entries)) (behind-place (v .place) (v .entries))
         (mended-wall (length (now (image .entry))) (v .entries) (wall-of v))) ⌝ }
 {
-    let c = count(image, s);
+    let c = count_any(image, s, idle);
     let p = mended_place(image, s);
     filled(c.live, p, mended_wall(image, s, c.wall))
 }
@@ -158,24 +187,21 @@ fn spot_size(e: Spot) -> usize
     8 + up_8(e.n + 1) + up_8(e.d)
 }
 
-// The size of the file that a put of this name replaces.
-fn replaced(image: &[u8], s: Survey, name: &[u8]) -> usize
-    requires { ⌜ Surveyed (now image) s ⌝ }
-    ensures { λ r. ⌜ r
-        ≡ replaced-bytes (first-such (has-name (now (name .entry))) (keep is-file (reading-of (now (image .entry)) s .entries))) ⌝ }
+// The size of the file that a put of its name replaces, if there is one.
+fn replaced(image: &[u8], f: Found) -> usize
+    requires { ⌜ Found-whole (now image) f × In-range (length (now image)) ⌝ }
+    ensures { λ r. ⌜ r ≡ replaced-bytes (found-in (now (image .entry)) f) ⌝ }
 {
-    let p = s.place;
-    let f = file_named(image, first_cursor(image, p.head), name);
     let Found::At(e) = f else {
         return 0;
     };
     spot_size(e)
 }
 
-// Of the image that a put of this name and of d data bytes leaves, where there is room.
-pub fn put_space(image: &[u8], s: Survey, name: &[u8], d: usize) -> Space
-    requires { ⌜ Surveyed (now image) s × Place-sound (s .place) × (length (now name) ≤ 64)
-        × (fits (s .place) (size-of (length (now name)) d) ≡ true) ⌝ }
+// Of the image that a put of this name and of d data bytes leaves, where there is room; f is the file of the name.
+pub fn put_space(image: &[u8], s: Survey, f: Found, name: &[u8], d: usize) -> Space
+    requires { ⌜ Countable (now image) s × Place-sound (s .place) × (length (now name) ≤ 64)
+        × (fits (s .place) (size-of (length (now name)) d) ≡ true) × Quiet (now image) (Read.Good s) × File-told (now image) (now name) s f ⌝ }
     ensures { λ r. ⌜ (let v = reading-of (now (image .entry)) s in let z = size-of (length (now (name .entry))) d in
         r ≡ space-filled ((live-bytes (v .entries) + z)
         - replaced-bytes (first-such (has-name (now (name .entry))) (keep is-file (v .entries)))) (copied-place (v .place) z)
@@ -183,7 +209,7 @@ pub fn put_space(image: &[u8], s: Survey, name: &[u8], d: usize) -> Space
 {
     let place = s.place;
     let c = count(image, s);
-    let old = replaced(image, s, name);
+    let old = replaced(image, f);
     let z = size(name.len(), d);
     let Placed::At {
         marker,

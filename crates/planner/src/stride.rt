@@ -33,7 +33,9 @@ ghost use Rattle.planning.specs.Strides.{stand, strode};
 ghost use Rattle.reading.specs.Cursor.{Cursor-sound};
 ghost use Rattle.reading.specs.Rest.{rest};
 ghost use Rattle.reading.specs.Fold.{Whole};
-ghost use Rattle.reading.specs.Read.{reading-of, Surveyed};
+ghost use Rattle.reading.specs.declared.Read.{Read};
+ghost use Rattle.reading.specs.Read.{reading-of, Quiet};
+ghost use Rattle.planner.specs.Space.{Countable};
 ghost use Rattle.planner.specs.Moves.{Below, Walkable, Known};
 ghost use Rattle.planner.specs.Strides.{Over-strode, Live-strode, Strode-on};
 
@@ -141,7 +143,7 @@ fn strides(image: &[u8], start: Cursor, place: Place, wall: usize, most: usize) 
 
 // Of the image that a sweep of at most so many moves leaves.
 pub fn sweep_space(image: &[u8], s: Survey, most: usize) -> Space
-    requires { ⌜ Surveyed (now image) s × Walkable (length (now image)) (s .place) ⌝ }
+    requires { ⌜ Countable (now image) s × Walkable (length (now image)) (s .place) × Quiet (now image) (Read.Good s) ⌝ }
     ensures { λ r. ⌜ (let v = reading-of (now (image .entry)) s in
         let q = strode most (v .entries) (v .place) (wall-of v) (v .entries) none in
         r ≡ space-filled (live-bytes (v .entries)) (q .place) (q .wall)) ⌝ }

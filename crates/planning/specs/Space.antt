@@ -23,6 +23,7 @@ use Rattle.spec.specs.Files.{live, files}
 use Rattle.spec.specs.declared.Space.{Space}
 use Rattle.spec.specs.Space.{sizes, live-bytes, others, marker-of, marker-bytes, dead-bytes, free-bytes, behind-marker, lost-bytes}
 use Rattle.spec.specs.Space.{space-by, space-of}
+use Rattle.laws.specs.Tests.{wrong}
 use Rattle.laws.specs.Lists.{keep-yes, keep-no}
 use Rattle.laws.specs.Fits.{Fits, allowed-fits}
 use Rattle.planning.specs.Row.{stretch-length, Row, row-none, row-more, row-end}
@@ -84,6 +85,19 @@ module _ {im : Image} {lim : ℕ} (h : ℕ) where
   row-lower l row-none = refl
   row-lower l (row-more {es = es} e q w r) =
       ap sizes (keep-no (λ e. leb h (e .at)) e es (lt-leb h (e .at) (omega (arith, row-le r)))) ∙ row-lower l r
+
+-- the records below the head end at the tail; the others stand before the turn
+pub turned-upper : {im : Image} {h : ℕ} {r : Reading} → Reads im h r → r .place .turned ≡ true
+    → sizes (upper h (r .entries)) + r .place .tail ≡ sizes (r .entries)
+turned-upper (reads-here row s m e) t = wrong (sym (ap (λ (z : Reading). z .place .turned) e) ∙ t)
+turned-upper {h = h} (reads-round {es = es} {fs = fs} row s m n rows u v e) t =
+    let low = row-end (omega arith) rows in
+    rw e
+    (omega (arith, row-upper h fs (omega arith) row, row-lower h (omega (arith, low .1)) rows, sizes-both es fs, row-sizes rows))
+turned-upper {h = h} (reads-torn {es = es} row s n e) t =
+    let all : sizes (upper h es) ≡ sizes es =
+    ap (λ (l : List Entry). sizes (upper h l)) (sym (append-nil es)) ∙ row-upper h [] (omega arith) row ∙ omega arith in
+    rw e (omega (arith, all))
 
 -- ---- the two forms without a torn wrap
 

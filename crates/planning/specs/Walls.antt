@@ -32,7 +32,8 @@ use Rattle.planning.specs.Rested.{settled-rested}
 use Rattle.planning.specs.First.{reads-head}
 use Rattle.planning.specs.Places.{copied-head, led-length}
 use Rattle.planning.specs.Puts.{put-left, room-fits}
-use Rattle.planning.specs.Space.{total, upper, marker-at, marker-told}
+use Rattle.planning.specs.Reads.{Reads}
+use Rattle.planning.specs.Space.{total, upper, turned-upper, marker-at, marker-told}
 use Rattle.planning.specs.Spaces.{space-read, Leaves, mount-leaves, put-leaves}
 use Rattle.planning.specs.MountCounts.{mount-live}
 use Rattle.planning.specs.Markers.{put-marker, marker-end, told-turned, told-straight, put-marked}
@@ -63,6 +64,23 @@ mended-wall N (x ∷ (y ∷ es)) wall = elim (marked y) [ true ↦ led-wall N (y
 -- of what was read first
 abbrev pub wall-of : Reading → ℕ
 wall-of r = first-wall (r .place) (sizes (upper (r .place .head) (r .entries)))
+
+-- by the sizes of all records: those below the head end at the tail
+pub wall-counted : {im : Image} {r : Reading} (all : ℕ) → Reads im (r .place .head) r → all ≡ sizes (r .entries)
+    → first-wall (r .place) (all - r .place .tail) ≡ wall-of r
+unfolding first-wall
+wall-counted {im} {r} all w e = go (r .place .turned) refl where
+  p : Place
+  p = r .place
+
+  u : ℕ
+  u = sizes (upper (p .head) (r .entries))
+
+  go : (t : Bool) → p .turned ≡ t
+      → _≡_ {A = ℕ} (elim t [ true ↦ p .head + (all - p .tail) | false ↦ p .length ])
+      (elim t [ true ↦ p .head + u | false ↦ p .length ])
+  go true q = ap (λ (k : ℕ). p .head + k) (omega (arith, e, turned-upper w q))
+  go false q = refl
 
 -- ---- each tells its marker
 

@@ -15,7 +15,7 @@ use Rattle.reading.specs.declared.Sight.{Sight}
 use Rattle.reading.specs.Cursor.{Cursor-sound, advance}
 use Rattle.reading.specs.Rest.{rest, entry-of}
 use Rattle.reading.specs.Fold.{Passes, Not-record}
-use Rattle.reading.specs.Tally.{none-yet, name-fine, count-with, noted, noted-plain, noted-plain-is, noted-records}
+use Rattle.reading.specs.Tally.{none-yet, name-fine, noted, noted-plain, noted-plain-is, noted-records}
 use Rattle.reading.specs.Tally.{Passing, passing-start, passing-step}
 use Rattle.reading.specs.TallyLaws.{and-true}
 use Rattle.spec.specs.Record.{Entry, name-of, name-ok}
@@ -88,26 +88,25 @@ module _ {image : List ℕ} {start : Cursor} {wanted : ℕ} where
 
     -- a plain one behind the second, a file or not
     module _ {u : Tally} (two : 2 ≤ t .records) (plain : marked x ≡ false) where
-      more : {fine : Bool} {files : ℕ} → u ≡ noted-plain t e files fine (c .pending) → 2 ≤ u .records
-      more q = rw q (omega arith)
+      more : (file : Bool) {fine : Bool} → u ≡ noted-plain t e file fine (c .pending) → 2 ≤ u .records
+      more file q = rw q (omega arith)
 
-      same : {fine : Bool} {files : ℕ} → u ≡ noted-plain t e files fine (c .pending)
-          → files ≡ count-with (t .files) (is-file x)
-          → fine ≡ (t .fine && name-fine x) → u ≡ noted t x
-      same {fine} {files} q f g =
-          q ∙ noted-plain-is t e files fine (c .pending) (w .passes .whole) two plain f g (w .passes .onward .pending)
+      same : (file : Bool) {fine : Bool} → u ≡ noted-plain t e file fine (c .pending) → file ≡ is-file x → fine ≡ (t .fine && name-fine x)
+          → u ≡ noted t x
+      same file {fine} q f g =
+          q ∙ noted-plain-is t e file fine (c .pending) (w .passes .whole) two plain f g (w .passes .onward .pending)
 
-      pub gathering-file : {ok fine : Bool} {m : Repeats} {f : Sight} {after : List ℕ} → is-file x ≡ true
-          → u ≡ noted-plain t e (t .files + 1) fine (c .pending) → fine ≡ (t .fine && ok) → ok ≡ name-ok (name-of x)
-          → Carried (front-and image start (t .records) e) m after → f ≡ seen-or (has-hash wanted x) (g .sight) e
-          → Gathering image start wanted (record { cursor = c; tally = u; repeats = m; sight = f }) after × (2 ≤ u .records)
+      pub gathering-file : {ok fine : Bool} {m : Repeats} {after : List ℕ} → is-file x ≡ true → has-hash wanted x ≡ false
+          → u ≡ noted-plain t e true fine (c .pending) → fine ≡ (t .fine && ok) → ok ≡ name-ok (name-of x)
+          → Carried (front-and image start (t .records) e) m after
+          → Gathering image start wanted (record { cursor = c; tally = u; repeats = m; sight = g .sight }) after × (2 ≤ u .records)
       unfolding name-fine
-      gathering-file y q a o h b = (gathering-next (same q (rw y) (rw (name-fine, y, ← o) a)) h (rw y b), more q)
+      gathering-file y k q a o h = (gathering-next (same true q (sym y) (rw (name-fine, y, ← o) a)) h (rw (y, k)), more true q)
 
-      pub gathering-dead : is-file x ≡ false → u ≡ noted-plain t e (t .files) (t .fine) (c .pending)
+      pub gathering-dead : is-file x ≡ false → u ≡ noted-plain t e false (t .fine) (c .pending)
           → Gathering image start wanted (record { cursor = c; tally = u; repeats = g .repeats; sight = g .sight }) table
           × (2 ≤ u .records)
       unfolding name-fine
       gathering-dead y q =
-          let n : u ≡ noted t x = same q (rw y) (rw (name-fine, y) (sym (and-true (t .fine)))) in
-          (gathering-next n (carried-same x (w .state .carried) y) (rw y), more q)
+          let n : u ≡ noted t x = same false q (sym y) (rw (name-fine, y) (sym (and-true (t .fine)))) in
+          (gathering-next n (carried-same x (w .state .carried) y) (rw y), more false q)

@@ -14,8 +14,8 @@ use Rattle.reading.specs.declared.Cursor.{Cursor}
 use Rattle.reading.specs.declared.Spot.{Spot}
 use Rattle.reading.specs.declared.Item.{Item}
 use Rattle.reading.specs.Cursor.{advance, left, Cursor-sound}
-use Rattle.reading.specs.Along.{Reached, reached, from-left}
-use Rattle.reading.specs.Rest.{Run, rest, entry-of}
+use Rattle.reading.specs.Along.{Reached, reached, from-left, from-sound, Way, way, along}
+use Rattle.reading.specs.Rest.{Run, followed, rest, rest-step, entry-of}
 use Rattle.reading.specs.Fold.{Whole, name-length-is, content-length-is, Passes, Not-record, Folded, fold-start, fold-end, fold-step}
 
 -- a sum, with a size if it counts
@@ -42,6 +42,29 @@ reached-more r = rw (r .next-is) (omega (arith, r .fits, from-left (r .from)))
 
 pub size-is : {image : List ℕ} {e : Spot} → Whole image e → size (entry-of image e) ≡ size-of (e .n) (e .d)
 size-is {image} {e} w = ap₂ size-of (name-length-is image e w) (content-length-is image e w)
+
+-- all records together are no longer than what is left
+module _ (image : List ℕ) where
+  abbrev Most : Cursor → Type 0
+  Most c = Cursor-sound image c → sizes (rest image c .entries) ≤ left c
+
+  reached-whole : {c : Cursor} {e : Spot} {next : Cursor} → Reached image c e next → Cursor-sound image c → Whole image e
+  reached-whole r s = let d = from-sound (r .from) s in record { fits = omega (arith, r .at, r .fits, d .ordered, d .inside) }
+
+  reached-sound : {c : Cursor} {e : Spot} {next : Cursor} → Reached image c e next → Cursor-sound image c → Cursor-sound image next
+  reached-sound r s =
+      let d = from-sound (r .from) s in
+      rw (r .next-is) record { ordered = omega (arith, r .fits, d .ordered); inside = d .inside; room = d .room; small = d .small }
+
+  pub sizes-most : (c : Cursor) → Most c
+  sizes-most = along image Most (λ c ih s. rw (rest-step image c) (go c s (advance image c) (way image c) ih)) where
+    go : (c : Cursor) → Cursor-sound image c → (r : Item) → Way image c r
+        → ((e : Spot) (next : Cursor) → Reached image c e next → Most next) → sizes (followed image r (rest image) .entries) ≤ left c
+    go c s (Item.Record e next) w ih =
+        omega (arith, size-is (reached-whole w s), ih e next w (reached-sound w s), reached-more w)
+    go c s (Item.End t u) w ih = omega arith
+    go c s (Item.TornWrap t) w ih = omega arith
+    go c s (Item.Broken t u) w ih = omega arith
 
 module _ (p : Entry → Bool) {image : List ℕ} {start c : Cursor} {m : ℕ} (w : Summed p image start c m) where
   pub sum-over : (r : Item) → r ≡ advance image c → Not-record r → m ≡ sizes (keep p (rest image start .entries))

@@ -1,24 +1,27 @@
 -- What one pass over the chain tells, as a fold over its records.
-use Prim.Native.Nat.{ℕ, _+_, _≤_}
+use Prim.Native.Nat.{ℕ, _+_, _≤_, _<_, _^_}
 use native.Mathlib.Omega.{arith}
-use mathlib.Core.Path.{_≡_, refl}
+use mathlib.Core.Path.{_≡_, refl, sym, ap, _∙_}
 use mathlib.Core.Bool.{Bool, true, false, cond, _&&_, _||_}
 use mathlib.Core.List.{List, [], _∷_}
 use lib.ListN.{length}
 use lib.Dec.{eqb, leb, ltb}
 use borrow.Author.Tests.{ne-eqb, lt-leb}
 use Rattle.spec.specs.Bytes.{is-unfinished}
-use Rattle.spec.specs.Record.{Entry, name-of, name-ok}
+use Rattle.spec.specs.Record.{Entry, name-of, name-ok, size, size-of}
+use Rattle.spec.specs.Space.{sizes}
 use Rattle.spec.specs.Reading.{marked}
 use Rattle.reading.specs.declared.Cursor.{Cursor}
 use Rattle.reading.specs.declared.Spot.{Spot}
 use Rattle.reading.specs.declared.Item.{Item}
+use Rattle.reading.specs.declared.Sums.{Sums}
 use Rattle.reading.specs.declared.Tally.{Tally}
 use Rattle.reading.specs.declared.Pass.{Pass}
 use Rattle.reading.specs.Cursor.{Cursor-sound, left, Inside, unfinished-at}
-use Rattle.reading.specs.Rest.{Run, entry-of}
+use Rattle.reading.specs.Rest.{Run, rest, entry-of}
 use Rattle.reading.specs.Fold.{spot-of, spot-is, Whole, Passes, Folded, fold-start, fold-step}
 use Rattle.reading.specs.FileLaws.{is-file}
+use Rattle.reading.specs.Sums.{size-is, sizes-most}
 
 -- an FC or F8 record with a name has a good one
 unfoldable pub name-fine : Entry → Bool
@@ -28,12 +31,32 @@ abbrev pub nowhere : Spot
 nowhere = record { at = 0; n = 0; d = 0 }
 
 abbrev pub none-yet : Tally
-none-yet = record { records = 0; files = 0; first = nowhere; second = nowhere; last = nowhere; fine = true; further = false; pending = false }
+none-yet =
+    record {
+      records = 0;
+      files = 0;
+      sums = record { files = 0; others = 0 };
+      first = nowhere;
+      second = nowhere;
+      last = nowhere;
+      fine = true;
+      further = false;
+      pending = false;
+    }
 
 -- one more, if it is a file
 abbrev pub count-with : ℕ → Bool → ℕ
 count-with k true = k + 1
 count-with k false = k
+
+-- with one record's size more
+abbrev pub sums-with : Sums → ℕ → Bool → Sums
+sums-with s z true = record { files = s .files + z; others = s .others }
+sums-with s z false = record { files = s .files; others = s .others + z }
+
+-- the size of the record at e can be told and added
+abbrev pub Addable-size : Sums → Spot → Type 0
+Addable-size s e = (e .n ≤ 64) × (e .d < 2 ^ 32) × (s .files + s .others + size-of (e .n) (e .d) ≤ 2 ^ 25)
 
 -- with one record more
 unfoldable pub noted : Tally → Entry → Tally
@@ -41,6 +64,7 @@ noted t e =
     record {
       records = t .records + 1;
       files = count-with (t .files) (is-file e);
+      sums = sums-with (t .sums) (size e) (is-file e);
       first = cond (eqb (t .records) 0) (spot-of e) (t .first);
       second = cond (leb (t .records) 1) (spot-of e) (t .second);
       last = spot-of e;
@@ -50,11 +74,12 @@ noted t e =
     }
 
 -- a plain record behind the second leaves the first, the second and the marks as they are
-abbrev pub noted-plain : Tally → Spot → ℕ → Bool → Bool → Tally
-noted-plain t e files fine pending =
+abbrev pub noted-plain : Tally → Spot → Bool → Bool → Bool → Tally
+noted-plain t e file fine pending =
     record {
       records = t .records + 1;
-      files = files;
+      files = count-with (t .files) file;
+      sums = sums-with (t .sums) (size-of (e .n) (e .d)) file;
       first = t .first;
       second = t .second;
       last = e;
@@ -113,6 +138,17 @@ or-none true b = refl
 or-none false true = refl
 or-none false false = refl
 
+-- the sums so far and the sizes of the rest are those of all
+with-all : (s : Sums) (z : ℕ) (b : Bool) → sums-with s z b .files + sums-with s z b .others ≡ s .files + s .others + z
+with-all s z true = omega arith
+with-all s z false = omega arith
+
+pub tally-sums : (t : Tally) (es : List Entry)
+    → tally t es .sums .files + tally t es .sums .others ≡ t .sums .files + t .sums .others + sizes es
+unfolding noted
+tally-sums t [] = omega arith
+tally-sums t (e ∷ es) = let q = tally-sums (noted t e) es in omega (arith, q, with-all (t .sums) (size e) (is-file e))
+
 module _ {image : List ℕ} where
   pub passing-start : {start : Cursor} → Cursor-sound image start → 16 ≤ length image → Passing image start start none-yet
   passing-start {start} s l =
@@ -150,8 +186,9 @@ module _ {image : List ℕ} where
       }
 
   -- the tally as the code makes it
-  pub noted-is : (t : Tally) (e : Spot) (files : ℕ) (one two : Spot) (fine further pending : Bool) → Whole image e
+  pub noted-is : (t : Tally) (e : Spot) (files : ℕ) (sums : Sums) (one two : Spot) (fine further pending : Bool) → Whole image e
       → files ≡ count-with (t .files) (is-file (entry-of image e))
+      → sums ≡ sums-with (t .sums) (size-of (e .n) (e .d)) (is-file (entry-of image e))
       → one ≡ cond (eqb (t .records) 0) e (t .first)
       → two ≡ cond (leb (t .records) 1) e (t .second)
       → fine ≡ (t .fine && name-fine (entry-of image e)) → further ≡ (t .further || (ltb 1 (t .records) && marked (entry-of image e)))
@@ -159,6 +196,7 @@ module _ {image : List ℕ} where
       → record {
         records = t .records + 1;
         files = files;
+        sums = sums;
         first = one;
         second = two;
         last = e;
@@ -167,12 +205,37 @@ module _ {image : List ℕ} where
         pending = pending;
       } ≡ noted t (entry-of image e)
   unfolding noted
-  noted-is t e files one two fine further pending w f a b c d h = rw (f, a, b, c, d, h, spot-is image e w)
+  noted-is t e files sums one two fine further pending w f s a b c d h =
+      let z : sums ≡ sums-with (t .sums) (size (entry-of image e)) (is-file (entry-of image e)) =
+      s ∙ ap (λ (k : ℕ). sums-with (t .sums) k (is-file (entry-of image e))) (sym (size-is w)) in
+      rw (f, z, a, b, c, d, h, spot-is image e w)
 
-  pub noted-plain-is : (t : Tally) (e : Spot) (files : ℕ) (fine pending : Bool) → Whole image e → 2 ≤ t .records
-      → marked (entry-of image e) ≡ false → files ≡ count-with (t .files) (is-file (entry-of image e))
+  pub noted-plain-is : (t : Tally) (e : Spot) (file fine pending : Bool) → Whole image e → 2 ≤ t .records
+      → marked (entry-of image e) ≡ false → file ≡ is-file (entry-of image e)
       → fine ≡ (t .fine && name-fine (entry-of image e)) → pending ≡ unfinished-at image (e .at)
-      → noted-plain t e files fine pending ≡ noted t (entry-of image e)
-  noted-plain-is t e files fine pending w h m f c p =
-      noted-is t e files (t .first) (t .second) fine (t .further) pending w f (rw (ne-eqb (t .records) 0 (λ q. omega arith)))
+      → noted-plain t e file fine pending ≡ noted t (entry-of image e)
+  noted-plain-is t e file fine pending w h m f c p =
+      noted-is t e (count-with (t .files) file) (sums-with (t .sums) (size-of (e .n) (e .d)) file) (t .first) (t .second) fine (t .further)
+      pending w (ap (count-with (t .files)) f) (ap (sums-with (t .sums) (size-of (e .n) (e .d))) f)
+      (rw (ne-eqb (t .records) 0 (λ q. omega arith)))
       (rw (lt-leb (t .records) 1 (omega arith))) c (rw m (or-none (t .further) (ltb 1 (t .records)))) p
+
+  -- so that the record at c has its size among those of all
+  pub addable-size : {start c next : Cursor} {e : Spot} {t : Tally} → Cursor-sound image start → Passing image start c t → Passes image c e next
+      → Addable-size (t .sums) e
+  addable-size {start} {c} {next} {e} {t} s p w =
+      let all = ap (λ (x : Pass). x .tally .sums .files + x .tally .sums .others) (p .fold .same) in
+      let here : sizes (rest image c .entries) ≡ size (entry-of image e) + sizes (rest image next .entries) =
+      ap (λ (r : Run). sizes (r .entries)) (w .split) in
+      (omega (arith, w .onward .name), w .onward .data-len, omega (
+        arith,
+        all,
+        here,
+        tally-sums none-yet (rest image start .entries),
+        tally-sums t (rest image c .entries),
+        sizes-most image start s,
+        size-is (w .whole),
+        s .inside,
+        s .room,
+        s .small,
+      ))

@@ -9,7 +9,8 @@ use lib.ListN.{length}
 use borrow.Author.Tests.{ne-eqb, lt-leb, lt-ltb}
 use Rattle.spec.specs.Basics.{any, all, keep, Each}
 use Rattle.spec.specs.Bytes.{is-clean}
-use Rattle.spec.specs.Record.{Entry}
+use Rattle.spec.specs.Record.{Entry, size}
+use Rattle.spec.specs.Space.{sizes}
 use Rattle.spec.specs.Reading.{marked, second-ok, marks-ok, head-clean}
 use Rattle.spec.specs.Mount.{head-low}
 use Rattle.reading.specs.declared.Spot.{Spot}
@@ -18,7 +19,7 @@ use Rattle.reading.specs.Rest.{entry-of}
 use Rattle.reading.specs.Fold.{spot-of}
 use Rattle.reading.specs.Faithful.{Stands}
 use Rattle.reading.specs.FileLaws.{is-file}
-use Rattle.reading.specs.Tally.{name-fine, none-yet, count-with, noted, tally}
+use Rattle.reading.specs.Tally.{name-fine, none-yet, count-with, sums-with, noted, tally}
 use Rattle.laws.specs.Settled.{last-pending}
 
 -- ---- for any tally so far
@@ -33,6 +34,16 @@ unfolding noted
 tally-files t [] = sym (add-zero (t .files))
 tally-files t (e ∷ es) = tally-files (noted t e) es ∙ go (is-file e) refl where
   go : (b : Bool) → is-file e ≡ b → count-with (t .files) (is-file e) + length (keep is-file es) ≡ t .files + length (keep is-file (e ∷ es))
+  go true q = rw (keep, q) (omega arith)
+  go false q = rw (keep, q)
+
+-- the sizes of the files
+pub tally-file-sizes : (t : Tally) (es : List Entry) → tally t es .sums .files ≡ t .sums .files + sizes (keep is-file es)
+unfolding noted
+tally-file-sizes t [] = sym (add-zero (t .sums .files))
+tally-file-sizes t (e ∷ es) = tally-file-sizes (noted t e) es ∙ go (is-file e) refl where
+  go : (b : Bool) → is-file e ≡ b
+      → sums-with (t .sums) (size e) (is-file e) .files + sizes (keep is-file es) ≡ t .sums .files + sizes (keep is-file (e ∷ es))
   go true q = rw (keep, q) (omega arith)
   go false q = rw (keep, q)
 

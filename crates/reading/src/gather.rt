@@ -4,6 +4,7 @@ use crate::Cursor;
 use crate::FullPass;
 use crate::Gathered;
 use crate::Item;
+use crate::NameMarks;
 use crate::Nearby;
 use crate::Pass;
 use crate::Repeats;
@@ -21,16 +22,18 @@ use crate::scan::noted;
 use crate::scan::noted_plain;
 use crate::sought::found_of;
 use crate::sought::not_seen;
-use crate::sought::seen_or;
 use crate::sought::seen_with;
 ghost use mathlib.Core.Path.{_≡_};
+ghost use mathlib.Core.Bool.{false};
 ghost use Prim.Native.Nat.{_≤_};
 ghost use lib.ListN.{length};
 ghost use Rattle.reading.specs.Cursor.{Cursor-sound, left};
-ghost use Rattle.reading.specs.Rest.{rest};
+ghost use Rattle.spec.specs.Record.{name-of};
+ghost use Rattle.reading.specs.Rest.{rest, entry-of};
 ghost use Rattle.reading.specs.Tally.{none-yet, passed, Spots, End-inside};
+ghost use Rattle.reading.specs.Marks.{Marked-as};
 ghost use Rattle.reading.specs.Repeats.{repeats-of};
-ghost use Rattle.reading.specs.Sought.{Sought};
+ghost use Rattle.reading.specs.Sought.{has-hash, Sought};
 ghost use Rattle.reading.specs.Gather.{nothing-yet, Gathering, Noting, Plain-file};
 
 // What is gathered, with one record more, which stands before next.
@@ -60,7 +63,7 @@ fn gather_one(
     }
 }
 
-// The same for a plain one that is a file.
+// The same for a plain one that is a file, whose name is so and has not the hash that is wanted: what was seen stays.
 fn gather_file(
     image: &[u8],
     start: Cursor,
@@ -69,29 +72,29 @@ fn gather_file(
     e: Spot,
     next: Cursor,
     wanted: u64,
+    name: NameMarks,
 ) -> Gathered
     requires { ⌜ Cursor-sound (now image) start × Noting (now image) start wanted e next g (now table)
-        × Plain-file (now image) e (g .tally) ⌝ }
+        × Plain-file (now image) e (g .tally) × Marked-as (name-of (entry-of (now image) e)) name
+        × (has-hash wanted (entry-of (now image) e) ≡ false) ⌝ }
     ensures { λ r. ⌜ Gathering (now (image .entry)) start wanted r (now (table .exit)) × (r .cursor ≡ next)
         × (2 ≤ r .tally .records) ⌝ }
 {
     let t = g.tally;
     let n = g.repeats;
     let f = g.sight;
-    let name = marks_of(image, e);
     let s = name.signature;
-    let o = seen_or(name.hash == wanted, f, e);
     let m = repeats_signed(image, start, t.records, table, n, e, s);
-    let u = noted_plain(t, e, t.files + 1, both(t.fine, name.fine), next.pending);
+    let u = noted_plain(t, e, true, both(t.fine, name.fine), next.pending);
     Gathered {
         cursor: next,
         tally: u,
         repeats: m,
-        sight: o,
+        sight: f,
     }
 }
 
-// With all plain records from the cursor on.
+// With the plain records from the cursor on, up to a file whose name has the hash that is wanted: so what was seen is not carried along.
 fn gather_plain(
     image: &[u8],
     start: Cursor,
@@ -112,12 +115,16 @@ fn gather_plain(
             return g;
         };
         if is_file(image, e) {
-            g = gather_file(image, start, table, g, e, next, wanted);
+            let name = marks_of(image, e);
+            if name.hash == wanted {
+                return g;
+            }
+            g = gather_file(image, start, table, g, e, next, wanted, name);
         } else {
             let t = g.tally;
             let n = g.repeats;
             let f = g.sight;
-            let u = noted_plain(t, e, t.files, t.fine, next.pending);
+            let u = noted_plain(t, e, false, t.fine, next.pending);
             g = Gathered {
                 cursor: next,
                 tally: u,

@@ -70,10 +70,10 @@ pub enum Nearby {
     Other,
 }
 
-// The sizes of the live records, and of the records that stand before the turn.
+// The sizes of the records that are FC or F8 with a name, summed; and of all others.
 pub struct Sums {
-    pub live: usize,
-    pub upper: usize,
+    pub files: usize,
+    pub others: usize,
 }
 
 // What is looked for among the files.
@@ -115,12 +115,13 @@ pub struct Repeats {
     pub superseded: bool,
 }
 
-// What one pass over the chain tells: how many records there are; how many of them are FC or F8 with a name; the first, the second and the
-// last of them; whether every FC or F8 record with a name has a good one; whether a START or CLEAN stands behind the second record;
+// What one pass over the chain tells: how many records there are; how many of them are FC or F8 with a name; the sizes of these and of the
+// others; the first, the second and the last of all; whether every FC or F8 record with a name has a good one; whether a START or CLEAN stands behind the second record;
 // whether the last record is unfinished.
 pub struct Tally {
     pub records: usize,
     pub files: usize,
+    pub sums: Sums,
     pub first: Spot,
     pub second: Spot,
     pub last: Spot,

@@ -1,13 +1,13 @@
 -- A settled image is reported as it was read; else the repairs tell. The record is counted before either.
 use mathlib.Core.Path.{sym, _∙_}
-use Rattle.lilota.specs.Space.{mount-told}
+use Rattle.lilota.specs.Space.{countable-legal, mount-told}
 use Rattle.lilota.specs.Mount.{mount-settled}
 use borrow.Author.Needs.{needs}
 use Rattle.lilota.proofs.mount.mount_from.Statement.{statement}
 use Rattle.lilota.proofs.mount.mount_from.Tie as tie
 
 mount-space-requires : tie.Need-mount-space-requires
-mount-space-requires c κs = c .before .before .before .pre .0 .surveyed
+mount-space-requires c κs = let p = c .before .before .before .pre in (countable-legal (p .0) (p .2), p .1)
 
 unchanged-requires : tie.Need-unchanged-requires
 unchanged-requires c κs = search needs

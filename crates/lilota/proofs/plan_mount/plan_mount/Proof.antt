@@ -22,7 +22,8 @@ plan-mount-from-requires c κs =
     let c11 = c6 .before .before .before .before .before in
     let x = c4 .x .given in
     let read = c6 .accepted .ensures in
-    ((rw (x .1) at (read .1)) .0, legal-given (c11 .args .image .now) (x .0 .0) (read .0) (x .1))
+    let a = rw (x .1) at (read .1) in
+    (a .0, legal-given (c11 .args .image .now) (x .0 .0) (read .0) (x .1), a .1)
 
 enum-known-x-2 : tie.Need-enum-known-x-2
 enum-known-x-2 c = search needs

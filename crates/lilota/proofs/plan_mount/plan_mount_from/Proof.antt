@@ -1,7 +1,7 @@
 -- The repairs that the first reading plans are the definition's, and so is the report.
 use native.Mathlib.Omega.{arith}
 use Rattle.planner.specs.Mount.{torn-told}
-use Rattle.lilota.specs.Space.{mount-told}
+use Rattle.lilota.specs.Space.{countable-legal, mount-told}
 use Rattle.lilota.specs.PlanMount.{marks-are, mount-out}
 use borrow.Author.Needs.{needs}
 use Rattle.lilota.proofs.plan_mount.plan_mount_from.Statement.{statement}
@@ -16,7 +16,9 @@ planned-report-requires c κs =
     (p .0 .surveyed, marks-are (p .1))
 
 mount-space-requires : tie.Need-mount-space-requires
-mount-space-requires c κs = c .before .before .before .before .before .before .pre .0 .surveyed
+mount-space-requires c κs =
+    let p = c .before .before .before .before .before .before .pre in
+    (countable-legal (p .0) (p .1), p .2)
 
 from-requires : tie.Need-from-requires
 from-requires c κs = search needs

@@ -15,7 +15,7 @@ use Rattle.reading.specs.Read.{reading-of}
 use Rattle.window.specs.Handed.{slices}
 use Rattle.lilota.specs.Numbers.{no-room}
 use Rattle.lilota.specs.Put.{room-fits, room-plan}
-use Rattle.lilota.specs.Space.{put-told}
+use Rattle.lilota.specs.Space.{countable-named, put-told}
 use Rattle.lilota.specs.Stored.{writing}
 use Rattle.lilota.specs.Planned.{stored-out, refused-out}
 use borrow.Author.Needs.{needs}
@@ -34,10 +34,12 @@ put-space-requires c κs =
     let a = c8 .args in
     let p = c8 .pre in
     let roomy = flag (c1 .has-room .ensures) (c .if1 .taken) in (
-      p .0 .accepted .surveyed,
+      countable-named (a .name .now) (p .0 .accepted) (p .2),
       place-sound (a .image .now) (a .s) (p .0 .accepted),
       omega (arith, p .1),
       room-fits (reading-of (a .image .now) (a .s)) (a .name .now) (length (a .content .now)) roomy,
+      p .0 .quiet,
+      p .3,
     )
 
 shortest-requires : tie.Need-shortest-requires

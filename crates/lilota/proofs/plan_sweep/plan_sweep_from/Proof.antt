@@ -10,7 +10,7 @@ use Rattle.reading.specs.Standing.{start-sound}
 use Rattle.window.specs.Handed.{slices}
 use Rattle.lilota.specs.Numbers.{no-room}
 use Rattle.lilota.specs.Sweep.{headed}
-use Rattle.lilota.specs.Space.{sweep-told}
+use Rattle.lilota.specs.Space.{countable-admitted, sweep-told}
 use Rattle.lilota.specs.Planned.{refused-out}
 use Rattle.lilota.specs.PlanSweep.{walkable, sweep-out, moves-out}
 use borrow.Author.Needs.{needs}
@@ -44,7 +44,9 @@ at-most-requires c κs = search needs
 sweep-space-requires : tie.Need-sweep-space-requires
 sweep-space-requires c κs =
     let c9 = c .before .before .before .before .before .before .before .before .before in
-    (c9 .pre .0 .accepted .surveyed, walkable (c9 .args .image .now) (c9 .args .s) (c9 .pre .0 .accepted))
+    let a = c9 .args in
+    let p = c9 .pre in
+    (countable-admitted (p .0 .accepted) (p .1), walkable (a .image .now) (a .s) (p .0 .accepted), p .0 .quiet)
 
 shortest-requires : tie.Need-shortest-requires
 shortest-requires c κs = search needs

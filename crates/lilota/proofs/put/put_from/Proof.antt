@@ -14,7 +14,7 @@ use Rattle.reading.specs.Accepted.{place-sound}
 use Rattle.lilota.specs.Numbers.{no-room}
 use Rattle.lilota.specs.Carry.{refused}
 use Rattle.lilota.specs.Stored.{put-spent, put-carried, writing}
-use Rattle.lilota.specs.Space.{put-told}
+use Rattle.lilota.specs.Space.{countable-named, put-told}
 use Rattle.lilota.specs.Put.{room-fits, put-room}
 use borrow.Author.Needs.{needs}
 use Rattle.lilota.proofs.put.put_from.Statement.{statement}
@@ -31,10 +31,12 @@ put-space-requires c κs =
     let a = c7 .args in
     let p = c7 .pre in
     let roomy = flag (c .before .before .has-room .ensures) (c .before .if1 .taken) in (
-      p .0 .accepted .surveyed,
+      countable-named (a .name .now) (p .0 .accepted) (p .2),
       place-sound (a .image .now) (a .s) (p .0 .accepted),
       omega (arith, p .1),
       room-fits (reading-of (a .image .now) (a .s)) (a .name .now) (length (a .content .now)) roomy,
+      p .0 .quiet,
+      p .3,
     )
 
 replace-requires : tie.Need-replace-requires

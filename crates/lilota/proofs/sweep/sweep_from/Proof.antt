@@ -5,7 +5,7 @@ use Rattle.laws.specs.Flag.{flag}
 use Rattle.spec.specs.Basics.{numbered}
 use Rattle.lilota.specs.Numbers.{no-room}
 use Rattle.lilota.specs.Carry.{refused}
-use Rattle.lilota.specs.Space.{sweep-told}
+use Rattle.lilota.specs.Space.{countable-admitted, sweep-told}
 use Rattle.lilota.specs.PlanSweep.{walkable}
 use Rattle.lilota.specs.Sweep.{swept-done, swept-cut, sweep-room, headed}
 use native.Mathlib.Omega.{arith}
@@ -34,7 +34,9 @@ at-most-requires c κs = search needs
 sweep-space-requires : tie.Need-sweep-space-requires
 sweep-space-requires c κs =
     let c8 = c .before .before .before .before .before .before .before .before in
-    (c8 .pre .0 .accepted .surveyed, walkable (c8 .args .image .now) (c8 .args .s) (c8 .pre .0 .accepted))
+    let a = c8 .args in
+    let p = c8 .pre in
+    (countable-admitted (p .0 .accepted) (p .1), walkable (a .image .now) (a .s) (p .0 .accepted), p .0 .quiet)
 
 sweep-requires : tie.Need-sweep-requires
 sweep-requires c κs =

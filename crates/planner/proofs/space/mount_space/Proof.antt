@@ -9,8 +9,8 @@ use borrow.Author.Needs.{needs}
 use Rattle.planner.proofs.space.mount_space.Statement.{statement}
 use Rattle.planner.proofs.space.mount_space.Tie as tie
 
-count-requires : tie.Need-count-requires
-count-requires c κs = search needs
+count-any-requires : tie.Need-count-any-requires
+count-any-requires c κs = search needs
 
 mended-place-requires : tie.Need-mended-place-requires
 mended-place-requires c κs = search needs
@@ -23,7 +23,7 @@ filled-requires c κs =
     let c1 = c .before in
     let c2 = c1 .before in
     let c4 = c2 .before .before in
-    (rw (c1 .mended-place .ensures) (behind-small (c4 .pre)), omega (arith, c2 .count .ensures .few))
+    (rw (c1 .mended-place .ensures) (behind-small (c4 .pre .0 .surveyed)), omega (arith, c2 .count-any .ensures .few))
 
 returns : tie.Need-returns
 returns c =
@@ -33,7 +33,7 @@ returns c =
     let c5 = c3 .before .before in
     let a = c5 .args in
     let im = a .image .now in
-    let n = c3 .count .ensures in
+    let n = c3 .count-any .ensures in
     let wall = c1 .mended-wall .ensures ∙ ap (mended-wall (length im) (reading-of im (a .s) .entries)) (n .wall-is) in
     let live = n .live-is in
     let place = c2 .mended-place .ensures in
@@ -42,4 +42,4 @@ returns c =
 pub mount-space-spec : {M : Type 1} → statement M
 mount-space-spec =
     tie.close
-    (tie.spec count-requires mended-place-requires mended-wall-requires filled-requires returns)
+    (tie.spec count-any-requires mended-place-requires mended-wall-requires filled-requires returns)

@@ -5,6 +5,7 @@ use lib.ListN.{length}
 use native.Mathlib.Omega.{arith}
 use Rattle.spec.specs.Record.{size-of}
 use Rattle.writing.specs.Placing.{placed-parts, placed-full, placed-inside}
+use Rattle.planning.specs.PutCounts.{replaced-bytes}
 use Rattle.planning.specs.Walls.{space-filled}
 use Rattle.planner.specs.Space.{first-small, put-filled-as, round-small}
 use borrow.Author.Needs.{needs}
@@ -82,7 +83,7 @@ filled-requires-2 c κs =
     let p = c14 .pre in
     let z = size-of (length (a .name .now)) (a .d) in
     let parts = placed-parts (a .s .place) z _ _ _ (rw (c8 .size .ensures) at (sym (c7 .after .ensures) ∙ c5 .marker .given .1)) in (
-      round-small (a .s .place) z 0 0 0 (parts .3) (c1 .come-round .ensures) (first-small (p .0)),
+      round-small (a .s .place) z 0 0 0 (parts .3) (c1 .come-round .ensures) (first-small (p .0 .surveyed)),
       omega (
         arith,
         c2 .gap .ensures,
@@ -110,7 +111,7 @@ returns-2 c =
     let parts = placed-parts (a .s .place) z _ _ _ (rw (c9 .size .ensures) at (sym (c8 .after .ensures) ∙ c6 .marker .given .1)) in
     c .filled2 .ensures
     ∙ ap (λ k. space-filled k (c2 .come-round .result) (c1 .put-wall .result)) (c3 .gap .ensures)
-    ∙ put-filled-as (a .s .place) z _ _ _ (n .live-is) (c9 .size .ensures) (c10 .replaced .ensures) (n .wall-is) (parts .3) (parts .2)
+    ∙ put-filled-as (a .s .place) z _ _ _ (n .live-is) (c9 .size .ensures) (c10 .replaced .ensures ∙ ap replaced-bytes (c15 .pre .5 .first)) (n .wall-is) (parts .3) (parts .2)
     (c2 .come-round .ensures) (c1 .put-wall .ensures)
 
 pub put-space-spec : {M : Type 1} → statement M

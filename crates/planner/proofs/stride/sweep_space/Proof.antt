@@ -18,7 +18,7 @@ first-cursor-requires c κs = search needs
 strides-requires : tie.Need-strides-requires
 strides-requires c κs =
     let c4 = c .before .before .before .before in
-    (rw (c .first-cursor .ensures) (c4 .pre .0 .tallied .sound), c4 .pre .1)
+    (rw (c .first-cursor .ensures) (c4 .pre .0 .surveyed .tallied .sound), c4 .pre .1)
 
 filled-requires : tie.Need-filled-requires
 filled-requires c κs = search needs

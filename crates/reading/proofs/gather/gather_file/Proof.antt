@@ -1,52 +1,38 @@
--- gather_file: the name is noted by its marks, the record as one behind the second.
+-- gather_file: the name is noted by its marks, the record as one behind the second; what was seen stays.
 use mathlib.Core.Path.{refl}
+use Rattle.reading.specs.Tally.{addable-size}
 use Rattle.reading.specs.Gather.{gathering-file}
 use borrow.Author.Needs.{needs}
 use native.Mathlib.Omega.{arith}
 use Rattle.reading.proofs.gather.gather_file.Statement.{statement}
 use Rattle.reading.proofs.gather.gather_file.Tie as tie
 
-marks-of-requires : tie.Need-marks-of-requires
-marks-of-requires c κs = search needs
-
-seen-or-requires : tie.Need-seen-or-requires
-seen-or-requires c κs = search needs
-
 repeats-signed-requires : tie.Need-repeats-signed-requires
 repeats-signed-requires c κs = search needs
-
-add-noted-plain : tie.Need-add-noted-plain
-add-noted-plain c =
-    let p = c .before .before .before .before .before .before .before .before .before .before .before .pre in
-    let w = p .1 .state .passing in
-    omega (arith, w .few, w .files, p .0 .inside, p .0 .room, p .0 .small)
 
 both-requires : tie.Need-both-requires
 both-requires c κs = search needs
 
 noted-plain-requires : tie.Need-noted-plain-requires
 noted-plain-requires c κs =
-    let p = c .before .before .before .before .before .before .before .before .before .before .before .before .pre in
-    omega (arith, p .1 .state .passing .few, p .0 .inside, p .0 .room, p .0 .small)
+    let p = c .before .before .before .before .before .before .before .before .pre in
+    let w = p .1 .state .passing in
+    (omega (arith, w .few, p .0 .inside, p .0 .room, p .0 .small), w .files, addable-size (p .0) w (p .1 .passes))
 
 returns : tie.Need-returns
 returns c =
-    let c3 = c .before .before .before in let c5 = c3 .before .before in let c8 = c5 .before .before .before in
-    let p = c8 .before .before .before .before .before .pre in
-    let m = c8 .marks-of .ensures in
+    let c2 = c .before .before in
+    let p = c2 .before .before .before .before .before .before .before .pre in
     let g =
-    gathering-file (p .1) (p .2 .two) (p .2 .unmarked) (p .2 .file) (c .noted-plain .ensures) (c .before .both .ensures) (m .fine)
-    (c3 .repeats-signed .ensures) (rw (m .hash) at (c5 .seen-or .ensures)) in
+    gathering-file (p .1) (p .2 .two) (p .2 .unmarked) (p .2 .file) (p .4) (c .noted-plain .ensures) (c .before .both .ensures) (p .3 .fine)
+    (c2 .repeats-signed .ensures) in
     (g .0, refl, g .1)
 
 pub gather-file-spec : {M : Type 1} → statement M
 gather-file-spec =
     tie.close
     (tie.spec
-    marks-of-requires
-    seen-or-requires
     repeats-signed-requires
-    add-noted-plain
     both-requires
     noted-plain-requires
     returns)

@@ -1,7 +1,8 @@
 -- gather_one: the record is noted, its name and its hash.
 use mathlib.Core.Path.{refl}
+use Rattle.reading.specs.Tally.{addable-size}
 use Rattle.reading.specs.Gather.{gathering-next}
-use borrow.Author.Needs.{needs}
+use native.Mathlib.Omega.{arith}
 use Rattle.reading.proofs.gather.gather_one.Statement.{statement}
 use Rattle.reading.proofs.gather.gather_one.Tie as tie
 
@@ -14,7 +15,11 @@ repeats-and-requires c κs =
     (p .0, p .1 .passes .whole, p .1 .state .carried)
 
 noted-requires : tie.Need-noted-requires
-noted-requires c κs = search needs
+noted-requires c κs =
+    let p = c .before .before .before .before .before .before .before .pre in
+    let w = p .1 .state .passing in
+    let t = p .1 .passes in
+    (t .whole, omega (arith, w .few, p .0 .inside, p .0 .room, p .0 .small), t .onward .pending, w .files, addable-size (p .0) w t)
 
 returns : tie.Need-returns
 returns c =

@@ -1,7 +1,10 @@
 -- gather_plain: each record that is passed is noted.
 use Prim.Native.Nat.{_≤_}
+use mathlib.Core.Path.{_∙_}
+use borrow.Author.Tests.{ne-eqb}
 use Rattle.laws.specs.Flag.{flag}
 use Rattle.reading.specs.Cursor.{Cursor-sound, left}
+use Rattle.reading.specs.Tally.{addable-size}
 use Rattle.reading.specs.Gather.{Gathering, gathering-dead}
 use borrow.Author.Needs.{needs}
 use native.Mathlib.Omega.{arith}
@@ -38,34 +41,53 @@ returns c =
 is-file-requires : tie.Need-is-file-requires Inv-loop μ-loop
 is-file-requires c κs = (rw (c .before .s .given .1) at (c .before .before .before .near .ensures)) .0 .whole
 
+marks-of-requires : tie.Need-marks-of-requires Inv-loop μ-loop
+marks-of-requires c κs =
+    let c3 = c .before .before .before in
+    let w = rw (c3 .s .given .1) at (c3 .before .before .near .ensures) in
+    (w .0 .whole, w .0 .onward .name)
+
+returns-2 : tie.Need-returns-2 Inv-loop μ-loop
+returns-2 c =
+    let c5 = c .before .before .before .before .before in
+    let inv = c5 .before .before .before .before .before .loop .inv in
+    (inv .1, inv .3)
+
 gather-file-requires : tie.Need-gather-file-requires Inv-loop μ-loop
 gather-file-requires c κs =
-    let c4 = c .before .before .before .before in let c6 = c4 .before .before in
-    let inv = c6 .before .before .loop .inv in
-    let w = rw (c4 .s .given .1) at (c6 .near .ensures) in (
+    let c3 = c .before .before .before in let c4 = c3 .before in let c7 = c4 .before .before .before in
+    let c9 = c7 .before .before in
+    let inv = c9 .before .before .loop .inv in
+    let w = rw (c7 .s .given .1) at (c9 .near .ensures) in
+    let m = c3 .marks-of .ensures in (
       inv .0,
       record { state = inv .1; passes = w .0 },
-      record { two = inv .2; unmarked = w .1; file = flag (c .before .before .is-file .ensures) (c .before .if1 .taken) },
+      record { two = inv .2; unmarked = w .1; file = flag (c4 .before .is-file .ensures) (c4 .if1 .taken) },
+      m,
+      ne-eqb _ _ (λ q. c .before .if2 .left (m .hash ∙ q)),
     )
 
 loop-less : tie.Need-loop-less Inv-loop μ-loop
 loop-less c =
-    let c5 = c .before .before .before .before .before in
-    let w = rw (c5 .s .given .1) at (c5 .before .before .near .ensures) in
+    let c8 = c .before .before .before .before .before .before .before .before in
+    let w = rw (c8 .s .given .1) at (c8 .before .before .near .ensures) in
     rw (c .gather-file .ensures .1) (w .0 .onward .less)
 
 loop-again : tie.Need-loop-again Inv-loop μ-loop
 loop-again c =
-    let c5 = c .before .before .before .before .before in let c7 = c5 .before .before in
-    let inv = c7 .before .before .loop .inv in
-    let w = rw (c5 .s .given .1) at (c7 .near .ensures) in
+    let c8 = c .before .before .before .before .before .before .before .before in let c10 = c8 .before .before in
+    let inv = c10 .before .before .loop .inv in
+    let w = rw (c8 .s .given .1) at (c10 .near .ensures) in
     let e = c .gather-file .ensures in
     (inv .0, e .0, e .2, rw (e .1) (omega (arith, inv .3, w .0 .onward .less)))
 
 noted-plain-requires : tie.Need-noted-plain-requires Inv-loop μ-loop
 noted-plain-requires c κs =
-    let inv = c .before .before .before .before .before .before .before .before .before .before .loop .inv in
-    omega (arith, inv .1 .passing .few, inv .0 .inside, inv .0 .room, inv .0 .small)
+    let c6 = c .before .before .before .before .before .before in let c8 = c6 .before .before in
+    let inv = c8 .before .before .loop .inv in
+    let w = inv .1 .passing in
+    let t = (rw (c6 .s .given .1) at (c8 .near .ensures)) .0 in
+    (omega (arith, w .few, inv .0 .inside, inv .0 .room, inv .0 .small), w .files, addable-size (inv .0) w t)
 
 loop-less-2 : tie.Need-loop-less-2 Inv-loop μ-loop
 loop-less-2 c =
@@ -94,6 +116,8 @@ gather-plain-spec =
     enum-told
     returns
     is-file-requires
+    marks-of-requires
+    returns-2
     gather-file-requires
     loop-less
     loop-again

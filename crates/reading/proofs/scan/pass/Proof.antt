@@ -1,7 +1,7 @@
 -- pass: the tally so far, gone on with over the rest, is the tally of all; the records are fewer than the bytes, so the count can't wrap.
 use Rattle.reading.specs.Cursor.{left}
 use Rattle.reading.specs.Fold.{passes, fold-end}
-use Rattle.reading.specs.Tally.{none-yet, passed, Passing, passing-start, passing-step, end-inside}
+use Rattle.reading.specs.Tally.{none-yet, passed, Passing, passing-start, passing-step, addable-size, end-inside}
 use Rattle.reading.proofs.Others.{other-step}
 use borrow.Author.Needs.{needs}
 use native.Mathlib.Omega.{arith}
@@ -41,7 +41,7 @@ noted-requires c κs =
     let p = c .before .before .before .before .before .before .before .pre in
     let t = passes (c .before .before .before .advance .ensures) (c .before .s .given .1) in
     let inv = c .before .before .before .before .loop .inv in
-    (t .whole, omega (arith, inv .few, p .0 .inside, p .0 .room, p .0 .small), t .onward .pending, inv .files)
+    (t .whole, omega (arith, inv .few, p .0 .inside, p .0 .room, p .0 .small), t .onward .pending, inv .files, addable-size (p .0) inv t)
 
 loop-less : tie.Need-loop-less Inv-loop μ-loop
 loop-less c = passes (c .before .before .before .before .advance .ensures) (c .before .before .s .given .1) .onward .less
