@@ -114,9 +114,16 @@ impl Place {
     }
 }
 
-// What a refusal gives back: document 01's number.
+// What the name check says: 0, or why a name is refused (1 empty, 2 too long, 3 a bad byte, 4 a final slash), and the bad byte's place.
+pub struct NameFault {
+    pub reason: u32,
+    pub place: usize,
+}
+
+// What a refusal gives back: document 01's number; and what is wrong with the name, where that is the reason.
 pub struct Refusal {
     pub number: u32,
+    pub name: NameFault,
 }
 
 // What mount reports of the image it leaves: head, tail, the number of live files.
