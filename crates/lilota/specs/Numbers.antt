@@ -168,8 +168,8 @@ pub stored-given : (w : Stored) (n k : ℕ) (f : NameFault) (x : Space) (t : Ima
     → x ≡ stored w .space → k ≡ stored w .steps → outcome-of (stored w) t ≡ o → outcome-of (with-fault f (of-put n x k)) t ≡ o
 stored-given w n k f x t o p u q r e = ap (λ (y : Numbers). outcome-of y t) (stored-numbers w n k f x p u q r) ∙ e
 
-pub mounted-given : (w : Mounted) (a k : ℕ) (r : Report) (x : Space) (t : Image) (o : Outcome) → a ≡ mounted w .answer → r ≡ mounted w .report
-    → x ≡ mounted w .space → k ≡ mounted w .steps → outcome-of (mounted w) t ≡ o → o .numbers .name ≡ no-fault
+pub mounted-given : (w : Mounted) (a k : ℕ) (r : Report) (x : Space) (t : Image) (o : Outcome) → a ≡ mounted w .answer
+    → r ≡ mounted w .report → x ≡ mounted w .space → k ≡ mounted w .steps → outcome-of (mounted w) t ≡ o → o .numbers .name ≡ no-fault
     → outcome-of (of-mount a r x k) t ≡ o
 mounted-given w a k r x t o p q u s e h =
     ap (λ (y : Numbers). outcome-of y t) (mounted-numbers w a k r x p (nameless (mounted w) t o e h) q u s) ∙ e

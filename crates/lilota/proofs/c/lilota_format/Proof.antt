@@ -20,7 +20,8 @@ same-length c = search needs
 returns : tie.Need-returns
 returns c =
     let c4 = c .before .before .before .before in
-    formatted-given (c4 .format .result) _ _ _ _ (c .answer .ensures) (c .before .steps .ensures) (c4 .format .ensures .0) (format-nameless _ _)
+    formatted-given (c4 .format .result) _ _ _ _ (c .answer .ensures) (c .before .steps .ensures) (c4 .format .ensures .0)
+    (format-nameless _ _)
 
 pub lilota-format-spec : {M : Type 1} → statement M
 lilota-format-spec = tie.close (tie.spec format-requires steps-requires answer-requires same-length returns)

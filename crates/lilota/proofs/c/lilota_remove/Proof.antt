@@ -23,7 +23,8 @@ returns : tie.Need-returns
 returns c =
     let c2 = c .before .before in
     let c5 = c2 .before .before .before in
-    written-given (c5 .remove .result) _ _ _ _ _ (c .answer .ensures) (c2 .fault .ensures) (c .before .steps .ensures) (c5 .remove .ensures .0)
+    written-given (c5 .remove .result) _ _ _ _ _ (c .answer .ensures) (c2 .fault .ensures) (c .before .steps .ensures)
+    (c5 .remove .ensures .0)
 
 pub lilota-remove-spec : {M : Type 1} → statement M
 lilota-remove-spec =

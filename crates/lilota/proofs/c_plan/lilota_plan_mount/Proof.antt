@@ -36,8 +36,8 @@ returns c =
     let c3 = c2 .before in
     let c10 = c3 .before .before .before .before .before .before .before in
     let done = c10 .plan-mount in (
-      mounted-handed (done .result .answer) _ _ _ _ _ _ _ (c .answer .ensures) (c3 .report .ensures) (c2 .space .ensures) (c .before .steps .ensures)
-          (done .ensures .0) (mount-planned-nameless _ _ _),
+      mounted-handed (done .result .answer) _ _ _ _ _ _ _ (c .answer .ensures) (c3 .report .ensures) (c2 .space .ensures)
+          (c .before .steps .ensures) (done .ensures .0) (mount-planned-nameless _ _ _),
       refl,
     )
 

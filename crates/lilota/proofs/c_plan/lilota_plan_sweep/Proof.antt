@@ -36,8 +36,8 @@ returns c =
     let c3 = c2 .before in
     let c10 = c3 .before .before .before .before .before .before .before in
     let done = c10 .plan-sweep in (
-      swept-handed (done .result .answer) _ _ _ _ _ _ _ (c .answer .ensures) (c3 .moves .ensures) (c2 .space .ensures) (c .before .steps .ensures)
-          (done .ensures .0) (sweep-planned-nameless _ _ _),
+      swept-handed (done .result .answer) _ _ _ _ _ _ _ (c .answer .ensures) (c3 .moves .ensures) (c2 .space .ensures)
+          (c .before .steps .ensures) (done .ensures .0) (sweep-planned-nameless _ _ _),
       refl,
     )
 
