@@ -1,6 +1,6 @@
 //! Names: good ones, bad ones, and ones at the edges of the name rule.
 use crate::rng::Rng;
-use model::{good_name, NameFault};
+use model::{good_name, name_fault};
 
 /// The bytes at the edges of the name rule: 20 and '/' by their place, 21 and 7E good, the others bad.
 pub const EDGES: [u8; 9] = [0x20, 0x2F, 0x21, 0x7E, 0x1F, 0x7F, 0x80, 0xFF, 0x00];
@@ -52,7 +52,8 @@ pub fn stored_name(r: &mut Rng) -> Vec<u8> {
 }
 
 /// What the name check says, and where the first bad byte stands.
-pub fn tag(name: &[u8], fault: NameFault) -> Option<&'static str> {
+pub fn tag(name: &[u8]) -> Option<&'static str> {
+    let fault = name_fault(name);
     let last = fault.place + 1 == name.len() as u64;
     match fault.reason {
         0 => name.contains(&b' ').then_some("name with a space"),

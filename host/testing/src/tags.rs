@@ -175,7 +175,7 @@ pub fn of(img: &[u8], call: &Call, reply: &Reply, after: &[u8]) -> Vec<&'static 
     }
     if let Call::Put(name, ..) | Call::Get(name) | Call::Remove(name, _) = call {
         let good = good_length(img.len() as u64);
-        t.extend(names::tag(name, name_fault(name)).filter(|_| good));
+        t.extend(names::tag(name).filter(|_| good));
     }
     match call {
         Call::Put(name, data, _) => of_put(img, name, data, &mut t),

@@ -54,7 +54,7 @@ fn table() -> Vec<Vec<u8>> {
 fn check(c: &mut Collection, name: &[u8]) {
     let says = name_fault(name);
     let text = format!("check-name {} {} {}", bytes(name), says.reason, says.place);
-    let tags = tag(name, says).into_iter().collect();
+    let tags = tag(name).into_iter().collect();
     c.add(Vector { function: "check-name", text, kind: CHECK, answer: says.reason, tags, source: CHECK });
 }
 
