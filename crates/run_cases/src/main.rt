@@ -110,21 +110,36 @@ fn fault(f: NameFault) {
     number(f.place);
 }
 
-// What put, get and remove answer to a name on this image, and what they say is wrong with it.
-fn name_row(image: &mut [u8], name: &[u8], content: &[u8]) {
+// What put answers to a name, and what it says is wrong with it.
+fn put_named(image: &mut [u8], name: &[u8], content: &[u8]) {
     let w = put(image, name, content, ENOUGH);
     number(w.answer() as usize);
     fault(w.fault());
+}
+
+// The same of get, with where it says that the bytes stand.
+fn get_named(image: &[u8], name: &[u8]) {
     let h = get_place(image, name);
     number(h.answer as usize);
     fault(h.name);
     let x = h.extent;
     number(x.offset);
     number(x.length);
-    let r = remove(image, name, ENOUGH);
+}
+
+// The same of remove.
+fn remove_named(image: &mut [u8], name: &[u8]) {
+    let w = remove(image, name, ENOUGH);
+    number(w.answer() as usize);
+    fault(w.fault());
+}
+
+// The three calls with one name, on this image.
+fn name_row(image: &mut [u8], name: &[u8], content: &[u8]) {
+    put_named(image, name, content);
+    get_named(image, name);
     text(b"  ");
-    number(r.answer() as usize);
-    fault(r.fault());
+    remove_named(image, name);
     text(b"\n");
 }
 
@@ -135,24 +150,25 @@ fn first_name_row(image: &mut [u8], name: &[u8], content: &[u8]) {
 }
 
 // Names that are allowed, and each reason for which one is refused.
-fn name_table(image: &mut [u8], overlong: &[u8], content: &[u8]) {
+fn name_table(overlong: &[u8], content: &[u8]) {
+    let mut image = [0u8; 8192];
     text(
         b"\nname                      put   why place   get   why place    at bytes  remove   why place\n",
     );
     text(b"\"night basal\"          ");
-    first_name_row(image, b"night basal", content);
+    first_name_row(&mut image, b"night basal", content);
     text(b"empty                  ");
-    first_name_row(image, b"", content);
+    first_name_row(&mut image, b"", content);
     text(b"64 bytes               ");
-    first_name_row(image, overlong, content);
+    first_name_row(&mut image, overlong, content);
     text(b"\" basal\"               ");
-    first_name_row(image, b" basal", content);
+    first_name_row(&mut image, b" basal", content);
     text(b"\"night \"               ");
-    first_name_row(image, b"night ", content);
+    first_name_row(&mut image, b"night ", content);
     text(b"\"b\", 1F, \"/\"           ");
-    first_name_row(image, b"b\x1F/", content);
+    first_name_row(&mut image, b"b\x1F/", content);
     text(b"\"night basal/\"         ");
-    first_name_row(image, b"night basal/", content);
+    first_name_row(&mut image, b"night basal/", content);
     text(b"\"a/\", N of 4,096       ");
     let mut sector = [0xFFu8; 4096];
     name_row(&mut sector, b"a/", content);
@@ -192,5 +208,5 @@ fn main() {
     sweep_row(&mut image, dose, b"\x00\x5A\x03");
     text(b"sweep, 2,024 bytes     ");
     sweep_row(&mut image, dose, &large);
-    name_table(&mut image, overlong, old);
+    name_table(overlong, old);
 }
