@@ -2,3 +2,4 @@
 pub mod Case
 pub mod Table
 pub mod Proof
+pub mod NameTable

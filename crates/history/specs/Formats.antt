@@ -8,6 +8,7 @@ use lib.ListN.{length, drop, length-replicate}
 use lib.Seq.{drop-length}
 use lib.Dec.{leb}
 use borrow.Author.Tests.{leb-true, leb-false}
+use Rattle.spec.specs.declared.Refusal.{Refusal}
 use Rattle.spec.specs.Step.{Image, erase, run}
 use Rattle.spec.specs.Basics.{Answer, refuse, give, checked, numbered}
 use Rattle.spec.specs.Geometry.{good-length, sectors}
@@ -118,9 +119,9 @@ done-image raw k p e = go (leb (length (p .steps)) k) refl
     go true h = ap (λ (x : Outcome). x .image) (carried-done raw k p (leb-true (length (p .steps)) k h))
     go false h = absurd (let z : _≡_ {A = ℕ} 4 0 = answer-of (carried-cut raw k p (leb-false (length (p .steps)) k h)) e in omega arith)
 
-pub refused : (raw : Image) (k n : ℕ) → carry-out raw k (refuse (numbered n)) .numbers .answer ≡ n
+pub refused : (raw : Image) (k : ℕ) (x : Refusal) → carry-out raw k (refuse x) .numbers .answer ≡ x .number
 unfolding carry-out
-refused raw k n = refl
+refused raw k x = refl
 
 plan-is : (raw : Image) (b : Bool) → good-length (length raw) ≡ b → format-plan raw ≡ checked b (numbered 22) (give (doing (format-steps (length raw))))
 unfolding format-plan
@@ -138,4 +139,5 @@ formatted raw k e = go (good-length (length raw)) refl
         let P : Plan = doing (format-steps (length raw)) in
         let i : format-plan raw ≡ give P = plan-is raw true g in
         subst (Inv []) (sym (ap (λ (x : Answer Plan). carry-out raw k x .image) i ∙ done-image raw k P (at (give P) i))) (whole-inv raw g)
-    go false g = absurd (let z : _≡_ {A = ℕ} 22 0 = sym (refused raw k 22) ∙ at (refuse (numbered 22)) (plan-is raw false g) in omega arith)
+    go false g = absurd (let z : _≡_ {A = ℕ} 22 0 = sym (refused raw k (numbered 22)) ∙ at (refuse (numbered 22))
+        (plan-is raw false g) in omega arith)

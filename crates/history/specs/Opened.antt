@@ -33,11 +33,11 @@ pub record Opened (f : ℕ) (s l : List ℕ) : Type 0 where
 joined-blanks : (a b c m : ℕ) (s : List ℕ) → m ≡ a + (b + c) → blanks m ++ s ≡ blanks a ++ (blanks b ++ (blanks c ++ s))
 joined-blanks a b c m s e = split-front a (b + c) m s e ∙ ap (λ (l : List ℕ). blanks a ++ l) (split-front b c (b + c) s refl)
 
-printable-at : (u : List ℕ) (b : ℕ) (t : List ℕ) → Printable (u ++ (b ∷ t)) → Printable u × ((0x21 ≤ b) × (b ≤ 0x7F))
+printable-at : (u : List ℕ) (b : ℕ) (t : List ℕ) → Printable (u ++ (b ∷ t)) → Printable u × ((0x20 ≤ b) × (b ≤ 0x7F))
 printable-at [] b t p = (tt, p .0)
 printable-at (x ∷ u) b t p = let q = printable-at u b t (p .1) in ((p .0, q .0), q .1)
 
-printable-end : (u : List ℕ) (v : ℕ) → Printable u → (0x21 ≤ v) × (v ≤ 0x7F) → Printable (u ++ (v ∷ []))
+printable-end : (u : List ℕ) (v : ℕ) → Printable u → (0x20 ≤ v) × (v ≤ 0x7F) → Printable (u ++ (v ∷ []))
 printable-end [] v p q = (q, tt)
 printable-end (x ∷ u) v p q = (p .0, printable-end u v (p .1) q)
 
@@ -153,7 +153,7 @@ name-safe d f n s h p l i =
         → Opened f s ((header d [] ++ (u ++ (v ∷ []))) ++ (blanks j ++ s))
     inside u b v j t e m r k = go (ltb v 0x80) refl
       where
-        q : Printable u × ((0x21 ≤ b) × (b ≤ 0x7F))
+        q : Printable u × ((0x20 ≤ b) × (b ≤ 0x7F))
         q = printable-at u b t (subst Printable e p)
 
         len : length n ≡ length u + suc (length t)

@@ -148,9 +148,9 @@ put-gets-on im l n c m i b e = go (puts-of l im n c i)
   where
     go : Puts l im n c → Passes (put im n c m .image)
     go (put-no r) =
-        let z : r .number ≡ 0 =
-        sym (refused im m (r .number)) ∙ sym (ap (λ (p : Answer Plan). carry-out im m p .numbers .answer) (r .is)) ∙ e in
-        absurd (not-both (eqb (r .number) 0) (r .not-done) (eq-eqb (r .number) 0 z))
+        let z : r .by .number ≡ 0 =
+        sym (refused im m (r .by)) ∙ sym (ap (λ (p : Answer Plan). carry-out im m p .numbers .answer) (r .is)) ∙ e in
+        absurd (not-both (eqb (r .by .number) 0) (r .not-done) (eq-eqb (r .by .number) 0 z))
     go (put-yes r q nice rule k) =
         let e₁ : carry-out im m (give (putting n c im r)) .numbers .answer ≡ 0 =
         sym (ap (λ (p : Answer Plan). carry-out im m p .numbers .answer) k) ∙ e in

@@ -8,6 +8,7 @@ use lib.ListN.{length, take, drop, drop-of-length-le}
 use lib.Seq.{drop-nil}
 use lib.Dec.{eqb, leb}
 use borrow.Author.Tests.{leb-true, leb-false, le-leb, lt-leb, eqb-true, eqb-false, eq-eqb, ne-eqb}
+use Rattle.spec.specs.declared.Refusal.{Refusal}
 use Rattle.spec.specs.Step.{Image, Step, run}
 use Rattle.spec.specs.Basics.{Answer, refuse, give, numbered}
 use Rattle.spec.specs.Bytes.{is-committed}
@@ -44,7 +45,8 @@ fed-no : (im : Image) (n c : List ℕ) (m : Numbers) (w : ℕ) (l : Ledger) → 
 unfolding fed
 fed-no im n c m w l e = rw (e, fed)
 
-done-refused : (im : Image) (n c : List ℕ) (m w : ℕ) → eqb m 0 ≡ false → eqb m 4 ≡ false → put-done im n c (refusal (numbered m)) w ≡ false
+done-refused : (im : Image) (n c : List ℕ) (m : Refusal) (w : ℕ) → eqb (m .number) 0 ≡ false → eqb (m .number) 4 ≡ false
+    → put-done im n c (refusal m) w ≡ false
 unfolding put-done
 done-refused im n c m w e f = rw (f, put-done) e
 
@@ -69,12 +71,14 @@ at-early : (at k w : ℕ) → suc k < at → committed-at at k w ≡ false
 unfolding committed-at
 at-early at k w h = rw (lt-leb at k (omega arith), ne-eqb at (suc k) (λ e. omega arith))
 
-put-refused : (im : Image) (l : Ledger) (n c : List ℕ) (k v m : ℕ) → Inv l im → eqb m 0 ≡ false → eqb m 4 ≡ false
-    → Keeps Inv im l (Request.put n c) k v (refuse (numbered m))
+put-refused : (im : Image) (l : Ledger) (n c : List ℕ) (k v : ℕ) (m : Refusal) → Inv l im → eqb (m .number) 0 ≡ false
+    → eqb (m .number) 4 ≡ false
+    → Keeps Inv im l (Request.put n c) k v (refuse m)
 unfolding carry-out
 put-refused im l n c k v m i e f =
-    let s : left im k v (refuse (numbered m)) ≡ im = ap (λ (x : List Step). partly v x im) (drop-nil k) ∙ partly-none v im in
-    subst (λ (x : Ledger). Inv x (left im k v (refuse (numbered m)))) (sym (fed-no im n c (refusal (numbered m)) _ l (done-refused im n c m _ e f))) (subst (Inv l) (sym s) i)
+    let s : left im k v (refuse m) ≡ im = ap (λ (x : List Step). partly v x im) (drop-nil k) ∙ partly-none v im in
+    subst (λ (x : Ledger). Inv x (left im k v (refuse m))) (sym (fed-no im n c (refusal m) _ l (done-refused im n c m _ e f)))
+    (subst (Inv l) (sym s) i)
 
 module _ (im : Image) (l : Ledger) (n c : List ℕ) (k v : ℕ) (space : Space) (ss : List Step) (at : ℕ) {h : ℕ}
     (place : commit-place n c (reading im) ≡ at) (m : Commits l (with-file n c l) im ss at h) where
@@ -144,7 +148,8 @@ pub put-keeps : (im : Image) (l : Ledger) (n c : List ℕ) (k v : ℕ) → Inv l
 put-keeps im l n c k v i b = go (puts-of l im n c i)
   where
     go : Puts l im n c → Keeps Inv im l (Request.put n c) k v (put-plan n c im)
-    go (put-no r) = subst (Keeps Inv im l (Request.put n c) k v) (sym (r .is)) (put-refused im l n c k v (r .number) i (r .not-done) (r .not-cut))
+    go (put-no r) = subst (Keeps Inv im l (Request.put n c) k v) (sym (r .is))
+        (put-refused im l n c k v (r .by) i (r .not-done) (r .not-cut))
     go (put-yes r q ok f e) =
         subst (Keeps Inv im l (Request.put n c) k v) (sym e)
         (put-given im l n c k v (space-left (put-work n c im r)) (put-steps (r .place) (file-named n (r .entries)) n c) _ (place-is im r n c (rested-reads q))

@@ -7,6 +7,7 @@ use mathlib.Core.List.{List, [], _∷_}
 use lib.ListN.{drop, set, getD, length}
 use lib.Seq.{drop-nil, getD-set-same}
 use lib.Dec.{eqb}
+use Rattle.spec.specs.declared.Refusal.{Refusal}
 use Rattle.spec.specs.Step.{Image, Step, program}
 use Rattle.spec.specs.Basics.{Answer, refuse, give, numbered}
 use Rattle.spec.specs.Bytes.{is-committed, is-migrating}
@@ -31,7 +32,7 @@ not-removed : (im : Image) (n : List ℕ) (m : Numbers) (w : ℕ) (l : Ledger) �
 unfolding fed
 not-removed im n m w l e = rw (e, fed)
 
-refused-not : (m w : ℕ) → eqb m 0 ≡ false → eqb m 4 ≡ false → remove-done (refusal (numbered m)) w ≡ false
+refused-not : (m : Refusal) (w : ℕ) → eqb (m .number) 0 ≡ false → eqb (m .number) 4 ≡ false → remove-done (refusal m) w ≡ false
 unfolding remove-done
 refused-not m w e f = rw (f, remove-done) e
 
@@ -48,12 +49,14 @@ cut-done p w b e = go (is-committed w) (is-migrating w) e
     go true y e = ap not e
     go false y e = ap not e
 
-remove-refused : (im : Image) (l : Ledger) (n : List ℕ) (k v m : ℕ) → Inv l im → eqb m 0 ≡ false → eqb m 4 ≡ false
-    → Keeps Inv im l (Request.remove n) k v (refuse (numbered m))
+remove-refused : (im : Image) (l : Ledger) (n : List ℕ) (k v : ℕ) (m : Refusal) → Inv l im → eqb (m .number) 0 ≡ false
+    → eqb (m .number) 4 ≡ false
+    → Keeps Inv im l (Request.remove n) k v (refuse m)
 unfolding carry-out
 remove-refused im l n k v m i e f =
-    let s : left im k v (refuse (numbered m)) ≡ im = ap (λ (x : List Step). partly v x im) (drop-nil k) ∙ partly-none v im in
-    subst (λ (x : Ledger). Inv x (left im k v (refuse (numbered m)))) (sym (not-removed im n (refusal (numbered m)) _ l (refused-not m _ e f))) (subst (Inv l) (sym s) i)
+    let s : left im k v (refuse m) ≡ im = ap (λ (x : List Step). partly v x im) (drop-nil k) ∙ partly-none v im in
+    subst (λ (x : Ledger). Inv x (left im k v (refuse m))) (sym (not-removed im n (refusal m) _ l (refused-not m _ e f)))
+    (subst (Inv l) (sym s) i)
 
 -- one step: with no allowance it is cut inside
 remove-given : (im : Image) (l : Ledger) (n : List ℕ) (k v : ℕ) (e : Entry) → Inv l im → Removes l im n (e .at + 2)
@@ -108,7 +111,8 @@ pub remove-keeps : (im : Image) (l : Ledger) (n : List ℕ) (k v : ℕ) → Inv 
 remove-keeps im l n k v i = subst (Keeps Inv im l (Request.remove n) k v) (sym (remove-is n im)) (go (finds-of l im n removing i))
   where
     go : Finds l im n removing → Keeps Inv im l (Request.remove n) k v (file-plan n removing im)
-    go (find-no r) = subst (Keeps Inv im l (Request.remove n) k v) (sym (r .is)) (remove-refused im l n k v (r .number) i (r .not-done) (r .not-cut))
+    go (find-no r) = subst (Keeps Inv im l (Request.remove n) k v) (sym (r .is))
+        (remove-refused im l n k v (r .by) i (r .not-done) (r .not-cut))
     go (find-yes r x q f e) = subst (Keeps Inv im l (Request.remove n) k v) (sym e) (remove-given im l n k v x i (remove-step n x q f))
 
 -- its step is sound

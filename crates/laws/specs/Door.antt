@@ -11,7 +11,7 @@ use Rattle.spec.specs.Record.{name-ok}
 use Rattle.spec.specs.Chain.{Reading}
 use Rattle.spec.specs.Reading.{reading}
 use Rattle.spec.specs.Mount.{settled}
-use Rattle.spec.specs.Door.{if-settled, settled-reading, accepted, admitted, admitted-named}
+use Rattle.spec.specs.Door.{if-settled, settled-reading, accepted, admitted, misnamed, admitted-named}
 use Rattle.laws.specs.Answer.{gave, checked-on, passed}
 
 -- ---- what was let in
@@ -36,8 +36,8 @@ module _ (image : Image) (r : Reading) where
       → (good-length (length image) ≡ true) × (name-ok name ≡ true) × (settled-reading image ≡ give r)
   unfolding admitted-named
   named-gives name e =
-      let p = checked-on (good-length (length image)) (numbered 22) (checked (name-ok name) (numbered 22) (settled-reading image)) r e in
-      let q = checked-on (name-ok name) (numbered 22) (settled-reading image) r (p .1) in
+      let p = checked-on (good-length (length image)) (numbered 22) (checked (name-ok name) (misnamed name) (settled-reading image)) r e in
+      let q = checked-on (name-ok name) (misnamed name) (settled-reading image) r (p .1) in
       (p .0, q .0, q .1)
 
 -- ---- the tests
@@ -55,7 +55,7 @@ module _ (image : Image) (good : good-length (length image) ≡ true) where
   unfolding admitted-named
   named-good name n = rw (admitted-named, good, n)
 
-  pub named-bad : (name : List ℕ) → name-ok name ≡ false → admitted-named name image ≡ refuse (numbered 22)
+  pub named-bad : (name : List ℕ) → name-ok name ≡ false → admitted-named name image ≡ refuse (misnamed name)
   unfolding admitted-named
   named-bad name n = rw (admitted-named, good, n)
 

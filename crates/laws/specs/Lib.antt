@@ -8,6 +8,9 @@ pub mod Parts
 -- ---- steps, and the sectors of a stretch
 pub mod Steps
 pub mod Sectors
+-- ---- the name of a file
+pub mod Names
+pub mod Spaces
 -- ---- reading an image: what stands at an address, the walk and the search, the chain
 pub mod Length
 pub mod Next
@@ -23,5 +26,6 @@ pub mod Settled
 pub mod Answer
 pub mod Door
 pub mod Refusing
+pub mod Nameless
 -- ---- planned steps
 pub mod Planner

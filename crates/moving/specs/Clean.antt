@@ -16,9 +16,9 @@ use Rattle.spec.specs.Move.{mark-here, mark-steps, clean-steps}
 use Rattle.flash.specs.declared.Meter.{Meter}
 use Rattle.flash.specs.Did.{Did, did-one}
 use Rattle.flash.specs.Toward.{Toward, toward-same, toward-more, toward-end}
-use Rattle.reading.specs.declared.Spot.{Spot}
-use Rattle.reading.specs.Rest.{entry-of}
-use Rattle.reading.specs.Fold.{Whole, name-length-is, content-length-is}
+use Rattle.chain.specs.declared.Spot.{Spot}
+use Rattle.chain.specs.Rest.{entry-of}
+use Rattle.chain.specs.Fold.{Whole, name-length-is, content-length-is}
 use Rattle.moving.specs.Untouched.{later-on}
 use Rattle.laws.specs.Clean.{clean-nil}
 

@@ -16,8 +16,8 @@ use Rattle.flash.specs.declared.Meter.{Meter}
 use Rattle.flash.specs.Did.{Did, did-both}
 use Rattle.laws.specs.Sectors.{sectors-none, sectors-more}
 use Rattle.laws.specs.Steps.{run-append}
-use Rattle.reading.specs.declared.Spot.{Spot}
-use Rattle.reading.specs.Rest.{entry-of}
+use Rattle.chain.specs.declared.Spot.{Spot}
+use Rattle.chain.specs.Rest.{entry-of}
 use Rattle.moving.specs.Clean.{cleaned-steps}
 
 -- the sectors that X leaves behind, of the records that stand at x and y

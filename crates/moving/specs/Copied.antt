@@ -13,8 +13,8 @@ use Rattle.flash.specs.Did.{Did, did-both}
 use Rattle.laws.specs.Steps.{length-shifted, length-bytes, bytes-more, shifted-append, shifted-bytes}
 use Rattle.flash.specs.declared.Meter.{Meter}
 use Rattle.record.specs.Within.{Name-length}
-use Rattle.reading.specs.Rest.{entry-of}
-use Rattle.reading.specs.Fold.{name-length-is, content-length-is}
+use Rattle.chain.specs.Rest.{entry-of}
+use Rattle.chain.specs.Fold.{name-length-is, content-length-is}
 use Rattle.writing.specs.WriteSteps.{length-name}
 use Rattle.moving.specs.Untouched.{Apart, off-part, length-part, Avoids, kept, Writes-in, writes-bytes, writes-append, writes-shifted, writes-avoids}
 use Rattle.laws.specs.Parts.{part-first}

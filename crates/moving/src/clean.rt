@@ -1,7 +1,7 @@
 // Step (c) of a move: X's data is cleaned of what could be taken for a head or a record.
+use chain::Spot;
 use flash::Meter;
 use flash::program;
-use reading::Spot;
 use record::bytes::is_clean;
 use record::bytes::is_record;
 use record::up_8;
@@ -16,8 +16,8 @@ ghost use Rattle.spec.specs.Move.{mark-steps, clean-steps};
 ghost use Rattle.laws.specs.Length.{In-range};
 ghost use Rattle.flash.specs.Did.{Did};
 ghost use Rattle.flash.specs.Meters.{Can-count, Asked-most};
-ghost use Rattle.reading.specs.Rest.{entry-of};
-ghost use Rattle.reading.specs.Fold.{Whole};
+ghost use Rattle.chain.specs.Rest.{entry-of};
+ghost use Rattle.chain.specs.Fold.{Whole};
 ghost use Rattle.moving.specs.Clean.{is-mark, cleaned-steps};
 
 // The first byte of a head's magic, or of a record's.

@@ -3,12 +3,12 @@
 pub mod clean;
 pub mod copy;
 
+use chain::Spot;
 use clean::clean_data;
 use flash::Meter;
 use flash::clear_by;
 use flash::erase_sectors;
 use flash::program;
-use reading::Spot;
 use spec::CLEAN;
 use spec::SECTOR;
 use spec::START;
@@ -21,8 +21,8 @@ ghost use Rattle.spec.specs.Move.{to-clean-step, vacated-steps, start-steps, fo
 ghost use Rattle.laws.specs.Length.{In-range};
 ghost use Rattle.flash.specs.Did.{Did};
 ghost use Rattle.flash.specs.Meters.{Can-count, Asked-most};
-ghost use Rattle.reading.specs.Rest.{entry-of};
-ghost use Rattle.reading.specs.Fold.{Whole};
+ghost use Rattle.chain.specs.Rest.{entry-of};
+ghost use Rattle.chain.specs.Fold.{Whole};
 ghost use Rattle.moving.specs.Close.{left-end, left-behind};
 
 // The head that a move or a repair leaves, and the meter.

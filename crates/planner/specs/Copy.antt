@@ -12,10 +12,10 @@ use Rattle.spec.specs.Step.{Image, Step}
 use Rattle.spec.specs.Geometry.{up8}
 use Rattle.spec.specs.Record.{Entry, name-of, content-of}
 use Rattle.spec.specs.Write.{put-steps}
-use Rattle.reading.specs.declared.Spot.{Spot}
-use Rattle.reading.specs.Rest.{entry-of}
-use Rattle.reading.specs.Fold.{Whole, name-length-is, content-length-is}
-use Rattle.reading.specs.FileLaws.{name-part}
+use Rattle.chain.specs.declared.Spot.{Spot}
+use Rattle.chain.specs.Rest.{entry-of}
+use Rattle.chain.specs.Fold.{Whole, name-length-is, content-length-is}
+use Rattle.chain.specs.FileLaws.{name-part}
 use Rattle.writing.specs.declared.Old.{Old}
 use Rattle.writing.specs.declared.Old.the-variants as old-as
 use Rattle.writing.specs.Old.{old-of, old-entry, put-old}

@@ -7,5 +7,3 @@ pub mod Sweep
 pub mod Repairs
 pub mod Superseded
 pub mod Mount
-pub mod Space
-pub mod Strides

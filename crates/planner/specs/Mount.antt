@@ -21,15 +21,15 @@ use Rattle.laws.specs.Settled.{second-marked}
 use Rattle.planning.specs.Repairs.{steps-1, steps-2, steps-3}
 use Rattle.planning.specs.Planned.{led-place, half-mended, planned-mend, mended-reading}
 use Rattle.planning.specs.Told.{behind, behind-place, last-told, drops-told, place-told, files-told}
-use Rattle.reading.specs.declared.Item.{Item}
-use Rattle.reading.specs.declared.Tally.{Tally}
+use Rattle.chain.specs.declared.Item.{Item}
+use Rattle.chain.specs.declared.Tally.{Tally}
 use Rattle.reading.specs.declared.Survey.{Survey}
-use Rattle.reading.specs.Rest.{entry-of, rest}
+use Rattle.chain.specs.Rest.{entry-of, rest}
 use Rattle.reading.specs.Bridge.{shown, reading-is}
 use Rattle.reading.specs.Ends.{Closes, rest-closes}
-use Rattle.reading.specs.Faithful.{Stands, faithful}
-use Rattle.reading.specs.Tally.{none-yet, tally}
-use Rattle.reading.specs.TallyLaws.{second-is}
+use Rattle.chain.specs.Faithful.{Stands, faithful}
+use Rattle.chain.specs.Tally.{none-yet, tally}
+use Rattle.chain.specs.TallyLaws.{second-is}
 use Rattle.reading.specs.Read.{first-cursor, reading-of, Surveyed}
 use Rattle.reading.specs.Survey.{Torn-inside}
 use Rattle.reading.specs.Accepted.{Accepted}

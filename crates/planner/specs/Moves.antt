@@ -17,11 +17,11 @@ use Rattle.spec.specs.Placed.{Place-sound, with-tail}
 use Rattle.spec.specs.Write.{put-steps}
 use Rattle.spec.specs.Planner.{Slices}
 use Rattle.planning.specs.Planned.{come-round, copied-place, led-place, walked}
-use Rattle.reading.specs.declared.Cursor.{Cursor}
-use Rattle.reading.specs.declared.Spot.{Spot}
-use Rattle.reading.specs.Cursor.{Cursor-sound}
-use Rattle.reading.specs.Rest.{entry-of, rest}
-use Rattle.reading.specs.Fold.{Whole, name-length-is, content-length-is}
+use Rattle.chain.specs.declared.Cursor.{Cursor}
+use Rattle.chain.specs.declared.Spot.{Spot}
+use Rattle.chain.specs.Cursor.{Cursor-sound}
+use Rattle.chain.specs.Rest.{entry-of, rest}
+use Rattle.chain.specs.Fold.{Whole, name-length-is, content-length-is}
 use Rattle.writing.specs.Placing.{placed-inside}
 use Rattle.writing.specs.Put.{Ready}
 use Rattle.window.specs.declared.Window.{Window}

@@ -19,9 +19,9 @@ use Rattle.spec.specs.Mount.{dirty, erase-steps, head-low, status-void-steps, t
 use Rattle.planning.specs.Repairs.{steps-1, steps-2}
 use Rattle.laws.specs.Steps.{shifted-append, shifted-bytes}
 use Rattle.reading.specs.declared.Survey.{Survey}
-use Rattle.reading.specs.Rest.{entry-of}
+use Rattle.chain.specs.Rest.{entry-of}
 use Rattle.reading.specs.RuleLaws.{count-is, head-none, first-low, first-clean}
-use Rattle.reading.specs.Faithful.{faithful}
+use Rattle.chain.specs.Faithful.{faithful}
 use Rattle.reading.specs.Read.{first-cursor, reading-of, Surveyed}
 use Rattle.recovery.specs.DirtySectors.{dirty-erased, dirty-more}
 use Rattle.recovery.specs.Free.{keep-both, run-turned, run-both}

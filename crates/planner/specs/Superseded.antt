@@ -10,12 +10,12 @@ use Rattle.spec.specs.Files.{superseded}
 use Rattle.spec.specs.Mount.{delete-step}
 use Rattle.laws.specs.Settled.{second-marked}
 use Rattle.planning.specs.Told.{later, behind}
-use Rattle.reading.specs.declared.Cursor.{Cursor}
-use Rattle.reading.specs.declared.Spot.{Spot}
-use Rattle.reading.specs.declared.Item.{Item}
-use Rattle.reading.specs.Cursor.{advance}
-use Rattle.reading.specs.Rest.{Run, entry-of, rest}
-use Rattle.reading.specs.Fold.{Not-record, rest-done, Passes}
+use Rattle.chain.specs.declared.Cursor.{Cursor}
+use Rattle.chain.specs.declared.Spot.{Spot}
+use Rattle.chain.specs.declared.Item.{Item}
+use Rattle.chain.specs.Cursor.{advance}
+use Rattle.chain.specs.Rest.{Run, entry-of, rest}
+use Rattle.chain.specs.Fold.{Not-record, rest-done, Passes}
 use Rattle.recovery.specs.Drop.{dropped}
 
 abbrev pub without-first : Bool → List Entry → List Entry

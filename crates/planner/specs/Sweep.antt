@@ -10,7 +10,7 @@ use Rattle.spec.specs.Basics.{concat}
 use Rattle.spec.specs.Record.{Entry}
 use Rattle.spec.specs.Planner.{Slices}
 use Rattle.planning.specs.Planned.{walked}
-use Rattle.reading.specs.Rest.{rest}
+use Rattle.chain.specs.Rest.{rest}
 use Rattle.window.specs.declared.Window.{Window}
 use Rattle.planner.specs.declared.Walk.{Walk}
 use Rattle.planner.specs.declared.Moved.{Moved}

@@ -1,8 +1,8 @@
 // Steps (c) to (f) of a move, handed out: X's data cleaned, its sectors erased, Y made START.
 // Y is told by its address: it may be a copy that stands in no image yet.
+use chain::Spot;
 use moving::clean::is_mark;
 use moving::vacated_end;
-use reading::Spot;
 use record::up_8;
 use spec::CLEAN;
 use spec::SECTOR;
@@ -18,8 +18,8 @@ ghost use Prim.Native.Nat.{_+_, _*_, _<_, _≤_, _^_};
 ghost use lib.ListN.{length, take, drop};
 ghost use Rattle.spec.specs.Geometry.{floor, sectors};
 ghost use Rattle.spec.specs.Move.{mark-steps, clean-steps, start-steps, forget-steps, vacate-steps, close-steps};
-ghost use Rattle.reading.specs.Rest.{entry-of};
-ghost use Rattle.reading.specs.Fold.{Whole};
+ghost use Rattle.chain.specs.Rest.{entry-of};
+ghost use Rattle.chain.specs.Fold.{Whole};
 ghost use Rattle.moving.specs.Clean.{cleaned-steps};
 ghost use Rattle.window.specs.Handed.{slices, Handed, Counts};
 ghost use Rattle.planner.specs.Close.{standing};

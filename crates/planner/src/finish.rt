@@ -1,7 +1,7 @@
 // Repair 2 handed out: a move that was cut is brought to its end, with the second record as the head.
 use crate::close::hand_close;
+use chain::scan::low_of;
 use reading::Survey;
-use reading::scan::low_of;
 use record::bytes::is_clean;
 use spec::START;
 use window::Window;

@@ -1,8 +1,8 @@
 // Repair 1 handed out: behind a CLEAN head the sectors of the free run that are not all FF, then the head's low byte.
 use crate::close::hand_start;
+use chain::scan::low_of;
 use flash::is_blank;
 use reading::Survey;
-use reading::scan::low_of;
 use record::bytes::is_clean;
 use recovery::free::ceiling;
 use spec::Place;
@@ -16,7 +16,7 @@ ghost use lib.ListN.{length};
 ghost use Rattle.spec.specs.Geometry.{sectors};
 ghost use Rattle.spec.specs.Mount.{erase-steps};
 ghost use Rattle.planning.specs.Repairs.{steps-1};
-ghost use Rattle.reading.specs.FreeLaws.{In-image};
+ghost use Rattle.chain.specs.FreeLaws.{In-image};
 ghost use Rattle.reading.specs.Read.{reading-of, Surveyed};
 ghost use Rattle.recovery.specs.DirtySectors.{dirty-erased};
 ghost use Rattle.window.specs.Handed.{slices, Handed, Counts};

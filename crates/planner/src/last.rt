@@ -1,5 +1,5 @@
 // Repair 3 handed out: the last thing of the chain, which is torn, reserved or a torn wrap.
-use reading::Spot;
+use chain::Spot;
 use reading::Survey;
 use spec::Ending;
 use spec::HIGH;
@@ -15,8 +15,8 @@ ghost use lib.ListN.{length};
 ghost use Rattle.spec.specs.Step.{shifted};
 ghost use Rattle.spec.specs.Mount.{status-void-steps, torn-steps, missing-steps, reserved-steps, void-steps, last-steps, torn-wrap-steps};
 ghost use Rattle.planning.specs.Repairs.{steps-3};
-ghost use Rattle.reading.specs.Rest.{entry-of};
-ghost use Rattle.reading.specs.Fold.{Whole};
+ghost use Rattle.chain.specs.Rest.{entry-of};
+ghost use Rattle.chain.specs.Fold.{Whole};
 ghost use Rattle.reading.specs.Read.{reading-of, Surveyed};
 ghost use Rattle.reading.specs.Survey.{Torn-inside};
 ghost use Rattle.window.specs.Handed.{slices, Handed, Counts};

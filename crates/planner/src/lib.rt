@@ -5,13 +5,11 @@ mod finish;
 mod free;
 mod last;
 pub mod mount;
-mod place;
-pub mod space;
-pub mod stride;
-mod superseded;
+pub mod place;
+pub mod superseded;
 pub mod sweep;
 
-use reading::Cursor;
+use chain::Cursor;
 use spec::Place;
 use window::Window;
 
@@ -32,24 +30,6 @@ pub struct Walk {
 pub enum Moved {
     Stop,
     On(Walk, Window),
-}
-
-// The live bytes of what was read, and where its wrap marker stands; at the image's end there is none.
-pub struct Count {
-    pub live: usize,
-    pub wall: usize,
-}
-
-// Where a sweep stands of which only the place is asked, and where its image then has a wrap marker: there, or nowhere if that is its end.
-pub struct Course {
-    pub walk: Walk,
-    pub wall: usize,
-}
-
-// A move that is only walked: there is none, or the sweep goes on there.
-pub enum Strode {
-    Stop,
-    On(Course),
 }
 
 // The moves of a planned sweep, and its window.

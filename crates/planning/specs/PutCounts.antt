@@ -9,7 +9,7 @@ use lib.ListN.{length}
 use borrow.Author.Tests.{eq-eqb, ne-eqb}
 use Rattle.spec.specs.Step.{Image}
 use Rattle.spec.specs.Basics.{give, empty, keep, any, first-such, same, Each}
-use Rattle.spec.specs.Record.{name-ok, Entry, name-of, size}
+use Rattle.spec.specs.Record.{name-fault, name-ok, Entry, name-of, size}
 use Rattle.spec.specs.Chain.{Reading}
 use Rattle.spec.specs.Files.{named, named-as, same-name, has-named, live, has-name, file-named}
 use Rattle.spec.specs.Door.{settled-reading}
@@ -230,7 +230,7 @@ replaced-bytes none = 0
 replaced-bytes (some e) = size e
 
 named-ok : (u : List ℕ) → name-ok u ≡ true → (not (empty u) || false) ≡ true
-unfolding name-ok
+unfolding name-ok name-fault
 named-ok [] h = absurd (false≢true h)
 named-ok (b ∷ u) h = refl
 

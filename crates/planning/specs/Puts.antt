@@ -9,18 +9,19 @@ use mathlib.Core.List.{List, [], _∷_, _++_, map}
 use lib.ListN.{length, getD, set, length-set}
 use lib.Seq.{set-out}
 use lib.Dec.{leb, eqb}
-use borrow.Author.Tests.{eqb-true, eq-eqb, leb-true}
+use borrow.Author.Tests.{eqb-true, eq-eqb, ne-eqb, leb-true}
 use Rattle.spec.specs.declared.Ending.{Ending}
 use Rattle.spec.specs.declared.Place.{Place}
 use Rattle.spec.specs.Step.{Image, Step, program, run, shifted}
 use Rattle.spec.specs.Basics.{all, keep, first-such, Each}
-use Rattle.spec.specs.Bytes.{is-printable, ends-name, is-committed}
-use Rattle.spec.specs.Record.{size-of, name-ok, ends-in-slash, Entry}
+use Rattle.spec.specs.Bytes.{ends-name, is-committed}
+use Rattle.spec.specs.Record.{size-of, name-ok, Entry}
 use Rattle.spec.specs.Chain.{Reading}
 use Rattle.spec.specs.Files.{live, has-name, file-named}
 use Rattle.spec.specs.Place.{fits, fits-all, address, room}
 use Rattle.spec.specs.Write.{turn-steps, record-steps, put-steps}
 use Rattle.laws.specs.Tests.{and-left, and-right}
+use Rattle.laws.specs.Names.{Readable, good-name, name-readable}
 use Rattle.laws.specs.Lists.{keep-yes, keep-no, first-yes, first-no, each-map}
 use Rattle.laws.specs.Length.{Good}
 use Rattle.laws.specs.Steps.{run-append}
@@ -36,31 +37,17 @@ use Rattle.planning.specs.PutRested.{stands-at, new-rested}
 -- ---- what the tests of the call say
 
 -- a byte of a name ends none
-printable-inner : (b : ℕ) → is-printable b ≡ true → ends-name false b ≡ false
-unfolding is-printable ends-name
-printable-inner b h = go (eqb b 0x00) refl where
-  go : (t : Bool) → eqb b 0x00 ≡ t → ends-name false b ≡ false
-  go true e = absurd (false≢true (subst (λ (k : ℕ). is-printable k ≡ true) (eqb-true b 0 e) h))
-  go false e = rw (ends-name, e)
+readable-inner : (b : ℕ) → Readable b → ends-name false b ≡ false
+unfolding ends-name
+readable-inner b h = rw (ends-name, ne-eqb b 0 (λ e. omega arith))
 
-all-inner : (n : List ℕ) → all is-printable n ≡ true → Nameable n
+all-inner : (n : List ℕ) → Each Readable n → Nameable n
 all-inner [] h i l = absurd (not-suc-le-zero l)
-all-inner (b ∷ n) h i l = go (is-printable b) refl i l (all-inner n) where
-  go : (t : Bool) → is-printable b ≡ t → (i : ℕ) → i < length (b ∷ n) → (all is-printable n ≡ true → Nameable n)
-      → ends-name false (getD (b ∷ n) i 0) ≡ false
-  go true e zero l ih = printable-inner b e
-  go true e (suc j) l ih = ih (rw (all, e) at h) j (omega arith)
-  go false e i l ih = absurd (false≢true (rw (all, e) at h))
+all-inner (b ∷ n) h zero l = readable-inner b (h .0)
+all-inner (b ∷ n) h (suc j) l = all-inner n (h .1) j (omega arith)
 
-good-name : (n : List ℕ) → name-ok n ≡ true → (length n < 64) × Nameable n
-unfolding name-ok
-good-name n h =
-    let short : Bool = leb 1 (length n) && leb (length n) 63 in
-    let a = and-left (short && all is-printable n) (not (ends-in-slash n)) h in
-    let b = and-left short (all is-printable n) a in (
-      omega (arith, leb-true (length n) 63 (and-right (leb 1 (length n)) (leb (length n) 63) b)),
-      all-inner n (and-right short (all is-printable n) a),
-    )
+named-well : (n : List ℕ) → name-ok n ≡ true → (length n < 64) × Nameable n
+named-well n h = (omega (arith, good-name n h .short), all-inner n (name-readable n h))
 
 -- with room the record fits
 pub room-fits : (p : Place) (name : List ℕ) (s : ℕ) (es : List Entry) → room p name s es ≡ true → fits p s ≡ true
@@ -185,4 +172,4 @@ module _ (im : Image) (r : Reading) (name content : List ℕ) (g : Good (length 
         })) at
         (subst (λ (i : Image). Rested i (put-reading (stands-at (old-at old N)) (r .place) x (r .entries)))
         (sym (put-is im (r .place) name content old))
-        (new-rested im g w x (good-name name n) q (old-only N name (r .entries) old refl) k))
+        (new-rested im g w x (named-well name n) q (old-only N name (r .entries) old refl) k))

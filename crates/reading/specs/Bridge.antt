@@ -16,15 +16,15 @@ use Rattle.spec.specs.Bytes.{is-unfinished}
 use Rattle.spec.specs.Record.{size-of, rec-of, status-of, Entry}
 use Rattle.spec.specs.Next.{next}
 use Rattle.spec.specs.Chain.{Chain, add, stop, allowed, chain, Reading, ended, read, read-turned, joined, from-head, from-zero, read-on, reading-from}
-use Rattle.reading.specs.declared.Cursor.{Cursor}
-use Rattle.reading.specs.declared.Item.{Item}
-use Rattle.reading.specs.Cursor.{start, window, look, goes-on, turn, past, torn-end, stops, unfinished-at, settle, advance}
-use Rattle.reading.specs.CursorLaws.{advance-on, advance-here}
+use Rattle.chain.specs.declared.Cursor.{Cursor}
+use Rattle.chain.specs.declared.Item.{Item}
+use Rattle.chain.specs.Cursor.{start, window, look, goes-on, turn, past, torn-end, stops, unfinished-at, settle, advance}
+use Rattle.chain.specs.CursorLaws.{advance-on, advance-here}
 use Rattle.laws.specs.Parts.{part-window, part-first}
 use Rattle.laws.specs.Next.{Not-record}
 use Rattle.laws.specs.Chain.{chain-record, chain-stop}
-use Rattle.reading.specs.Fits.{look-inside}
-use Rattle.reading.specs.Rest.{Run, entry-of, ahead, done, followed, rest, rest-step}
+use Rattle.chain.specs.Fits.{look-inside}
+use Rattle.chain.specs.Rest.{Run, entry-of, ahead, done, followed, rest, rest-step}
 
 -- ---- a record reads the same in a part that holds it
 

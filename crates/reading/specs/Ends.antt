@@ -7,13 +7,13 @@ use mathlib.Core.List.{List}
 use lib.ListN.{length, length-drop, length-take}
 use Rattle.spec.specs.declared.Next.{Next}
 use Rattle.laws.specs.Tests.{wrong}
-use Rattle.reading.specs.declared.Cursor.{Cursor}
-use Rattle.reading.specs.declared.Spot.{Spot}
-use Rattle.reading.specs.declared.Item.{Item}
-use Rattle.reading.specs.Cursor.{window, look, advance}
-use Rattle.reading.specs.Fits.{look-fits}
-use Rattle.reading.specs.Along.{From, here, turned, Reached, Stops, Way, way, along}
-use Rattle.reading.specs.Rest.{followed, rest, rest-step}
+use Rattle.chain.specs.declared.Cursor.{Cursor}
+use Rattle.chain.specs.declared.Spot.{Spot}
+use Rattle.chain.specs.declared.Item.{Item}
+use Rattle.chain.specs.Cursor.{window, look, advance}
+use Rattle.chain.specs.Fits.{look-fits}
+use Rattle.chain.specs.Along.{From, here, turned, Reached, Stops, Way, way, along}
+use Rattle.chain.specs.Rest.{followed, rest, rest-step}
 
 -- a torn wrap has eight bytes
 look-torn : (image : List ℕ) (c : Cursor) → look image c ≡ Next.TornWrap → c .at + 8 ≤ length image

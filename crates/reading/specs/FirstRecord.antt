@@ -19,11 +19,11 @@ use Rattle.spec.specs.Next.{is-torn-marker, kind, sized, next-at, next}
 use Rattle.laws.specs.Tests.{wrong}
 use Rattle.laws.specs.Head.{Low}
 use Rattle.laws.specs.Parts.{long-le}
-use Rattle.reading.specs.declared.Cursor.{Cursor}
-use Rattle.reading.specs.declared.Spot.{Spot}
-use Rattle.reading.specs.Cursor.{look, goes-on, unfinished-at, past}
+use Rattle.chain.specs.declared.Cursor.{Cursor}
+use Rattle.chain.specs.declared.Spot.{Spot}
+use Rattle.chain.specs.Cursor.{look, goes-on, unfinished-at, past}
 use Rattle.reading.specs.Read.{first-cursor}
-use Rattle.reading.specs.Along.{From, here, turned, Reached, room-left}
+use Rattle.chain.specs.Along.{From, here, turned, Reached, room-left}
 use Rattle.reading.specs.Way.{On, from-on}
 
 -- ---- what stands there is a record or breaks a rule

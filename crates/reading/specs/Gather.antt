@@ -5,25 +5,25 @@ use mathlib.Core.Path.{_≡_, sym, ap, subst, _∙_}
 use mathlib.Core.Bool.{Bool, true, false, _&&_}
 use mathlib.Core.List.{List}
 use lib.ListN.{length}
-use Rattle.reading.specs.declared.Cursor.{Cursor}
-use Rattle.reading.specs.declared.Spot.{Spot}
-use Rattle.reading.specs.declared.Item.{Item}
-use Rattle.reading.specs.declared.Tally.{Tally}
-use Rattle.reading.specs.declared.Repeats.{Repeats}
+use Rattle.chain.specs.declared.Cursor.{Cursor}
+use Rattle.chain.specs.declared.Spot.{Spot}
+use Rattle.chain.specs.declared.Item.{Item}
+use Rattle.chain.specs.declared.Tally.{Tally}
+use Rattle.chain.specs.declared.Repeats.{Repeats}
 use Rattle.reading.specs.declared.Gathered.{Gathered}
 use Rattle.reading.specs.declared.Sight.{Sight}
-use Rattle.reading.specs.Cursor.{Cursor-sound, advance}
-use Rattle.reading.specs.Rest.{rest, entry-of}
-use Rattle.reading.specs.Fold.{Passes, Not-record}
-use Rattle.reading.specs.Tally.{none-yet, name-fine, noted, noted-plain, noted-plain-is, noted-records}
-use Rattle.reading.specs.Tally.{Passing, passing-start, passing-step}
-use Rattle.reading.specs.TallyLaws.{and-true}
+use Rattle.chain.specs.Cursor.{Cursor-sound, advance}
+use Rattle.chain.specs.Rest.{rest, entry-of}
+use Rattle.chain.specs.Fold.{Passes, Not-record}
+use Rattle.chain.specs.Tally.{none-yet, name-fine, noted, noted-plain, noted-plain-is, noted-records}
+use Rattle.chain.specs.Tally.{Passing, passing-start, passing-step}
+use Rattle.chain.specs.TallyLaws.{and-true}
 use Rattle.spec.specs.Record.{Entry, name-of, name-ok}
 use Rattle.spec.specs.Reading.{marked}
-use Rattle.reading.specs.FileLaws.{is-file}
-use Rattle.reading.specs.Repeats.{repeats-of}
-use Rattle.reading.specs.Prefix.{Gone, gone-none, gone-all, gone-more, front, front-and, front-more}
-use Rattle.reading.specs.Held.{Carried, carried-none, carried-same}
+use Rattle.chain.specs.FileLaws.{is-file}
+use Rattle.chain.specs.Repeats.{repeats-of}
+use Rattle.chain.specs.Prefix.{Gone, gone-none, gone-all, gone-more, front, front-and, front-more}
+use Rattle.chain.specs.Held.{Carried, carried-none, carried-same}
 use Rattle.reading.specs.Sought.{has-hash, not-seen, found-of, seen-or, Sought, sought-more, sought-none}
 
 abbrev pub nothing-yet : Cursor → Gathered

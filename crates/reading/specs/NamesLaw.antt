@@ -7,8 +7,8 @@ use Rattle.spec.specs.Basics.{any, all, keep, same}
 use Rattle.spec.specs.Record.{Entry, name-of, name-ok}
 use Rattle.spec.specs.Files.{named, named-as, has-named, live, superseded, files}
 use Rattle.spec.specs.Reading.{name-legal, names-ok}
-use Rattle.reading.specs.FileLaws.{is-file}
-use Rattle.reading.specs.Tally.{name-fine}
+use Rattle.chain.specs.FileLaws.{is-file}
+use Rattle.chain.specs.Tally.{name-fine}
 use Rattle.laws.specs.Tests.{wrong, and-left, and-right, iff}
 use Rattle.laws.specs.Lists.{same-is}
 

@@ -9,21 +9,21 @@ use Rattle.spec.specs.Geometry.{floor}
 use Rattle.spec.specs.Chain.{Reading}
 use Rattle.spec.specs.Files.{has-name, superseded}
 use Rattle.spec.specs.Mount.{settled}
-use Rattle.reading.specs.declared.Cursor.{Cursor}
-use Rattle.reading.specs.declared.Tally.{Tally}
+use Rattle.chain.specs.declared.Cursor.{Cursor}
+use Rattle.chain.specs.declared.Tally.{Tally}
 use Rattle.reading.specs.declared.Survey.{Survey}
-use Rattle.reading.specs.declared.Repeats.{Repeats}
+use Rattle.chain.specs.declared.Repeats.{Repeats}
 use Rattle.reading.specs.declared.Read.{Read}
 use Rattle.reading.specs.declared.Judged.{Judged}
 use Rattle.reading.specs.declared.Judgement.{Judgement}
-use Rattle.reading.specs.declared.Found.{Found}
-use Rattle.reading.specs.Cursor.{Cursor-sound, start}
-use Rattle.reading.specs.Rest.{rest}
-use Rattle.reading.specs.Tally.{none-yet, tally, Spots}
-use Rattle.reading.specs.FreeLaws.{In-image}
-use Rattle.reading.specs.Repeats.{repeats-of}
-use Rattle.reading.specs.FileLaws.{is-file}
-use Rattle.reading.specs.Seek.{found-in, Found-whole}
+use Rattle.chain.specs.declared.Found.{Found}
+use Rattle.chain.specs.Cursor.{Cursor-sound, start}
+use Rattle.chain.specs.Rest.{rest}
+use Rattle.chain.specs.Tally.{none-yet, tally, Spots}
+use Rattle.chain.specs.FreeLaws.{In-image}
+use Rattle.chain.specs.Repeats.{repeats-of}
+use Rattle.chain.specs.FileLaws.{is-file}
+use Rattle.chain.specs.Seek.{found-in, Found-whole}
 use Rattle.reading.specs.Sought.{Sought}
 
 -- the cursor at the head h

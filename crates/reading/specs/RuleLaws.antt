@@ -18,18 +18,19 @@ use Rattle.spec.specs.Reading.{head-clean, free-ok, whole, marked, second-ok, m
 use Rattle.spec.specs.Mount.{head-low, settled}
 use Rattle.spec.specs.Door.{if-settled, settled-reading}
 use Rattle.spec.specs.declared.Refusal.{Refusal}
-use Rattle.reading.specs.declared.Cursor.{Cursor}
-use Rattle.reading.specs.declared.Spot.{Spot}
-use Rattle.reading.specs.declared.Tally.{Tally}
+use Rattle.chain.specs.declared.Cursor.{Cursor}
+use Rattle.chain.specs.declared.Spot.{Spot}
+use Rattle.chain.specs.declared.Tally.{Tally}
 use Rattle.reading.specs.declared.Judged.{Judged}
 use Rattle.reading.specs.declared.Judgement.{Judgement}
-use Rattle.reading.specs.Rest.{rest, entry-of}
-use Rattle.reading.specs.Faithful.{Stands, faithful}
-use Rattle.reading.specs.Tally.{none-yet, tally}
-use Rattle.reading.specs.TallyLaws.{tally-records, tally-files, tally-fine, second-is, clean-few, low-is, clean-is, marks-few, marks-are, pending-is}
+use Rattle.chain.specs.Rest.{rest, entry-of}
+use Rattle.chain.specs.Faithful.{Stands, faithful}
+use Rattle.chain.specs.Tally.{none-yet, tally}
+use Rattle.chain.specs.TallyLaws.{tally-records, tally-files, tally-fine, second-is, clean-few}
+use Rattle.chain.specs.TallyLaws.{low-is, clean-is, marks-few, marks-are, pending-is}
 use Rattle.reading.specs.NamesLaw.{names-are, files-are}
 use Rattle.laws.specs.Settled.{second-marked, last-open, wrap-torn, calm, settled-is}
-use Rattle.reading.specs.FreeLaws.{free-by}
+use Rattle.chain.specs.FreeLaws.{free-by}
 use Rattle.reading.specs.Read.{Tallied, reading-of, answered, Told, Quiet, Judged-well, settled-read}
 
 -- ---- first and second record

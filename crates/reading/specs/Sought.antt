@@ -11,14 +11,14 @@ use Rattle.spec.specs.Record.{Entry, name-of}
 use Rattle.spec.specs.Files.{has-name}
 use Rattle.laws.specs.Tests.{wrong}
 use Rattle.laws.specs.Lists.{same-is, keep-yes, keep-no, first-yes, first-no}
-use Rattle.reading.specs.declared.Spot.{Spot}
-use Rattle.reading.specs.declared.Found.{Found}
+use Rattle.chain.specs.declared.Spot.{Spot}
+use Rattle.chain.specs.declared.Found.{Found}
 use Rattle.reading.specs.declared.Sight.{Sight}
-use Rattle.reading.specs.Rest.{entry-of}
-use Rattle.reading.specs.Fold.{Whole}
-use Rattle.reading.specs.FileLaws.{is-file}
-use Rattle.reading.specs.Seek.{found-in, Found-whole}
-use Rattle.reading.specs.Filter.{hash-from}
+use Rattle.chain.specs.Rest.{entry-of}
+use Rattle.chain.specs.Fold.{Whole}
+use Rattle.chain.specs.FileLaws.{is-file}
+use Rattle.chain.specs.Seek.{found-in, Found-whole}
+use Rattle.chain.specs.Filter.{hash-from}
 
 abbrev pub hash-of : Entry → ℕ
 hash-of e = hash-from 0 (name-of e)

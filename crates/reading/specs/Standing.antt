@@ -13,16 +13,16 @@ use Rattle.spec.specs.Reading.{limit}
 use Rattle.laws.specs.Tests.{wrong}
 use Rattle.laws.specs.Head.{Low}
 use Rattle.laws.specs.Length.{In-range}
-use Rattle.reading.specs.declared.Cursor.{Cursor}
-use Rattle.reading.specs.declared.Spot.{Spot}
-use Rattle.reading.specs.declared.Item.{Item}
-use Rattle.reading.specs.Cursor.{advance, Inside, Cursor-sound}
-use Rattle.reading.specs.Rest.{Run, entry-of, rest}
+use Rattle.chain.specs.declared.Cursor.{Cursor}
+use Rattle.chain.specs.declared.Spot.{Spot}
+use Rattle.chain.specs.declared.Item.{Item}
+use Rattle.chain.specs.Cursor.{advance, Inside, Cursor-sound}
+use Rattle.chain.specs.Rest.{Run, entry-of, rest}
 use Rattle.reading.specs.Bridge.{shown, reading-is}
-use Rattle.reading.specs.Fold.{Passes, passes, Not-record, rest-done}
+use Rattle.chain.specs.Fold.{Passes, passes, Not-record, rest-done}
 use Rattle.reading.specs.Read.{first-cursor}
 use Rattle.reading.specs.Survey.{first-sound}
-use Rattle.reading.specs.Along.{reached}
+use Rattle.chain.specs.Along.{reached}
 use Rattle.reading.specs.Way.{On, Lands, Ends-on, ends-on}
 use Rattle.reading.specs.FirstRecord.{first-at, past-on-way}
 

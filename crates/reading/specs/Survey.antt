@@ -8,18 +8,18 @@ use Rattle.spec.specs.declared.Ending.{Ending}
 use Rattle.spec.specs.Step.{Image}
 use Rattle.spec.specs.Chain.{reading-from}
 use Rattle.laws.specs.Length.{In-range}
-use Rattle.reading.specs.declared.Cursor.{Cursor}
-use Rattle.reading.specs.declared.Item.{Item}
-use Rattle.reading.specs.declared.Tally.{Tally}
-use Rattle.reading.specs.declared.Pass.{Pass}
+use Rattle.chain.specs.declared.Cursor.{Cursor}
+use Rattle.chain.specs.declared.Item.{Item}
+use Rattle.chain.specs.declared.Tally.{Tally}
+use Rattle.chain.specs.declared.Pass.{Pass}
 use Rattle.reading.specs.declared.Survey.{Survey}
-use Rattle.reading.specs.declared.Repeats.{Repeats}
-use Rattle.reading.specs.Cursor.{Cursor-sound}
-use Rattle.reading.specs.Rest.{rest}
+use Rattle.chain.specs.declared.Repeats.{Repeats}
+use Rattle.chain.specs.Cursor.{Cursor-sound}
+use Rattle.chain.specs.Rest.{rest}
 use Rattle.reading.specs.Bridge.{shown, reading-is}
 use Rattle.reading.specs.Ends.{Closes, rest-closes}
-use Rattle.reading.specs.Tally.{none-yet, passed, Spots, End-inside}
-use Rattle.reading.specs.Repeats.{repeats-of}
+use Rattle.chain.specs.Tally.{none-yet, passed, Spots, End-inside}
+use Rattle.chain.specs.Repeats.{repeats-of}
 use Rattle.reading.specs.Read.{first-cursor, reading-of, Surveyed, Known}
 
 -- a torn wrap has all its eight bytes

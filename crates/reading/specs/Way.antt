@@ -6,12 +6,12 @@ use mathlib.Core.Bool.{Bool, true, false}
 use Rattle.spec.specs.Step.{Image}
 use Rattle.spec.specs.Geometry.{floor}
 use Rattle.laws.specs.Tests.{wrong}
-use Rattle.reading.specs.declared.Cursor.{Cursor}
-use Rattle.reading.specs.declared.Spot.{Spot}
-use Rattle.reading.specs.declared.Item.{Item}
-use Rattle.reading.specs.Cursor.{look, turn, advance}
-use Rattle.reading.specs.Along.{From, here, turned, Reached, Stops, Way, way, room-left, along}
-use Rattle.reading.specs.Rest.{followed, rest, rest-step}
+use Rattle.chain.specs.declared.Cursor.{Cursor}
+use Rattle.chain.specs.declared.Spot.{Spot}
+use Rattle.chain.specs.declared.Item.{Item}
+use Rattle.chain.specs.Cursor.{look, turn, advance}
+use Rattle.chain.specs.Along.{From, here, turned, Reached, Stops, Way, way, room-left, along}
+use Rattle.chain.specs.Rest.{followed, rest, rest-step}
 
 -- ---- all steps from the head h of an image of length N: in eights, before the turn not below lo
 

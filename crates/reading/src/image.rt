@@ -1,26 +1,27 @@
 // The whole reading of an image: the survey from a head on, which repairs and moves go by, and the judgement of its rules.
-use crate::Cursor;
-use crate::Found;
-use crate::Headed;
-use crate::Item;
 use crate::Judged;
 use crate::Judgement;
 use crate::NamedRead;
 use crate::Overview;
 use crate::Read;
-use crate::Stretch;
 use crate::Survey;
-use crate::Tally;
-use crate::chain::start_at;
-use crate::filter::HASH_LIMIT;
-use crate::filter::hash;
 use crate::gather::gather;
-use crate::head::head;
 use crate::rules::legal;
 use crate::rules::settled;
-use crate::scan::pass;
 use crate::sought::file_of;
+use chain::Cursor;
+use chain::Found;
+use chain::Headed;
+use chain::Item;
+use chain::Stretch;
+use chain::Tally;
+use chain::filter::HASH_LIMIT;
+use chain::filter::hash;
+use chain::head::head;
+use chain::scan::pass;
+use chain::walk::start_at;
 use spec::Ending;
+use spec::NO_FAULT;
 use spec::Place;
 use spec::Refusal;
 use spec::floor;
@@ -34,11 +35,11 @@ ghost use Rattle.laws.specs.Length.{Workable};
 ghost use Rattle.reading.specs.declared.Judgement.{Judgement};
 ghost use Rattle.reading.specs.Read.{first-cursor, answered, Told, Quiet, judged-as, Judged-well, read-settled};
 ghost use Rattle.reading.specs.Read.{Judged-for, File-told, Named-file};
-ghost use Rattle.reading.specs.Rest.{rest};
-ghost use Rattle.reading.specs.Repeats.{repeats-of};
-ghost use Rattle.reading.specs.Filter.{hash-from};
+ghost use Rattle.chain.specs.Rest.{rest};
+ghost use Rattle.chain.specs.Repeats.{repeats-of};
+ghost use Rattle.chain.specs.Filter.{hash-from};
 ghost use Rattle.reading.specs.Sought.{Sought};
-ghost use Rattle.reading.specs.HeadSkip.{Blank-there};
+ghost use Rattle.chain.specs.HeadSkip.{Blank-there};
 ghost use Rattle.reading.specs.Survey.{Seen, told, survey-of};
 
 // The cursor at a head in this image.
@@ -115,7 +116,10 @@ fn if_settled(j: Judged) -> Read
     if j.settled {
         return Read::Good(s);
     }
-    Read::Refused(Refusal { number: 16 })
+    Read::Refused(Refusal {
+        number: 16,
+        name: NO_FAULT,
+    })
 }
 
 // What is read from the head h on, and whether it is settled; blank is a run of FF.
@@ -136,7 +140,10 @@ fn judge_from(image: &[u8], h: usize, blank: Stretch, wanted: u64) -> Judgement
             found: f,
         });
     }
-    Judgement::Refused(Refusal { number: 5 })
+    Judgement::Refused(Refusal {
+        number: 5,
+        name: NO_FAULT,
+    })
 }
 
 // What an image reads as, whether it is settled, and the first file of the hash that is wanted.
@@ -150,7 +157,10 @@ fn judge_for(image: &[u8], wanted: u64) -> Judgement
     let x = found.head;
     match x {
         Headed::At(h) => judge_from(image, h, blank, wanted),
-        Headed::Refused(n) => Judgement::Refused(Refusal { number: n }),
+        Headed::Refused(n) => Judgement::Refused(Refusal {
+            number: n,
+            name: NO_FAULT,
+        }),
     }
 }
 

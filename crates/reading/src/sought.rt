@@ -1,23 +1,23 @@
 // The file of a name, found in the pass of a judgement: the pass keeps the first file whose name has the same hash.
-use crate::Cursor;
-use crate::Found;
 use crate::Sight;
-use crate::Spot;
-use crate::files::file_named;
-use crate::files::has_name;
-use crate::files::is_file;
-use crate::filter::hash;
 use crate::marks::both;
+use chain::Cursor;
+use chain::Found;
+use chain::Spot;
+use chain::files::file_named;
+use chain::files::has_name;
+use chain::files::is_file;
+use chain::filter::hash;
 ghost use mathlib.Core.Path.{_≡_};
 ghost use mathlib.Core.Bool.{_&&_};
 ghost use Rattle.spec.specs.Basics.{keep, first-such};
 ghost use Rattle.spec.specs.Files.{has-name};
-ghost use Rattle.reading.specs.Cursor.{Cursor-sound};
-ghost use Rattle.reading.specs.Rest.{rest, entry-of};
-ghost use Rattle.reading.specs.Fold.{Whole};
-ghost use Rattle.reading.specs.FileLaws.{is-file};
-ghost use Rattle.reading.specs.Seek.{found-in, Found-whole};
-ghost use Rattle.reading.specs.Filter.{hash-from};
+ghost use Rattle.chain.specs.Cursor.{Cursor-sound};
+ghost use Rattle.chain.specs.Rest.{rest, entry-of};
+ghost use Rattle.chain.specs.Fold.{Whole};
+ghost use Rattle.chain.specs.FileLaws.{is-file};
+ghost use Rattle.chain.specs.Seek.{found-in, Found-whole};
+ghost use Rattle.chain.specs.Filter.{hash-from};
 ghost use Rattle.reading.specs.Sought.{hash-of, has-hash, not-seen, found-of, seen-or, Sought};
 
 pub fn not_seen() -> Sight

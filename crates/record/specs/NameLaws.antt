@@ -6,9 +6,8 @@ use mathlib.Core.Bool.{Bool, true, false}
 use mathlib.Core.List.{List, [], _∷_}
 use lib.ListN.{length, drop, getD, drop-of-length-le}
 use lib.Dec.{eqb}
-use Rattle.spec.specs.Basics.{all}
 use Rattle.spec.specs.Bytes.{ends-name, is-slash}
-use Rattle.spec.specs.Record.{name-length, ends-in-slash}
+use Rattle.spec.specs.Record.{name-length, may-stand, first-bad, ends-in-slash}
 use Rattle.laws.specs.Parts.{drop-next}
 
 -- ---- the end of a name, with n bytes of the window left: past the part, at an end, at another byte, past the window
@@ -32,17 +31,20 @@ pub name-out : (n : ℕ) (reserved : Bool) (s : List ℕ) → n ≡ 0 → name-l
 unfolding name-length
 name-out n reserved s e = rw e
 
--- ---- a test of every byte
+-- ---- the first bad byte of a name of k bytes, from the place i on
 
-module _ (p : ℕ → Bool) (s : List ℕ) (i : ℕ) where
-  pub all-next : i < length s → p (getD s i 0) ≡ true → all p (drop i s) ≡ all p (drop (i + 1) s)
-  all-next h q = rw (drop-next s i h, q, all)
+module _ (k : ℕ) (s : List ℕ) (i : ℕ) where
+  pub bad-next : i < length s → may-stand k i (getD s i 0) ≡ true → first-bad k i (drop i s) ≡ first-bad k (i + 1) (drop (i + 1) s)
+  unfolding first-bad
+  bad-next h q = rw (drop-next s i h, q, first-bad)
 
-  pub all-stop : i < length s → p (getD s i 0) ≡ false → all p (drop i s) ≡ false
-  all-stop h q = rw (drop-next s i h, q, all)
+  pub bad-here : i < length s → may-stand k i (getD s i 0) ≡ false → first-bad k i (drop i s) ≡ i
+  unfolding first-bad
+  bad-here h q = rw (drop-next s i h, q, first-bad)
 
-  pub all-over : length s ≤ i → all p (drop i s) ≡ true
-  all-over h = rw (drop-of-length-le s h)
+  pub bad-none : length s ≤ i → first-bad k i (drop i s) ≡ k
+  unfolding first-bad
+  bad-none h = rw (drop-of-length-le s h)
 
 -- ---- the last byte
 

@@ -11,7 +11,7 @@ use Rattle.spec.specs.Mount.{mended}
 use Rattle.flash.specs.declared.Meter.{Meter}
 use Rattle.flash.specs.Meters.{Enough, Used-up}
 use Rattle.reading.specs.declared.Survey.{Survey}
-use Rattle.reading.specs.Rest.{rest}
+use Rattle.chain.specs.Rest.{rest}
 use Rattle.reading.specs.Read.{first-cursor, reading-of}
 use Rattle.recovery.specs.declared.Mended.{Mended}
 use Rattle.reading.specs.Survey.{Seen}

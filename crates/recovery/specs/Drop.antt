@@ -17,13 +17,13 @@ use Rattle.spec.specs.Files.{named, named-as, has-named, superseded, same-name}
 use Rattle.spec.specs.Mount.{delete-step, drop-steps}
 use Rattle.flash.specs.declared.Meter.{Meter}
 use Rattle.flash.specs.Did.{Did, did-one}
-use Rattle.reading.specs.declared.Cursor.{Cursor}
-use Rattle.reading.specs.declared.Spot.{Spot}
-use Rattle.reading.specs.declared.Item.{Item}
-use Rattle.reading.specs.Cursor.{Cursor-sound, unfinished-at, advance}
-use Rattle.reading.specs.Along.{Reached, reached}
-use Rattle.reading.specs.Rest.{Run, entry-of, rest, rest-record}
-use Rattle.reading.specs.Fold.{Not-record, rest-done}
+use Rattle.chain.specs.declared.Cursor.{Cursor}
+use Rattle.chain.specs.declared.Spot.{Spot}
+use Rattle.chain.specs.declared.Item.{Item}
+use Rattle.chain.specs.Cursor.{Cursor-sound, unfinished-at, advance}
+use Rattle.chain.specs.Along.{Reached, reached}
+use Rattle.chain.specs.Rest.{Run, entry-of, rest, rest-record}
+use Rattle.chain.specs.Fold.{Not-record, rest-done}
 use Rattle.reading.specs.Read.{first-cursor}
 use Rattle.flash.specs.Toward.{Toward, toward-more, toward-end}
 use Rattle.recovery.specs.Trail.{Tidy, Ahead, tidy-seen, tidy-next, ahead-back, look-dropped, step-again}

@@ -18,7 +18,7 @@ use Rattle.spec.specs.Mount.{free-sectors, dirty, erase-steps, head-low}
 use Rattle.flash.specs.declared.Meter.{Meter}
 use Rattle.flash.specs.Did.{Did, did-both}
 use Rattle.reading.specs.declared.Survey.{Survey}
-use Rattle.reading.specs.Rest.{entry-of, rest}
+use Rattle.chain.specs.Rest.{entry-of, rest}
 use Rattle.reading.specs.RuleLaws.{head-none, first-low, first-clean}
 use Rattle.reading.specs.Read.{first-cursor}
 use Rattle.reading.specs.Survey.{Seen}

@@ -15,14 +15,14 @@ use Rattle.spec.specs.Chain.{reading-from}
 use Rattle.spec.specs.Mount.{status-void-steps, torn-steps, missing-steps, reserved-steps, void-steps, last-steps, torn-wrap-steps}
 use Rattle.flash.specs.declared.Meter.{Meter}
 use Rattle.flash.specs.Did.{Did, did-both}
-use Rattle.reading.specs.declared.Cursor.{Cursor}
-use Rattle.reading.specs.declared.Spot.{Spot}
-use Rattle.reading.specs.declared.Tally.{Tally}
+use Rattle.chain.specs.declared.Cursor.{Cursor}
+use Rattle.chain.specs.declared.Spot.{Spot}
+use Rattle.chain.specs.declared.Tally.{Tally}
 use Rattle.reading.specs.declared.Survey.{Survey}
-use Rattle.reading.specs.Rest.{entry-of, rest}
-use Rattle.reading.specs.Fold.{Whole, name-length-is}
-use Rattle.reading.specs.Faithful.{Stands, faithful}
-use Rattle.reading.specs.Tally.{none-yet, noted, tally}
+use Rattle.chain.specs.Rest.{entry-of, rest}
+use Rattle.chain.specs.Fold.{Whole, name-length-is}
+use Rattle.chain.specs.Faithful.{Stands, faithful}
+use Rattle.chain.specs.Tally.{none-yet, noted, tally}
 use Rattle.reading.specs.RuleLaws.{count-is}
 use Rattle.reading.specs.Read.{Tallied, first-cursor}
 use Rattle.reading.specs.Survey.{Seen}

@@ -15,8 +15,8 @@ use Rattle.spec.specs.Mount.{repair-1, repair-2-on, repair-3, drop-steps, repai
 use Rattle.flash.specs.declared.Meter.{Meter}
 use Rattle.flash.specs.Did.{Did}
 use Rattle.flash.specs.Meters.{Enough, Used-up}
-use Rattle.reading.specs.declared.Item.{Item}
-use Rattle.reading.specs.Rest.{rest}
+use Rattle.chain.specs.declared.Item.{Item}
+use Rattle.chain.specs.Rest.{rest}
 use Rattle.reading.specs.Bridge.{shown, reading-is}
 use Rattle.laws.specs.Settled.{close-filled}
 use Rattle.reading.specs.Read.{first-cursor}

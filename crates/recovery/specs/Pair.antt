@@ -14,12 +14,12 @@ use Rattle.spec.specs.Chain.{Reading, reading-from}
 use Rattle.spec.specs.Move.{close-steps}
 use Rattle.flash.specs.declared.Meter.{Meter}
 use Rattle.flash.specs.Did.{Did, did-none}
-use Rattle.reading.specs.declared.Tally.{Tally}
+use Rattle.chain.specs.declared.Tally.{Tally}
 use Rattle.reading.specs.declared.Survey.{Survey}
-use Rattle.reading.specs.Rest.{entry-of, rest}
-use Rattle.reading.specs.Faithful.{Stands, faithful}
-use Rattle.reading.specs.Tally.{none-yet, tally}
-use Rattle.reading.specs.TallyLaws.{first-is, second-is}
+use Rattle.chain.specs.Rest.{entry-of, rest}
+use Rattle.chain.specs.Faithful.{Stands, faithful}
+use Rattle.chain.specs.Tally.{none-yet, tally}
+use Rattle.chain.specs.TallyLaws.{first-is, second-is}
 use Rattle.reading.specs.RuleLaws.{count-is}
 use Rattle.reading.specs.Read.{first-cursor}
 use Rattle.reading.specs.Survey.{Seen}

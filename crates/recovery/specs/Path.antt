@@ -10,14 +10,14 @@ use Rattle.spec.specs.declared.Next.{Next}
 use Rattle.spec.specs.Step.{Image}
 use Rattle.spec.specs.Record.{size-of, Entry}
 use Rattle.laws.specs.Parts.{Outside}
-use Rattle.reading.specs.declared.Cursor.{Cursor}
-use Rattle.reading.specs.declared.Spot.{Spot}
-use Rattle.reading.specs.declared.Item.{Item}
-use Rattle.reading.specs.Cursor.{look, goes-on, past, settle, advance}
-use Rattle.reading.specs.Fits.{look-inside}
-use Rattle.reading.specs.Along as step
-use Rattle.reading.specs.Along.{From, sought, from-advance, Reached, Way, way, reached, along}
-use Rattle.reading.specs.Rest.{Run, entry-of, ahead, followed, rest, rest-step, rest-record}
+use Rattle.chain.specs.declared.Cursor.{Cursor}
+use Rattle.chain.specs.declared.Spot.{Spot}
+use Rattle.chain.specs.declared.Item.{Item}
+use Rattle.chain.specs.Cursor.{look, goes-on, past, settle, advance}
+use Rattle.chain.specs.Fits.{look-inside}
+use Rattle.chain.specs.Along as step
+use Rattle.chain.specs.Along.{From, sought, from-advance, Reached, Way, way, reached, along}
+use Rattle.chain.specs.Rest.{Run, entry-of, ahead, followed, rest, rest-step, rest-record}
 use Rattle.recovery.specs.Trail.{Tidy, Ahead, from-tidy, tidy-seen, tidy-next, off-record, ahead-back, window-kept, entry-kept}
 use Rattle.recovery.specs.Trail.{unfinished-kept, look-kept, step-again}
 

@@ -14,14 +14,14 @@ use Rattle.spec.specs.Bytes.{is-unfinished}
 use Rattle.spec.specs.Record.{size-of, rec-of, Rec, low-of, high-of, status-of, spare-of}
 use Rattle.spec.specs.Next.{next}
 use Rattle.spec.specs.Chain.{allowed}
-use Rattle.reading.specs.declared.Cursor.{Cursor}
-use Rattle.reading.specs.declared.Spot.{Spot}
-use Rattle.reading.specs.declared.Item.{Item}
-use Rattle.reading.specs.Cursor.{window, look, goes-on, turn, past, unfinished-at, settle, advance}
+use Rattle.chain.specs.declared.Cursor.{Cursor}
+use Rattle.chain.specs.declared.Spot.{Spot}
+use Rattle.chain.specs.declared.Item.{Item}
+use Rattle.chain.specs.Cursor.{window, look, goes-on, turn, past, unfinished-at, settle, advance}
 use Rattle.laws.specs.Parts.{Outside, part-window, part-set}
-use Rattle.reading.specs.Fits.{look-inside}
-use Rattle.reading.specs.Along.{From, here, turned, from-advance, Reached}
-use Rattle.reading.specs.Rest.{entry-of}
+use Rattle.chain.specs.Fits.{look-inside}
+use Rattle.chain.specs.Along.{From, here, turned, from-advance, Reached}
+use Rattle.chain.specs.Rest.{entry-of}
 use Rattle.reading.specs.Bridge.{rec-part}
 use Rattle.recovery.specs.SameRecord.{next-kept, kind-dropped}
 

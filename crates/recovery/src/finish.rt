@@ -1,10 +1,10 @@
 // Repair 2: a move that was cut is brought to its end, with the second record as the head.
+use chain::scan::low_of;
 use flash::Meter;
 use flash::program;
 use moving::NewHead;
 use moving::close;
 use reading::image::survey;
-use reading::scan::low_of;
 use record::bytes::is_clean;
 use spec::START;
 ghost use mathlib.Core.Path.{_≡_};

@@ -1,9 +1,9 @@
 // Repair 1: behind a CLEAN head the free run is erased where it isn't FF, and the head becomes START.
 use crate::sectors::erase_dirty;
+use chain::scan::low_of;
 use flash::Meter;
 use moving::to_start;
 use reading::image::survey;
-use reading::scan::low_of;
 use record::bytes::is_clean;
 use spec::Place;
 use spec::SECTOR;
@@ -18,7 +18,7 @@ ghost use Rattle.spec.specs.Mount.{erase-steps};
 ghost use Rattle.laws.specs.Length.{In-range};
 ghost use Rattle.flash.specs.Did.{Did};
 ghost use Rattle.flash.specs.Meters.{Can-count, Asked-most};
-ghost use Rattle.reading.specs.FreeLaws.{In-image};
+ghost use Rattle.chain.specs.FreeLaws.{In-image};
 ghost use Rattle.recovery.specs.Readable.{Readable};
 ghost use Rattle.planning.specs.Repairs.{steps-1};
 

@@ -1,9 +1,9 @@
 // Repair 3: the last thing of the chain, which is torn, reserved or a torn wrap.
+use chain::Spot;
+use chain::Tally;
 use flash::Meter;
 use flash::program;
 use flash::program_bytes;
-use reading::Spot;
-use reading::Tally;
 use reading::image::survey;
 use spec::Ending;
 use spec::HIGH;
@@ -19,8 +19,8 @@ ghost use Rattle.spec.specs.Chain.{reading-from};
 ghost use Rattle.spec.specs.Mount.{torn-steps, missing-steps, reserved-steps, void-steps, last-steps, torn-wrap-steps};
 ghost use Rattle.flash.specs.Did.{Did};
 ghost use Rattle.flash.specs.Meters.{Can-count, Asked-most};
-ghost use Rattle.reading.specs.Rest.{entry-of, rest};
-ghost use Rattle.reading.specs.Fold.{Whole};
+ghost use Rattle.chain.specs.Rest.{entry-of, rest};
+ghost use Rattle.chain.specs.Fold.{Whole};
 ghost use Rattle.reading.specs.Read.{Tallied, first-cursor};
 ghost use Rattle.reading.specs.Survey.{Torn-inside};
 ghost use Rattle.recovery.specs.Readable.{Readable};

@@ -6,12 +6,12 @@ mod last;
 mod sectors;
 mod superseded;
 
+use chain::files::count_files;
 use finish::finish_move;
 use flash::Meter;
 use free::erase_free;
 use last::void_last;
 use moving::NewHead;
-use reading::files::count_files;
 use reading::image::first_cursor;
 use reading::image::survey;
 use superseded::drop_superseded;

@@ -1,10 +1,10 @@
 // Repair 4: each F8 record that has an FC record of its name is deleted, in chain order.
+use chain::Cursor;
+use chain::Item;
+use chain::Spot;
+use chain::files::is_superseded;
+use chain::walk::advance;
 use flash::Meter;
-use reading::Cursor;
-use reading::Item;
-use reading::Spot;
-use reading::chain::advance;
-use reading::files::is_superseded;
 use reading::image::first_cursor;
 use spec::Status;
 use writing::build::set_status;
@@ -15,9 +15,9 @@ ghost use Rattle.spec.specs.Chain.{reading-from};
 ghost use Rattle.spec.specs.Mount.{drop-steps};
 ghost use Rattle.flash.specs.Did.{Did};
 ghost use Rattle.flash.specs.Meters.{Can-count, Asked-most};
-ghost use Rattle.reading.specs.Cursor.{Cursor-sound};
-ghost use Rattle.reading.specs.Rest.{entry-of, rest};
-ghost use Rattle.reading.specs.Fold.{Whole};
+ghost use Rattle.chain.specs.Cursor.{Cursor-sound};
+ghost use Rattle.chain.specs.Rest.{entry-of, rest};
+ghost use Rattle.chain.specs.Fold.{Whole};
 ghost use Rattle.recovery.specs.Readable.{Readable};
 ghost use Rattle.recovery.specs.Drop.{dropped};
 

@@ -1,4 +1,5 @@
 -- Tests on lists, and a result that may be a refusal. Nothing here is of document 01 itself.
+use Rattle.spec.specs.declared.NameFault.{NameFault}
 use Rattle.spec.specs.declared.Refusal.{Refusal}
 use Rattle.spec.specs.Prelude.{ℕ, zero, suc, Bool, true, false, Option, none, some, List, [], _∷_, _++_, take, drop, eqb}
 
@@ -7,9 +8,13 @@ pub data Answer (A : Type 0) : Type 0 where
   refuse : Refusal → Answer A
   give : A → Answer A
 
+-- nothing is wrong with the name
+abbrev pub no-fault : NameFault
+no-fault = record { reason = 0; place = 0 }
+
 -- the refusal that gives back no more than its number
 abbrev pub numbered : ℕ → Refusal
-numbered n = record { number = n }
+numbered n = record { number = n; name = no-fault }
 
 -- go on if the test passes, else refuse
 abbrev pub checked : {A : Type 0} → Bool → Refusal → Answer A → Answer A

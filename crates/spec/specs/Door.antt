@@ -1,9 +1,10 @@
 -- "Numbers given back", the table's rows 22, 5, 6 and 16: what a call asks of the image, and of a name, before anything else.
 use Rattle.spec.specs.Prelude.{List, ℕ, length}
+use Rattle.spec.specs.declared.Refusal.{Refusal}
 use Rattle.spec.specs.Step.{Image}
 use Rattle.spec.specs.Basics.{Answer, give, numbered, checked, onward}
 use Rattle.spec.specs.Geometry.{good-length}
-use Rattle.spec.specs.Record.{name-ok}
+use Rattle.spec.specs.Record.{name-fault, name-ok}
 use Rattle.spec.specs.Chain.{Reading}
 use Rattle.spec.specs.Reading.{reading}
 use Rattle.spec.specs.Mount.{settled}
@@ -28,6 +29,10 @@ accepted image = if-good-length image (reading image)
 unfoldable pub admitted : Image → Answer Reading
 admitted image = if-good-length image (settled-reading image)
 
--- put, get and remove: 22 "N bad, then name bad", then 5, 6 and 16
+-- K5: "Put, get and remove pass both on beside 22, in place of zeros"
+abbrev pub misnamed : List ℕ → Refusal
+misnamed name = record { number = 22; name = name-fault name }
+
+-- put, get and remove: 22 "N bad, then name bad", then 5, 6 and 16; the name's fault is "0 where N is bad"
 unfoldable pub admitted-named : List ℕ → Image → Answer Reading
-admitted-named name image = if-good-length image (checked (name-ok name) (numbered 22) (settled-reading image))
+admitted-named name image = if-good-length image (checked (name-ok name) (misnamed name) (settled-reading image))

@@ -1,8 +1,9 @@
 -- "Geometry and record", second part: the header, the magic, the name, the size.
-use Rattle.spec.specs.Prelude.{ℕ, zero, suc, _+_, _*_, _/_, _%_, Bool, true, false, _&&_, not, List, [], _∷_, length, take, drop, getD, leb}
-use Rattle.spec.specs.Basics.{all}
+use Rattle.spec.specs.Prelude.{ℕ, zero, suc, _+_, _*_, _/_, _%_, Bool, true, false, _&&_, _||_, not, List, [], _∷_}
+use Rattle.spec.specs.Prelude.{length, take, drop, getD, leb, ltb, eqb}
+use Rattle.spec.specs.declared.NameFault.{NameFault}
 use Rattle.spec.specs.Geometry.{up8}
-use Rattle.spec.specs.Bytes.{is-wrap, is-start, is-clean, is-high, ends-name, is-printable, is-slash}
+use Rattle.spec.specs.Bytes.{is-wrap, is-start, is-clean, is-high, ends-name, is-printable, is-space, is-slash}
 
 -- ---- "Header, 8 bytes: magic (2), status (1), reserved (1, always FF), data_len (4)", at the front of s
 
@@ -54,9 +55,40 @@ ends-in-slash [] = false
 ends-in-slash (b ∷ []) = is-slash b
 ends-in-slash (b ∷ (c ∷ s)) = ends-in-slash (c ∷ s)
 
--- "A file name has 1 to 63 bytes, each 21 to 7E hex, the last not '/'"
+-- the byte b may stand at the place i of a name of k bytes: "each 21 to 7E hex"; K5: "Allow 20 hex, except as first or last byte"
+unfoldable pub may-stand : ℕ → ℕ → ℕ → Bool
+may-stand k i b = is-printable b || (is-space b && not (eqb i 0) && not (eqb (i + 1) k))
+
+-- the place of the first bad byte of a name of k bytes, of which s are those from the place i on; k if there is none
+unfoldable pub first-bad : ℕ → ℕ → List ℕ → ℕ
+first-bad k i [] = k
+first-bad k i (b ∷ s) = elim (may-stand k i b) [ true ↦ first-bad k (i + 1) s | false ↦ i ]
+
+abbrev fault : ℕ → ℕ → NameFault
+fault reason place = record { reason = reason; place = place }
+
+-- K5: the name check says "what is wrong: empty, too long, bad byte with the first one's place (from 0; else 0), or final slash, tested in
+-- that order (1 to 4 ..)"; 0 if nothing is
+unfoldable pub name-fault : List ℕ → NameFault
+name-fault n =
+    let k = length n in
+    let bad = first-bad k 0 n in
+    elim (leb 1 k) [
+      | false ↦ fault 1 0
+      | true ↦
+          elim (leb k 63) [
+            | false ↦ fault 2 0
+            | true ↦
+                elim (ltb bad k) [
+                  | true ↦ fault 3 bad
+                  | false ↦ elim (ends-in-slash n) [ true ↦ fault 4 0 | false ↦ fault 0 0 ]
+                ]
+          ]
+    ]
+
+-- "A file name has 1 to 63 bytes, each 21 to 7E hex, the last not '/'", and K5's spaces
 unfoldable pub name-ok : List ℕ → Bool
-name-ok n = leb 1 (length n) && leb (length n) 63 && all is-printable n && not (ends-in-slash n)
+name-ok n = eqb (name-fault n .reason) 0
 
 -- ---- a record as it is read
 

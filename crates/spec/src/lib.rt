@@ -114,9 +114,22 @@ impl Place {
     }
 }
 
-// What a refusal gives back: document 01's number.
+// What the name check says: 0, or why a name is refused (1 empty, 2 too long, 3 a bad byte, 4 a final slash), and the bad byte's place.
+pub struct NameFault {
+    pub reason: u32,
+    pub place: usize,
+}
+
+// Nothing is wrong with the name.
+pub const NO_FAULT: NameFault = NameFault {
+    reason: 0,
+    place: 0,
+};
+
+// What a refusal gives back: document 01's number; and what is wrong with the name, where that is the reason.
 pub struct Refusal {
     pub number: u32,
+    pub name: NameFault,
 }
 
 // What mount reports of the image it leaves: head, tail, the number of live files.
@@ -127,7 +140,6 @@ pub struct Report {
 }
 
 // What the bytes of an image are good for, as mount, put and sweep tell it of the image that they leave.
-#[repr(C)]
 pub struct Space {
     pub live: usize,
     pub dead: usize,

@@ -14,18 +14,18 @@ use Rattle.laws.specs.Parts.{Outside}
 use Rattle.flash.specs.declared.Meter.{Meter}
 use Rattle.flash.specs.Did.{Did, did-none, did-both, did-all}
 use Rattle.flash.specs.Meters.{Asked-most, Enough}
-use Rattle.reading.specs.declared.Cursor.{Cursor}
-use Rattle.reading.specs.declared.Spot.{Spot}
-use Rattle.reading.specs.declared.Item.{Item}
-use Rattle.reading.specs.Cursor.{advance}
-use Rattle.reading.specs.Rest.{entry-of}
-use Rattle.reading.specs.Fold.{Not-record}
+use Rattle.chain.specs.declared.Cursor.{Cursor}
+use Rattle.chain.specs.declared.Spot.{Spot}
+use Rattle.chain.specs.declared.Item.{Item}
+use Rattle.chain.specs.Cursor.{advance}
+use Rattle.chain.specs.Rest.{entry-of}
+use Rattle.chain.specs.Fold.{Not-record}
 use Rattle.reading.specs.Read.{first-cursor}
 use Rattle.moving.specs.Untouched.{kept}
 use Rattle.moving.specs.Clean.{cleaned-is}
 use Rattle.moving.specs.Close.{close-same, close-low}
 use Rattle.moving.specs.declared.NewHead.{NewHead}
-use Rattle.reading.specs.Along.{reached}
+use Rattle.chain.specs.Along.{reached}
 use Rattle.reading.specs.FirstRecord.{apart, second-even}
 use Rattle.sweeping.specs.MoveSteps.{hand-steps, hand-head, handing, heading}
 use Rattle.reading.specs.Standing.{Led, Taken, stands, none-listed, one-listed, two-listed}

@@ -19,12 +19,12 @@ use Rattle.flash.specs.declared.Meter.{Meter}
 use Rattle.flash.specs.Did.{Did, did-none}
 use Rattle.flash.specs.Meters.{Can-count, Asked-most}
 use Rattle.record.specs.Within.{Name-length}
-use Rattle.reading.specs.declared.Cursor.{Cursor}
-use Rattle.reading.specs.declared.Spot.{Spot}
-use Rattle.reading.specs.declared.Item.{Item}
-use Rattle.reading.specs.Cursor.{advance}
-use Rattle.reading.specs.Rest.{Run, entry-of, rest}
-use Rattle.reading.specs.Fold.{Whole, name-length-is, content-length-is, Not-record, rest-done}
+use Rattle.chain.specs.declared.Cursor.{Cursor}
+use Rattle.chain.specs.declared.Spot.{Spot}
+use Rattle.chain.specs.declared.Item.{Item}
+use Rattle.chain.specs.Cursor.{advance}
+use Rattle.chain.specs.Rest.{Run, entry-of, rest}
+use Rattle.chain.specs.Fold.{Whole, name-length-is, content-length-is, Not-record, rest-done}
 use Rattle.reading.specs.Read.{first-cursor}
 use Rattle.writing.specs.Placing.{placed-parts, placed-full}
 use Rattle.writing.specs.Put.{Ready}

@@ -1,13 +1,13 @@
 // One move: the head's record copied if it is live, then the head handed over to the record behind it.
 use crate::Plan;
+use chain::Item;
+use chain::files::is_live;
+use chain::walk::advance;
 use flash::Meter;
 use moving::NewHead;
 use moving::close;
 use moving::copy::copy_head;
 use moving::to_clean;
-use reading::Item;
-use reading::chain::advance;
-use reading::files::is_live;
 use reading::image::first_cursor;
 use record::size;
 use spec::CLEAN;

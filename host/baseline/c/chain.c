@@ -3,13 +3,14 @@
 
 Cursor bl_cursor(size_t n, size_t head)
 {
-    Cursor c = {head, n, floor_of(head), false, false};
+    Cursor c = {head, n, floor_of(head), false, false, 0};
     return c;
 }
 
 /* The chain goes on at 0. It turns once. */
 static void turn(Cursor *c)
 {
+    c->turn = c->at;
     c->at = 0;
     c->end = c->room;
     c->room = 0;

@@ -97,11 +97,12 @@ uint32_t baseline_mount(uint8_t *m, size_t n, size_t allowance, size_t *head, si
                         size_t *live, size_t *dead, size_t *blank, size_t *lost, size_t *steps)
 {
     Flash f = {m, allowance, 0};
+    Space space = {live, dead, blank, lost};
     Query q = nothing();
     Reading s;
     uint32_t answer;
     *head = *tail = *files = *steps = 0;
-    *live = *dead = *blank = *lost = 0;
+    tell_nothing(&space);
     answer = bl_read(m, n, &q, &s);
     if (answer != DONE)
         return answer;
@@ -113,7 +114,10 @@ uint32_t baseline_mount(uint8_t *m, size_t n, size_t allowance, size_t *head, si
         *head = s.place.head;
         *tail = s.place.tail;
         *files = s.files;
-        bl_tell(m, n, s.place.head, live, dead, blank, lost);
+        if (f.asked == 0)
+            bl_tell(&s.place, s.turn, s.live, &space);
+        else
+            bl_tell_chain(m, n, s.place.head, &space);
     }
     return answer_of(&f, steps);
 }

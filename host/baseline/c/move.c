@@ -68,12 +68,13 @@ uint32_t baseline_sweep(uint8_t *m, size_t n, size_t allowance, size_t *moves, s
                         size_t *steps)
 {
     Flash f = {m, allowance, 0};
+    Space space = {live, dead, blank, lost};
     Query q = nothing();
     Reading s;
     Move made = MOVED;
     uint32_t answer;
     *moves = *steps = 0;
-    *live = *dead = *blank = *lost = 0;
+    tell_nothing(&space);
     answer = bl_read_settled(m, n, &q, &s);
     if (answer != DONE)
         return answer;
@@ -86,6 +87,6 @@ uint32_t baseline_sweep(uint8_t *m, size_t n, size_t allowance, size_t *moves, s
     if (made == NO_PLACE && *moves == 0)
         return NO_ROOM;
     if (!is_cut(&f))
-        bl_tell(m, n, s.place.head, live, dead, blank, lost);
+        bl_tell_chain(m, n, s.place.head, &space);
     return answer_of(&f, steps);
 }

@@ -52,6 +52,7 @@ static bool noted_file(Reading *s, Seen *keys, Query *q, const Record *r)
         s->largest = r->size;
     }
     s->files++;
+    s->live += r->size;
     return !seen(keys, key) || told_apart(s, r);
 }
 
@@ -80,6 +81,7 @@ static bool chain_legal(Reading *s, Query *q)
     s->torn_wrap = step == A_TORN_WRAP ? c.at : NONE;
     s->place.tail = step == A_TORN_WRAP ? 0 : c.at;
     s->place.turned = c.turned || step == A_TORN_WRAP;
+    s->turn = c.turn;
     return step != A_BREACH;
 }
 

@@ -46,9 +46,17 @@ typedef struct {
 bool bl_fit(Place *p, size_t size, Spot *spot);
 void bl_move_head(Place *p, const Record *y);
 
-/* space.c: what the bytes are good for, of an image with nothing to repair */
+/* space.c: what the bytes are good for, of an image with nothing to repair: by its place, the end of its records before the turn and
+   the bytes of its files; or by a pass over its chain */
 
-void bl_tell(const uint8_t *m, size_t n, size_t head, size_t *live, size_t *dead, size_t *blank, size_t *lost);
+typedef struct {
+    size_t *live, *dead, *blank, *lost;
+} Space;
+
+void bl_tell(const Place *p, size_t turn, size_t live, Space *space);
+void bl_tell_chain(const uint8_t *m, size_t n, size_t head, Space *space);
+
+static inline void tell_nothing(Space *space) { *space->live = *space->dead = *space->blank = *space->lost = 0; }
 
 /* head.c: the head, and a stretch that the search for it found to be FF */
 
@@ -71,6 +79,7 @@ uint32_t bl_head(const uint8_t *m, size_t n, size_t *head, Stretch *blank);
 typedef struct {
     size_t at, end, room; /* the next place; its limit; the limit after a turn, 0 if there can be none */
     bool turned, held;    /* held: an unfinished record stands before */
+    size_t turn;          /* where the records before the turn ended */
 } Cursor;
 
 typedef enum { A_RECORD, THE_TAIL, A_TORN_WRAP, A_BREACH } Step;
@@ -124,6 +133,8 @@ typedef struct {
     Stretch blank;
     size_t records, files;
     size_t largest;       /* the size of the largest file but the one asked for */
+    size_t live;          /* the sizes of the files, superseded ones too */
+    size_t turn;          /* where the records before the turn end */
     size_t superseded;    /* how many F8 have an FC of their name */
     size_t superseded_at; /* the only one's address; if the head is one of two, the other's */
     size_t torn_wrap;     /* its address, or NONE */
@@ -134,6 +145,10 @@ typedef struct {
 bool bl_ask(Query *q, const uint8_t *name, size_t length);
 uint32_t bl_read(const uint8_t *m, size_t n, Query *q, Reading *s);
 uint32_t bl_read_settled(const uint8_t *m, size_t n, Query *q, Reading *s);
+
+/* names.c: whether N and the name are good; then the query asks for the file. Else why the name isn't, 0 where N isn't. */
+
+bool bl_admit(Query *q, size_t n, const uint8_t *name, size_t length, uint32_t *reason, size_t *place);
 
 /* The query that asks for no file. */
 static inline Query nothing(void)

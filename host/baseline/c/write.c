@@ -93,18 +93,29 @@ static bool has_room(const Reading *s, const Query *q, size_t data_length, Spot 
     return fits_next(&p, largest) && fits_next(&p, largest);
 }
 
+/* The bytes after a put of this size: by the reading before it. */
+static void tell_put(const Reading *s, const Query *q, size_t size, Space *space)
+{
+    Place p = s->place;
+    Spot spot;
+    bl_fit(&p, size, &spot);
+    bl_tell(&p, p.turned && !s->place.turned ? s->place.tail : s->turn, s->live + size - (q->found ? q->file.size : 0), space);
+}
+
 uint32_t baseline_put(uint8_t *m, size_t n, const uint8_t *name, size_t name_length, const uint8_t *data,
-                      size_t data_length, size_t allowance, size_t *live, size_t *dead, size_t *blank, size_t *lost, size_t *steps)
+                      size_t data_length, size_t allowance, uint32_t *reason, size_t *place, size_t *live, size_t *dead,
+                      size_t *blank, size_t *lost, size_t *steps)
 {
     Flash f = {m, allowance, 0};
     Content content = {name, data, name_length, data_length};
+    Space space = {live, dead, blank, lost};
     Query q;
     Reading s;
     Spot spot;
     uint32_t answer;
     *steps = 0;
-    *live = *dead = *blank = *lost = 0;
-    if (!bl_ask(&q, name, name_length))
+    tell_nothing(&space);
+    if (!bl_admit(&q, n, name, name_length, reason, place))
         return INVALID;
     answer = bl_read_settled(m, n, &q, &s);
     if (answer != DONE)
@@ -113,19 +124,19 @@ uint32_t baseline_put(uint8_t *m, size_t n, const uint8_t *name, size_t name_len
         return NO_ROOM;
     bl_write(&f, q.found ? &q.file : NULL, spot, &content);
     if (!is_cut(&f))
-        bl_tell(m, n, s.place.head, live, dead, blank, lost);
+        tell_put(&s, &q, size_before_data(name_length) + up8(data_length), &space);
     return answer_of(&f, steps);
 }
 
 uint32_t baseline_remove(uint8_t *m, size_t n, const uint8_t *name, size_t name_length, size_t allowance,
-                         size_t *steps)
+                         uint32_t *reason, size_t *place, size_t *steps)
 {
     Flash f = {m, allowance, 0};
     Query q;
     Reading s;
     uint32_t answer;
     *steps = 0;
-    if (!bl_ask(&q, name, name_length))
+    if (!bl_admit(&q, n, name, name_length, reason, place))
         return INVALID;
     answer = bl_read_settled(m, n, &q, &s);
     if (answer != DONE)

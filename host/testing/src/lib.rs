@@ -15,6 +15,7 @@ pub mod history;
 pub mod images;
 pub mod ledger;
 pub mod maker;
+pub mod names;
 pub mod odd;
 pub mod planner;
 pub mod progress;

@@ -88,7 +88,7 @@ fn other_names_do_not_collide() {
 
 #[test]
 fn the_library_has_this_table() {
-    let path = concat!(env!("CARGO_MANIFEST_DIR"), "/../../crates/reading/src/filter.rt");
+    let path = concat!(env!("CARGO_MANIFEST_DIR"), "/../../crates/chain/src/filter.rt");
     let text = std::fs::read_to_string(path).expect("the library's table");
     for part in [
         "const WORDS: usize = 512;",
@@ -101,6 +101,6 @@ fn the_library_has_this_table() {
         "bit(x / 0x400_0000) | bit(x / 0x10_0000 % 64) | bit(x / 0x4000 % 64) | bit(x / 0x100 % 64)",
         "bit(x / 0x100 % 64) | bit(x / 4 % 64)",
     ] {
-        assert!(text.contains(part), "no {part} in crates/reading/src/filter.rt");
+        assert!(text.contains(part), "no {part} in crates/chain/src/filter.rt");
     }
 }

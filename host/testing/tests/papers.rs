@@ -243,7 +243,7 @@ fn what_is_not_there_is_noticed() {
         reader.wrong.len()
     };
     let specs = "crates/spec/specs";
-    assert_eq!(wrong("Mount.antt: `repair-1`, `mended`; host/promise; lilota/src/put.rt `put`", specs), 0);
+    assert_eq!(wrong("Mount.antt: `repair-1`, `mended`; host/promise; calls/src/put.rt `put`", specs), 0);
     assert_eq!(wrong("Mount.antt: `put-steps`", specs), 1);
     assert_eq!(wrong("Mounting.antt", specs), 1);
     assert_eq!(wrong("Mount.antt", ""), 1);

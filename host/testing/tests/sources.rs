@@ -59,7 +59,7 @@ fn stores(line: &str) -> bool {
 #[test]
 fn no_public_call_requires_anything() {
     let mut calls = 0;
-    for (path, text) in sources("lilota") {
+    for (path, text) in ["calls", "plans", "lilota"].into_iter().flat_map(sources) {
         for f in functions(&text).iter().filter(|f| f.is_public) {
             assert!(!f.head.contains("requires"), "{}: {} has a requires", path.display(), f.name);
             assert!(f.head.contains("ensures"), "{}: {} says nothing of its answer", path.display(), f.name);

@@ -3,7 +3,7 @@ use native.Mathlib.Omega.{arith}
 use mathlib.Core.Path.{_∙_}
 use Rattle.flash.specs.Did.{did-none}
 use lib.ListN.{length}
-use Rattle.reading.specs.Rest.{entry-of}
+use Rattle.chain.specs.Rest.{entry-of}
 use Rattle.moving.specs.Close.{end-is, forget-none, forget-this}
 use borrow.Author.Needs.{needs}
 use Rattle.moving.proofs.forget.Statement.{statement}

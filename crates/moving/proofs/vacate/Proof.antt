@@ -2,7 +2,7 @@
 use native.Mathlib.Omega.{arith}
 use mathlib.Core.Path.{_∙_}
 use lib.ListN.{length}
-use Rattle.reading.specs.Rest.{entry-of}
+use Rattle.chain.specs.Rest.{entry-of}
 use Rattle.moving.specs.Close.{end-is}
 use borrow.Author.Needs.{needs}
 use Rattle.moving.proofs.vacate.Statement.{statement}

@@ -3,7 +3,7 @@ use mathlib.Core.Path.{ap, _∙_}
 use native.Mathlib.Omega.{arith}
 use lib.ListN.{length}
 use Rattle.spec.specs.Files.{files}
-use Rattle.reading.specs.Rest.{rest}
+use Rattle.chain.specs.Rest.{rest}
 use Rattle.reading.specs.Survey.{first-sound}
 use Rattle.recovery.specs.Counted.{counted-cut, counted-done}
 use borrow.Author.Needs.{needs}

@@ -3,7 +3,7 @@ use lib.ListN.{length}
 use mathlib.Core.Path.{_∙_}
 use Rattle.moving.specs.Close.{end-is}
 use native.Mathlib.Omega.{arith}
-use Rattle.reading.specs.Rest.{entry-of}
+use Rattle.chain.specs.Rest.{entry-of}
 use Rattle.window.specs.Handed.{handed-both}
 use Rattle.planner.specs.Close.{standing, close-at}
 use borrow.Author.Needs.{needs}

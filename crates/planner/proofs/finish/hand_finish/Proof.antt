@@ -3,7 +3,7 @@ use mathlib.Core.Path.{refl, _∙_}
 use lib.ListN.{length}
 use native.Mathlib.Omega.{arith}
 use Rattle.recovery.specs.Readable.{clean-told}
-use Rattle.reading.specs.Rest.{entry-of}
+use Rattle.chain.specs.Rest.{entry-of}
 use Rattle.window.specs.Handed.{slices, handed-none}
 use Rattle.planner.specs.Close.{standing, close-same}
 use Rattle.planner.specs.Repairs.{second-missing, second-clean, second-start, second-other}

@@ -2,7 +2,7 @@
 use mathlib.Core.Path.{ap, _∙_}
 use lib.ListN.{length}
 use Rattle.spec.specs.Files.{files}
-use Rattle.reading.specs.Rest.{rest}
+use Rattle.chain.specs.Rest.{rest}
 use Rattle.reading.specs.Read.{reading-of}
 use Rattle.planner.specs.Mount.{report-told}
 use borrow.Author.Needs.{needs}

@@ -1,7 +1,7 @@
 -- Behind the first record, where there is one; else nothing is left.
 use mathlib.Core.Path.{refl, sym, ap, _∙_}
-use Rattle.reading.specs.Fold.{passes}
-use Rattle.reading.proofs.Others.{other-step}
+use Rattle.chain.specs.Fold.{passes}
+use Rattle.chain.proofs.Others.{other-step}
 use Rattle.planning.specs.Told.{later}
 use Rattle.planner.specs.Superseded.{entries-on, entries-end}
 use borrow.Author.Needs.{needs}

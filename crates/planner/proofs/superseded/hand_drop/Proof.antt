@@ -1,7 +1,7 @@
 -- The record has its step if it is superseded.
 use native.Mathlib.Omega.{arith}
 use Rattle.laws.specs.Flag.{flag}
-use Rattle.reading.specs.Rest.{rest, entry-of}
+use Rattle.chain.specs.Rest.{rest, entry-of}
 use Rattle.recovery.specs.Drop.{drop-this, drop-none}
 use Rattle.window.specs.Handed.{slices, handed-none}
 use borrow.Author.Needs.{needs}

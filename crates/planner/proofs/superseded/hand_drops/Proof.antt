@@ -4,10 +4,10 @@ use Prim.Native.Nat.{_+_, _≤_}
 use lib.ListN.{length}
 use native.Mathlib.Omega.{arith}
 use borrow.Author.Needs.{needs}
-use Rattle.reading.specs.Cursor.{Cursor-sound, left}
-use Rattle.reading.specs.Rest.{entry-of, rest}
-use Rattle.reading.specs.Fold.{passes}
-use Rattle.reading.proofs.Others.{other-step}
+use Rattle.chain.specs.Cursor.{Cursor-sound, left}
+use Rattle.chain.specs.Rest.{entry-of, rest}
+use Rattle.chain.specs.Fold.{passes}
+use Rattle.chain.proofs.Others.{other-step}
 use Rattle.recovery.specs.Drop.{dropped}
 use Rattle.window.specs.Handed.{slices, Leads, leads-more, leads-end}
 use Rattle.planner.specs.Superseded.{entries-on, entries-end, drops-on, drops-end}

@@ -1,6 +1,6 @@
 -- The cursor at the head, and the one behind the records that repair 2 takes away.
 use mathlib.Core.Path.{ap}
-use Rattle.reading.specs.Rest.{rest}
+use Rattle.chain.specs.Rest.{rest}
 use Rattle.planner.specs.Mount.{drops-handed}
 use borrow.Author.Needs.{needs}
 use Rattle.planner.proofs.superseded.hand_superseded.Statement.{statement}

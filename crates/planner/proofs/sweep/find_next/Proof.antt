@@ -4,9 +4,9 @@ use mathlib.Core.List.{List}
 use native.Mathlib.Omega.{arith}
 use Rattle.spec.specs.Record.{Entry}
 use Rattle.planning.specs.Planned.{next-of}
-use Rattle.reading.specs.Rest.{Run, rest}
-use Rattle.reading.specs.Fold.{passes, rest-done}
-use Rattle.reading.proofs.Others.{other-step}
+use Rattle.chain.specs.Rest.{Run, rest}
+use Rattle.chain.specs.Fold.{passes, rest-done}
+use Rattle.chain.proofs.Others.{other-step}
 use Rattle.planner.specs.Walk.{copy-entry, address-of, address-copy}
 use borrow.Author.Needs.{needs}
 use Rattle.planner.proofs.sweep.find_next.Statement.{statement}

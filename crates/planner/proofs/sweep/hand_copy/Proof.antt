@@ -3,8 +3,8 @@ use Prim.Native.Nat.{_+_}
 use lib.ListN.{length}
 use native.Mathlib.Omega.{arith}
 use Rattle.moving.specs.Copy.{copy-few}
-use Rattle.reading.specs.Rest.{entry-of}
-use Rattle.reading.specs.Fold.{name-length-is, content-length-is}
+use Rattle.chain.specs.Rest.{entry-of}
+use Rattle.chain.specs.Fold.{name-length-is, content-length-is}
 use Rattle.writing.specs.Placing.{placed-inside}
 use Rattle.planner.specs.Copy.{copy-is, copy-ready}
 use Rattle.planner.specs.Moves.{walk-ready}

@@ -2,9 +2,9 @@
 use mathlib.Core.Path.{ap}
 use native.Mathlib.Omega.{arith}
 use Rattle.laws.specs.Flag.{flag}
-use Rattle.reading.specs.Rest.{Run, rest}
-use Rattle.reading.specs.Fold.{passes, rest-done}
-use Rattle.reading.proofs.Others.{other-step}
+use Rattle.chain.specs.Rest.{Run, rest}
+use Rattle.chain.specs.Fold.{passes, rest-done}
+use Rattle.chain.proofs.Others.{other-step}
 use Rattle.window.specs.Handed.{slices}
 use Rattle.planner.specs.Moves.{move-none, move-live, move-dead}
 use borrow.Author.Needs.{needs}

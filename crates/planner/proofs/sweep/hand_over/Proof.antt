@@ -2,7 +2,7 @@
 use mathlib.Core.Path.{refl, sym, ap, _∙_}
 use lib.ListN.{length}
 use native.Mathlib.Omega.{arith}
-use Rattle.reading.specs.Rest.{entry-of, rest}
+use Rattle.chain.specs.Rest.{entry-of, rest}
 use Rattle.planner.specs.declared.Copied.{Copied}
 use Rattle.planner.specs.Walk.{over-none, over-at, over-steps}
 use Rattle.planner.specs.Moves.{Below, led-walkable, moves-left}

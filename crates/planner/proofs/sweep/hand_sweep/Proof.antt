@@ -4,7 +4,7 @@ use Prim.Native.Nat.{_+_, _-_, _≤_}
 use lib.ListN.{length}
 use native.Mathlib.Omega.{arith}
 use borrow.Author.Needs.{needs}
-use Rattle.reading.specs.Rest.{rest}
+use Rattle.chain.specs.Rest.{rest}
 use Rattle.window.specs.Handed.{slices}
 use Rattle.planner.specs.Moves.{moves-left, Move-handed}
 use Rattle.planner.specs.Sweep.{Walking, walking-start, walking-end, walking-stop, walking-more}

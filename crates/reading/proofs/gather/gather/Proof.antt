@@ -1,10 +1,10 @@
 -- gather: a record of any kind, and the plain ones behind it; at the end all are gathered.
 use mathlib.Core.Path.{ap}
-use Rattle.reading.specs.Cursor.{left}
-use Rattle.reading.specs.Fold.{passes, fold-end}
-use Rattle.reading.specs.Tally.{none-yet, passed, end-inside}
+use Rattle.chain.specs.Cursor.{left}
+use Rattle.chain.specs.Fold.{passes, fold-end}
+use Rattle.chain.specs.Tally.{none-yet, passed, end-inside}
 use Rattle.reading.specs.Gather.{Gathering, gathering-start, gathered-repeats, gathered-found}
-use Rattle.reading.proofs.Others.{other-step}
+use Rattle.chain.proofs.Others.{other-step}
 use borrow.Author.Needs.{needs}
 use native.Mathlib.Omega.{arith}
 use Rattle.reading.proofs.gather.gather.Statement.{statement}

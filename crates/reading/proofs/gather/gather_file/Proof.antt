@@ -1,6 +1,6 @@
 -- gather_file: the name is noted by its marks, the record as one behind the second; what was seen stays.
 use mathlib.Core.Path.{refl}
-use Rattle.reading.specs.Tally.{addable-size}
+use Rattle.chain.specs.Tally.{addable-size}
 use Rattle.reading.specs.Gather.{gathering-file}
 use borrow.Author.Needs.{needs}
 use native.Mathlib.Omega.{arith}

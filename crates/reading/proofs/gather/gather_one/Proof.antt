@@ -1,6 +1,6 @@
 -- gather_one: the record is noted, its name and its hash.
 use mathlib.Core.Path.{refl}
-use Rattle.reading.specs.Tally.{addable-size}
+use Rattle.chain.specs.Tally.{addable-size}
 use Rattle.reading.specs.Gather.{gathering-next}
 use native.Mathlib.Omega.{arith}
 use Rattle.reading.proofs.gather.gather_one.Statement.{statement}

@@ -3,8 +3,8 @@ use Prim.Native.Nat.{_≤_}
 use mathlib.Core.Path.{_∙_}
 use borrow.Author.Tests.{ne-eqb}
 use Rattle.laws.specs.Flag.{flag}
-use Rattle.reading.specs.Cursor.{Cursor-sound, left}
-use Rattle.reading.specs.Tally.{addable-size}
+use Rattle.chain.specs.Cursor.{Cursor-sound, left}
+use Rattle.chain.specs.Tally.{addable-size}
 use Rattle.reading.specs.Gather.{Gathering, gathering-dead}
 use borrow.Author.Needs.{needs}
 use native.Mathlib.Omega.{arith}

@@ -1,7 +1,7 @@
 -- judge_for: the head's refusal, or the reading from the head on.
 use mathlib.Core.Path.{sym, ap, _∙_}
 use Rattle.reading.specs.RuleLaws.{reading-by, reading-refused}
-use Rattle.reading.specs.HeadLaws.{headed}
+use Rattle.chain.specs.HeadLaws.{headed}
 use borrow.Author.Needs.{needs}
 use Rattle.reading.proofs.image.judge_for.Statement.{statement}
 use Rattle.reading.proofs.image.judge_for.Tie as tie

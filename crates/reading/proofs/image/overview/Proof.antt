@@ -1,8 +1,8 @@
 -- overview: the pass found the definitions' entries and how the chain ends, and what the names tell.
 use mathlib.Core.Path.{ap, _∙_}
-use Rattle.reading.specs.declared.Cursor.{Cursor}
-use Rattle.reading.specs.Rest.{rest}
-use Rattle.reading.specs.Repeats.{repeats-of}
+use Rattle.chain.specs.declared.Cursor.{Cursor}
+use Rattle.chain.specs.Rest.{rest}
+use Rattle.chain.specs.Repeats.{repeats-of}
 use Rattle.reading.specs.Survey.{first-sound, seen}
 use borrow.Author.Needs.{needs}
 use Rattle.reading.proofs.image.overview.Statement.{statement}

@@ -4,8 +4,8 @@ use mathlib.Core.Path.{_≡_, refl, sym, ap, _∙_}
 use mathlib.Core.Bool.{Bool, _&&_}
 use lib.ListN.{length, drop}
 use Rattle.spec.specs.Basics.{all}
-use Rattle.spec.specs.Bytes.{is-printable}
-use Rattle.reading.specs.Filter.{mixed, hash-from, hash-next, hash-end, signature-by}
+use Rattle.laws.specs.Spaces.{is-readable}
+use Rattle.chain.specs.Filter.{mixed, hash-from, hash-next, hash-end, signature-by}
 use Rattle.reading.specs.Marks.{all-more, all-end, name-ok-by}
 use borrow.Author.Needs.{needs}
 use native.Mathlib.Omega.{arith}
@@ -15,7 +15,7 @@ use Rattle.reading.proofs.marks.marks.Tie as tie
 abbrev Inv-loop : tie.InvT-loop
 Inv-loop name h₀ fine₀ i₀ h fine i =
     (i ≤ length name) × (h < 2 ^ 32) × (hash-from 0 name ≡ hash-from h (drop i name))
-    × (all is-printable name ≡ (fine && all is-printable (drop i name)))
+    × (all is-readable name ≡ (fine && all is-readable (drop i name)))
 
 abbrev μ-loop : tie.MeasureT-loop
 μ-loop name h₀ fine₀ i₀ h fine i = length name - i
@@ -32,11 +32,11 @@ wide-requires c κs = search needs
 mixed-requires : tie.Need-mixed-requires Inv-loop μ-loop
 mixed-requires c κs = search needs
 
-shared-slice-read-is-printable : tie.Need-shared-slice-read-is-printable Inv-loop μ-loop
-shared-slice-read-is-printable c = search needs
+shared-slice-read-is-readable : tie.Need-shared-slice-read-is-readable Inv-loop μ-loop
+shared-slice-read-is-readable c = search needs
 
-is-printable-requires : tie.Need-is-printable-requires Inv-loop μ-loop
-is-printable-requires c κs = search needs
+is-readable-requires : tie.Need-is-readable-requires Inv-loop μ-loop
+is-readable-requires c κs = search needs
 
 both-requires : tie.Need-both-requires Inv-loop μ-loop
 both-requires c κs = search needs
@@ -53,15 +53,15 @@ loop-again c =
     let s = c7 .before .before .args .name .now in
     let l = c7 .loop in
     let q = c3 .mixed .ensures .0 ∙ ap (mixed (l .h)) (c3 .before .wide .ensures .0) in
-    let f = c .both .ensures ∙ ap (λ (b : Bool). l .fine && b) (c .before .is-printable .ensures) in (
+    let f = c .both .ensures ∙ ap (λ (b : Bool). l .fine && b) (c .before .is-readable .ensures) in (
       omega arith,
       omega arith,
       l .inv .2 ∙ hash-next (l .h) s (l .i) (omega arith) ∙ rw q,
-      l .inv .3 ∙ all-more s (l .i) (l .fine) (omega arith) ∙ ap (λ (b : Bool). b && all is-printable (drop (l .i + 1) s)) (sym f),
+      l .inv .3 ∙ all-more s (l .i) (l .fine) (omega arith) ∙ ap (λ (b : Bool). b && all is-readable (drop (l .i + 1) s)) (sym f),
     )
 
-last-fine-requires : tie.Need-last-fine-requires Inv-loop μ-loop
-last-fine-requires c κs = search needs
+ends-fine-requires : tie.Need-ends-fine-requires Inv-loop μ-loop
+ends-fine-requires c κs = search needs
 
 both-requires-2 : tie.Need-both-requires-2 Inv-loop μ-loop
 both-requires-2 c κs = search needs
@@ -77,7 +77,7 @@ returns c =
     let l = c4 .loop in
     let h = sym (l .inv .2 ∙ hash-end (l .h) s (l .i) (omega arith)) in
     let a = sym (l .inv .3 ∙ all-end s (l .i) (l .fine) (omega arith)) in
-    let good = c .before .before .last-fine in
+    let good = c .before .before .ends-fine in
     record {
       fine = c .before .both2 .ensures ∙ name-ok-by s (l .fine) (good .result) (start .pre) a (good .ensures);
       bits = c .signature-by .ensures .0 ∙ ap signature-by h;
@@ -95,13 +95,13 @@ marks-spec =
     shared-slice-read-wide
     wide-requires
     mixed-requires
-    shared-slice-read-is-printable
-    is-printable-requires
+    shared-slice-read-is-readable
+    is-readable-requires
     both-requires
     add-i
     loop-less
     loop-again
-    last-fine-requires
+    ends-fine-requires
     both-requires-2
     signature-by-requires
     returns)

@@ -2,7 +2,7 @@
 use mathlib.Core.Path.{subst}
 use mathlib.Core.List.{List}
 use Prim.Native.Nat.{ℕ}
-use Rattle.reading.specs.FileLaws.{name-part}
+use Rattle.chain.specs.FileLaws.{name-part}
 use Rattle.reading.specs.Marks.{Marked-as}
 use borrow.Author.Needs.{needs}
 use Rattle.reading.proofs.marks.marks_of.Statement.{statement}

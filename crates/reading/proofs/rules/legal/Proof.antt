@@ -1,8 +1,8 @@
 -- legal: the rules one after the other, each test of the code being one of them.
 use Rattle.laws.specs.Flag.{flag, flag-not}
-use Rattle.reading.specs.Rest.{rest}
+use Rattle.chain.specs.Rest.{rest}
 use Rattle.reading.specs.Read.{reading-of}
-use Rattle.reading.specs.Repeats.{single-by}
+use Rattle.chain.specs.Repeats.{single-by}
 use Rattle.reading.specs.RuleLaws.{fine-is, legal-whole, legal-names, legal-single, legal-marks, legal-free}
 use borrow.Author.Needs.{needs}
 use Rattle.reading.proofs.rules.legal.Statement.{statement}

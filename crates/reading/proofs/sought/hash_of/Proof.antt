@@ -1,7 +1,7 @@
 -- hash_of: the part that is lent is the record's name.
 use mathlib.Core.Path.{ap, _∙_}
-use Rattle.reading.specs.FileLaws.{name-part}
-use Rattle.reading.specs.Filter.{hash-from}
+use Rattle.chain.specs.FileLaws.{name-part}
+use Rattle.chain.specs.Filter.{hash-from}
 use borrow.Author.Needs.{needs}
 use Rattle.reading.proofs.sought.hash_of.Statement.{statement}
 use Rattle.reading.proofs.sought.hash_of.Tie as tie

@@ -2,7 +2,7 @@
 use native.Mathlib.Omega.{arith}
 use Rattle.laws.specs.Flag.{flag}
 use Rattle.flash.specs.Did.{did-none}
-use Rattle.reading.specs.Rest.{rest, entry-of}
+use Rattle.chain.specs.Rest.{rest, entry-of}
 use Rattle.recovery.specs.Drop.{drop-this, drop-none}
 use borrow.Author.Needs.{needs}
 use Rattle.recovery.proofs.superseded.drop_one.Statement.{statement}

@@ -1,15 +1,15 @@
 -- The invariant: what drops the superseded records that are left drops all; the chain is as it was but for the status of those passed.
-use Rattle.reading.specs.Rest.{rest}
+use Rattle.chain.specs.Rest.{rest}
 use borrow.Author.Needs.{needs}
 use native.Mathlib.Omega.{arith}
 use Prim.Native.Nat.{_+_, _≤_}
 use mathlib.Core.Path.{_≡_, refl, sym, ap, _∙_}
 use lib.ListN.{length}
-use Rattle.reading.specs.Cursor.{Cursor-sound, left}
-use Rattle.reading.specs.Fold.{passes}
+use Rattle.chain.specs.Cursor.{Cursor-sound, left}
+use Rattle.chain.specs.Fold.{passes}
 use Rattle.reading.specs.Read.{first-cursor}
 use Rattle.reading.specs.Survey.{first-sound}
-use Rattle.reading.proofs.Others.{other-step}
+use Rattle.chain.proofs.Others.{other-step}
 use Rattle.recovery.specs.Drop.{Dropping, dropping-start, dropping-more, dropping-end, tidy-first, sound-same}
 use Rattle.reading.specs.Standing.{entries-from}
 use Rattle.recovery.proofs.superseded.drop_superseded.Statement.{statement}

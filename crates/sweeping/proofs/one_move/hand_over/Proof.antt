@@ -1,7 +1,7 @@
 -- The first two records from the head on are X and Y of the definition; with fewer there are no steps.
 use native.Mathlib.Omega.{arith}
 use mathlib.Core.Path.{refl}
-use Rattle.reading.proofs.Others.{other-step}
+use Rattle.chain.proofs.Others.{other-step}
 use Rattle.reading.specs.Standing.{taken, start-sound}
 use Rattle.sweeping.specs.Handed.{hand-none, hand-one, hand-two}
 use borrow.Author.Needs.{needs}

@@ -1,7 +1,7 @@
 -- By the first record, whether it is live and fits, and whether a second stands behind it.
 use native.Mathlib.Omega.{arith}
 use mathlib.Core.Path.{refl}
-use Rattle.reading.proofs.Others.{other-step}
+use Rattle.chain.proofs.Others.{other-step}
 use Rattle.reading.specs.Standing.{taken, start-sound}
 use Rattle.sweeping.specs.Planned.{plan-none, plan-full, plan-copy, plan-last, plan-leave, sound}
 use borrow.Author.Needs.{needs}

@@ -1,0 +1,11 @@
+pub mod Numbers
+pub mod Carry
+pub mod Space
+pub mod Stored
+pub mod Calls
+pub mod Format
+pub mod Look
+pub mod Put
+pub mod Mount
+pub mod Sweep
+pub mod Walkable

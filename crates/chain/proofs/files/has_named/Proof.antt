@@ -1,0 +1,75 @@
+-- has_named: what was passed has no such record, so the answer is about the rest; each turn drops one record of the rest.
+use Rattle.laws.specs.Flag.{flag}
+use Rattle.chain.specs.Fold.{passes, Folded, fold-start}
+use Rattle.chain.specs.Seek.{any-of, any-over, any-found, any-onward}
+use Rattle.spec.specs.Files.{named-as, has-named}
+use Rattle.chain.specs.Rest.{entry-of}
+use Rattle.chain.proofs.Others.{other-step}
+use Rattle.chain.specs.Cursor.{left}
+use Rattle.chain.proofs.files.has_named.Statement.{statement}
+use Rattle.chain.proofs.files.has_named.Tie as tie
+
+abbrev Inv-loop : tie.InvT-loop
+Inv-loop image status e c₀ c = Folded (any-of (named-as (status .byte) (entry-of image e))) image c₀ tt c tt
+
+abbrev μ-loop : tie.MeasureT-loop
+μ-loop image status e c₀ c = left c
+
+loop-holds : tie.Need-loop-holds Inv-loop μ-loop
+loop-holds c = fold-start _ _ _ _ (c .before .pre .0)
+
+advance-requires : tie.Need-advance-requires Inv-loop μ-loop
+advance-requires c κs = c .loop .inv .sound
+
+enum-known-s : tie.Need-enum-known-s Inv-loop μ-loop
+enum-known-s c = c .match .keys1
+
+returns : tie.Need-returns Inv-loop μ-loop
+unfolding has-named
+returns c =
+    let a = c .before .before .before .before .args in
+    let p = named-as (a .status .byte) (entry-of (a .image .now) (a .e)) in
+    any-over p (c .before .before .loop .inv) (c .before .advance .result) (c .before .advance .ensures .0)
+    (other-step (c .before .advance .result) (c .match .keys2))
+
+named-as-requires : tie.Need-named-as-requires Inv-loop μ-loop
+named-as-requires c κs =
+    let c3 = c .before .before .before in
+    (c3 .before .before .before .pre .1, passes (c3 .advance .ensures) (c .before .s .given .1) .whole)
+
+returns-2 : tie.Need-returns-2 Inv-loop μ-loop
+unfolding has-named
+returns-2 c =
+    let c3 = c .before .before .before in let c5 = c3 .before .before in let c6 = c5 .before in
+    let a = c6 .before .before .args in
+    let p = named-as (a .status .byte) (entry-of (a .image .now) (a .e)) in
+    let t = passes (c5 .advance .ensures) (c3 .s .given .1) in
+    any-found p (c6 .loop .inv) t (flag (c .before .named-as .ensures) (c .if1 .taken))
+
+loop-less : tie.Need-loop-less Inv-loop μ-loop
+loop-less c =
+    let c3 = c .before .before .before in
+    passes (c3 .before .before .advance .ensures) (c3 .s .given .1) .onward .less
+
+loop-again : tie.Need-loop-again Inv-loop μ-loop
+loop-again c =
+    let c3 = c .before .before .before in let c5 = c3 .before .before in let c6 = c5 .before in
+    let a = c6 .before .before .args in
+    let p = named-as (a .status .byte) (entry-of (a .image .now) (a .e)) in
+    let t = passes (c5 .advance .ensures) (c3 .s .given .1) in
+    any-onward p (c6 .loop .inv) t (flag (c .before .named-as .ensures) (c .if1 .left))
+
+pub has-named-spec : {M : Type 1} → statement M
+has-named-spec =
+    tie.close
+    (tie.spec
+    Inv-loop
+    μ-loop
+    loop-holds
+    advance-requires
+    enum-known-s
+    returns
+    named-as-requires
+    returns-2
+    loop-less
+    loop-again)

@@ -1,0 +1,2 @@
+pub mod Stows
+pub mod Room
