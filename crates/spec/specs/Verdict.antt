@@ -70,3 +70,32 @@ verdict image = verdict-from image (head image)
 -- "a bad N is 22"
 unfoldable pub check : Image → Answer Verdict
 check image = checked (good-length (length image)) (numbered 22) (give (verdict image))
+
+-- ---- as numbers
+
+-- the rules in their order
+abbrev pub rule-number : Rule → ℕ
+rule-number Rule.Head = 1
+rule-number Rule.Unfinished = 2
+rule-number Rule.Header = 3
+rule-number Rule.Name = 4
+rule-number Rule.End = 5
+rule-number Rule.Mark = 6
+rule-number Rule.Free = 7
+
+-- The answer, 0 or 22; the verdict: 0 settled, 1 recovery, 2 broken; the number of the repair or of the rule; the address.
+pub record Verdict-numbers : Type 0 where
+  pub answer : ℕ
+  pub verdict : ℕ
+  pub number : ℕ
+  pub address : ℕ
+
+abbrev pub verdict-told : Verdict → Verdict-numbers
+verdict-told Verdict.Settled = record { answer = 0; verdict = 0; number = 0; address = 0 }
+verdict-told (Verdict.Recovery k) = record { answer = 0; verdict = 1; number = k; address = 0 }
+verdict-told (Verdict.Broken rule a) = record { answer = 0; verdict = 2; number = rule-number rule; address = a }
+
+-- 22: "zeros"
+unfoldable pub verdict-numbers : Answer Verdict → Verdict-numbers
+verdict-numbers (refuse x) = record { answer = x .number; verdict = 0; number = 0; address = 0 }
+verdict-numbers (give v) = verdict-told v

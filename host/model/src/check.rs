@@ -4,6 +4,7 @@
 //! writes it, [T, N) before [0, floor(h)). All faults of what is read are gathered, and
 //! the first of them is told.
 use crate::geometry::*;
+use crate::good_name;
 use crate::head::find_head;
 use crate::torn::{torn_shape, torn_wrap_shape};
 

@@ -20,6 +20,7 @@ mod room_faults;
 mod rooms;
 mod space_faults;
 mod spaces;
+mod verdicts;
 
 use collect::Collection;
 use emit::Vector;
