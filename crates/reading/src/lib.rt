@@ -5,7 +5,7 @@ pub mod files;
 mod filter;
 pub mod free;
 mod gather;
-mod head;
+pub mod head;
 pub mod image;
 mod marks;
 mod names;

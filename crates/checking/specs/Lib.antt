@@ -1,0 +1,4 @@
+pub mod Clear
+pub mod Legal
+pub mod Repairs
+pub mod Theorem
