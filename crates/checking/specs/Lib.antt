@@ -2,3 +2,4 @@ pub mod Clear
 pub mod Legal
 pub mod Repairs
 pub mod Theorem
+pub mod Exact

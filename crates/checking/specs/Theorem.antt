@@ -16,12 +16,13 @@ use Rattle.spec.specs.Record.{start-here, clean-here, wrap-here}
 use Rattle.spec.specs.Head.{sought, walk, chosen, head}
 use Rattle.spec.specs.Chain.{Reading, reading-from}
 use Rattle.spec.specs.Reading.{legal, judged, read-at, reading}
+use Rattle.spec.specs.Mount as Mount
 use Rattle.spec.specs.Door.{accepted}
 use Rattle.spec.specs.Fault.{first-fault}
 use Rattle.spec.specs.Verdict.{first-repair, repair-verdict, verdict-of, verdict-from, verdict, check}
 use Rattle.checking.specs.Clear.{clear}
 use Rattle.checking.specs.Legal.{clear-legal}
-use Rattle.checking.specs.Repairs.{First-step, first-step}
+use Rattle.checking.specs.Repairs.{First-step, first-step, first-with-step, is-none, number-is, settled-number}
 
 -- ---- what the check and mount say of an image
 
@@ -30,12 +31,18 @@ pub data Unread : Refusal → Type 0 where
   five : Unread (numbered 5)
   six : Unread (numbered 6)
 
+-- of the four repairs the first with a step is that of number k, or none is and k is 0
+pub record First (image : Image) (r : Reading) (k : ℕ) : Type 0 where
+  pub step : First-step k image r
+  pub number : first-with-step image r ≡ k
+  pub idle : Mount.settled image r ≡ is-none k
+
 -- the four ways; `accepted` is what mount goes by: it refuses as that does, else it repairs that reading
 pub data Agree (image : Image) : Type 0 where
   bad-length : check image ≡ refuse (numbered 22) → accepted image ≡ refuse (numbered 22) → Agree image
   broken : (rule : Rule) (a : ℕ) (x : Refusal) → check image ≡ give (Verdict.Broken rule a) → Unread x → accepted image ≡ refuse x → Agree image
-  settled : (r : Reading) → check image ≡ give Verdict.Settled → accepted image ≡ give r → First-step 0 image r → Agree image
-  recovery : (r : Reading) (k : ℕ) → check image ≡ give (Verdict.Recovery (suc k)) → accepted image ≡ give r → First-step (suc k) image r → Agree image
+  settled : (r : Reading) → check image ≡ give Verdict.Settled → accepted image ≡ give r → First image r 0 → Agree image
+  recovery : (r : Reading) (k : ℕ) → check image ≡ give (Verdict.Recovery (suc k)) → accepted image ≡ give r → First image r (suc k) → Agree image
 
 -- ---- the head's refusals
 
@@ -100,16 +107,24 @@ module _ (image : Image) (n : good-length (length image) ≡ true) where
         let v : verdict-of image r ≡ Verdict.Broken rule a = rw (verdict-of, f) in
         broken rule a (numbered 5) (check-is ∙ ap give (verdict-is ∙ v)) five (accepted-is ∙ reading-is false l)
 
+    first : {k : ℕ} → first-repair r ≡ k → First image r k
+    first q =
+        record {
+          step = rw q at (first-step image r);
+          number = sym (number-is image r) ∙ q;
+          idle = settled-number image r ∙ ap is-none q;
+        }
+
     no-fault : first-fault image r ≡ Fault.Nothing → (k : ℕ) → first-repair r ≡ k → Agree image
     unfolding verdict-of
     no-fault f zero q =
         let l : legal image r ≡ true = sym (clear-legal image r) ∙ ap clear f in
         let v : verdict-of image r ≡ Verdict.Settled = rw (verdict-of, f, q) in
-        settled r (check-is ∙ ap give (verdict-is ∙ v)) (accepted-is ∙ reading-is true l) (rw q at (first-step image r))
+        settled r (check-is ∙ ap give (verdict-is ∙ v)) (accepted-is ∙ reading-is true l) (first q)
     no-fault f (suc k) q =
         let l : legal image r ≡ true = sym (clear-legal image r) ∙ ap clear f in
         let v : verdict-of image r ≡ Verdict.Recovery (suc k) = rw (verdict-of, f, q) in
-        recovery r k (check-is ∙ ap give (verdict-is ∙ v)) (accepted-is ∙ reading-is true l) (rw q at (first-step image r))
+        recovery r k (check-is ∙ ap give (verdict-is ∙ v)) (accepted-is ∙ reading-is true l) (first q)
 
     with-head : Agree image
     with-head = go (first-fault image r) refl where
