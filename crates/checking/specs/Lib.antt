@@ -3,3 +3,5 @@ pub mod Legal
 pub mod Repairs
 pub mod Theorem
 pub mod Exact
+pub mod Dirt
+pub mod Stop

@@ -8,7 +8,7 @@ mod gather;
 pub mod head;
 pub mod image;
 mod marks;
-mod names;
+pub mod names;
 mod plain;
 pub mod room;
 mod rules;
