@@ -5,3 +5,5 @@ pub mod Theorem
 pub mod Exact
 pub mod Dirt
 pub mod Stop
+pub mod Records
+pub mod Following
