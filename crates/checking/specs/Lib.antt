@@ -7,3 +7,5 @@ pub mod Dirt
 pub mod Stop
 pub mod Records
 pub mod Following
+pub mod Called
+pub mod Last
