@@ -9,3 +9,4 @@ pub mod Records
 pub mod Following
 pub mod Called
 pub mod Last
+pub mod Checked

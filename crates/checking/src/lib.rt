@@ -1,14 +1,23 @@
 // The check of an image (document 02, K13): the first broken rule with its address, or settled, or the repair that comes first.
 // Everything here only looks. A good image is read once; only one that is refused is gone over again for the rule that it breaks.
 mod called;
+pub mod check;
 mod dirt;
 mod records;
 mod stop;
-pub mod verdict;
+mod verdict;
+
+use spec::Verdict;
 
 // The record at which the chain breaks off, if its header and its name are good: where it stands, and how long its name is.
 pub struct CutOff {
     pub there: bool,
     pub at: usize,
     pub n: usize,
+}
+
+// What the check answers: the verdict, or the refusal's number.
+pub enum Checked {
+    Done(Verdict),
+    Refused(u32),
 }
