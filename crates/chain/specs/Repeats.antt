@@ -74,7 +74,7 @@ named-or st x es e =
     sym (any-or (named-as st e) x es _ refl)
     ∙ ap (λ (b : Bool). (named st x && b) || any (named-as st e) es) (same-swap (name-of e) (name-of x))
 
-doubled-last : (st : ℕ) (es : List Entry) (e : Entry) → doubled st (es ++ e ∷ []) ≡ (doubled st es || (named st e && has-named st es e))
+pub doubled-last : (st : ℕ) (es : List Entry) (e : Entry) → doubled st (es ++ e ∷ []) ≡ (doubled st es || (named st e && has-named st es e))
 unfolding doubled has-named
 doubled-last st [] e = go (named st e) refl where
   go : (t : Bool) → named st e ≡ t → doubled st (e ∷ []) ≡ (named st e && false)

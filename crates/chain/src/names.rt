@@ -61,7 +61,7 @@ fn earlier_with(image: &[u8], f: Earlier, e: Spot, x: Spot) -> Earlier
 }
 
 // Which records of e's name stand among the first records of the chain, as many as count says.
-fn earlier(image: &[u8], start: Cursor, count: usize, e: Spot) -> Earlier
+pub fn earlier(image: &[u8], start: Cursor, count: usize, e: Spot) -> Earlier
     requires { ⌜ Cursor-sound (now image) start × Whole (now image) e ⌝ }
     ensures { λ r. ⌜ r ≡ earlier-of (front (now (image .entry)) start count) (entry-of (now (image .entry)) e) ⌝ }
 {

@@ -147,6 +147,32 @@ pub struct Space {
     pub lost: usize,
 }
 
+// The rules of the reading, in the order in which they are tested at one address: no head is found; an unfinished record or marker is not
+// the last thing, or is not as it may be; magic, status or reserved byte; the name; the record's end; a CLEAN, START or marker out of
+// place; a byte of the free run.
+pub enum Rule {
+    Head,
+    Unfinished,
+    Header,
+    Name,
+    End,
+    Mark,
+    Free,
+}
+
+// A broken rule with its address, or none.
+pub enum Fault {
+    Nothing,
+    At { rule: Rule, at: usize },
+}
+
+// What the check of an image says: mount has nothing to do, or what it does begins with the repair of this number, or it refuses.
+pub enum Verdict {
+    Settled,
+    Recovery { number: u32 },
+    Broken { rule: Rule, at: usize },
+}
+
 // A stretch of the image.
 pub struct Extent {
     pub offset: usize,

@@ -13,6 +13,7 @@
 pub mod bits;
 pub mod calls;
 pub mod chain;
+pub mod check;
 pub mod faults;
 pub mod files;
 pub mod flash;
@@ -32,6 +33,7 @@ pub mod write;
 
 pub use calls::{format, get, list, mount, put, remove, sweep, Extent, Refusal, Reply, Report};
 pub use chain::{read_chain, Chain, Record};
+pub use check::{check, Rule, Verdict};
 pub use flash::{carry_out, cut_inside, Step};
 pub use geometry::*;
 pub use head::{find_head, walk};

@@ -11,6 +11,7 @@ pub mod colliding;
 pub mod compare;
 pub mod cut;
 pub mod facts;
+pub mod faulty;
 pub mod history;
 pub mod images;
 pub mod ledger;

@@ -8,6 +8,7 @@ use crate::plans;
 use crate::required::{REQUIRED, SOURCES};
 use crate::rooms::{self, ROOM_STATES};
 use crate::spaces;
+use crate::verdicts;
 use model::*;
 use std::collections::BTreeMap;
 use std::fmt::Write as _;
@@ -97,7 +98,8 @@ impl Collection {
         let tags = tags.map(|t| format!("tag {t}"));
         let sources = SOURCES.iter().map(|s| format!("source {s}"));
         let lacking = answers.chain(tags).chain(sources).filter(|w| self.count(w) < EACH);
-        lacking.chain(plans::lacking(self)).chain(spaces::lacking(self)).chain(names::lacking(self)).collect()
+        let requests = plans::lacking(self).into_iter().chain(spaces::lacking(self)).chain(names::lacking(self)).chain(verdicts::lacking(self));
+        lacking.chain(requests).collect()
     }
 
     /// The coverage: calls by answers, then tags, sources and histories.
@@ -290,6 +292,7 @@ pub fn collect() -> Collection {
     plans::add(&mut c);
     spaces::add(&mut c);
     names::add(&mut c);
+    verdicts::add(&mut c);
     c
 }
 

@@ -22,6 +22,8 @@ mod room_faults;
 mod rooms;
 mod space_faults;
 mod spaces;
+mod verdict_faults;
+mod verdicts;
 
 use collect::Collection;
 use emit::Vector;

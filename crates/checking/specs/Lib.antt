@@ -1,0 +1,12 @@
+pub mod Clear
+pub mod Legal
+pub mod Repairs
+pub mod Theorem
+pub mod Exact
+pub mod Dirt
+pub mod Stop
+pub mod Records
+pub mod Following
+pub mod Called
+pub mod Last
+pub mod Checked
