@@ -1,7 +1,9 @@
 //! "Numbers given back": the seven calls, with the table's rows in its order.
 use crate::chain::{Chain, Record};
+use crate::faults::{self, Fault};
 use crate::flash::carry_out;
 use crate::geometry::*;
+use crate::names::{name_fault, NameFault};
 use crate::plan::{planned, Ask, Plan};
 use crate::rules::read_settled;
 use crate::space::Space;
@@ -30,10 +32,12 @@ impl Extent {
 
 /// What a call answers: mount its report, sweep its finished moves, get where the
 /// content stands, list where the name stands and the content's length; mount, put and
-/// sweep the bytes of the image that they leave (K3). All else is zero.
+/// sweep the bytes of the image that they leave (K3); put, get and remove, beside 22, what
+/// is wrong with the name (K5). All else is zero.
 #[derive(Clone, Copy, PartialEq, Eq, Debug, Default)]
 pub struct Reply {
     pub answer: u32,
+    pub name: NameFault,
     pub report: Report,
     pub moves: u64,
     pub extent: Extent,
@@ -49,29 +53,56 @@ impl Reply {
     }
 }
 
-/// A refusal's number stands where a call breaks off.
-fn told(r: Result<Reply, u32>) -> Reply {
-    r.unwrap_or_else(Reply::refusal)
+/// What a refusal gives back: the table's number, and the name's fault where that is what
+/// refuses.
+#[derive(Clone, Copy, PartialEq, Eq, Debug)]
+pub struct Refusal {
+    pub answer: u32,
+    pub name: NameFault,
 }
 
-/// 22: "N bad, then name bad (put, get, remove)".
-pub(crate) fn accepted(img: &[u8], name: Option<&[u8]>) -> Result<(), u32> {
-    if good_length(img.len() as u64) && name.is_none_or(good_name) {
+impl From<u32> for Refusal {
+    fn from(answer: u32) -> Refusal {
+        Refusal { answer, name: NameFault::default() }
+    }
+}
+
+impl From<Refusal> for Reply {
+    /// K5: "in place of zeros".
+    fn from(refusal: Refusal) -> Reply {
+        Reply { name: refusal.name, ..Reply::refusal(refusal.answer) }
+    }
+}
+
+/// A refusal stands where a call breaks off.
+fn told(r: Result<Reply, Refusal>) -> Reply {
+    r.unwrap_or_else(Reply::from)
+}
+
+/// 22: "N bad, then name bad (put, get, remove)". K5: these three "pass both on beside 22",
+/// the name's reason and place, "or 0 where N is bad".
+pub(crate) fn accepted(img: &[u8], name: Option<&[u8]>) -> Result<(), Refusal> {
+    let fault = name.map_or(NameFault::default(), name_fault);
+    if !good_length(img.len() as u64) {
+        let told = if faults::seeded(Fault::ReasonWhereNBad) { fault } else { NameFault::default() };
+        return Err(Refusal { answer: 22, name: told });
+    }
+    if fault.reason == 0 {
         Ok(())
     } else {
-        Err(22)
+        Err(Refusal { answer: 22, name: fault })
     }
 }
 
 /// 22, 5, 6 and 16, for the calls that want a settled image.
-pub(crate) fn read(img: &[u8], name: Option<&[u8]>) -> Result<Chain, u32> {
+pub(crate) fn read(img: &[u8], name: Option<&[u8]>) -> Result<Chain, Refusal> {
     accepted(img, name)?;
-    read_settled(img)
+    Ok(read_settled(img)?)
 }
 
 /// 2: "get, remove: no such file".
-pub(crate) fn read_file(img: &[u8], name: &[u8]) -> Result<Record, u32> {
-    read(img, Some(name))?.find_live(img, name).cloned().ok_or(2)
+pub(crate) fn read_file(img: &[u8], name: &[u8]) -> Result<Record, Refusal> {
+    read(img, Some(name))?.find_live(img, name).cloned().ok_or(Refusal::from(2))
 }
 
 /// 4: "allowance used up before the last step: steps used, and for sweep the finished
@@ -115,8 +146,8 @@ pub fn get(img: &[u8], name: &[u8]) -> Reply {
 /// "List by index (chain order) gives name part and length." 2: "index ≥ files".
 pub fn list(img: &[u8], index: u64) -> Reply {
     told(read(img, None).and_then(|c| {
-        let index = usize::try_from(index).map_err(|_| 2u32)?;
-        let r = c.live().nth(index).ok_or(2u32)?;
+        let index = usize::try_from(index).map_err(|_| Refusal::from(2))?;
+        let r = c.live().nth(index).ok_or(Refusal::from(2))?;
         let extent = Extent { offset: r.at + 8, length: r.name_len };
         Ok(Reply { extent, size: r.data_len, ..Reply::default() })
     }))

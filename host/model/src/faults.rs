@@ -1,7 +1,8 @@
 //! Wrong models, one error at a time, to show that the testers notice them: those of
 //! document 01's "Errors that look right", K14's clauses, each left out or turned, K6's
-//! room rule with a part left out, names told apart by K2's table alone, and a planner
-//! (K1) that is not the direct call's.
+//! room rule with a part left out, names told apart by K2's table alone, a name check
+//! (K5) that takes another name or gives another reason, and a planner (K1) that is not the
+//! direct call's.
 //! None is seeded by default.
 use std::cell::Cell;
 
@@ -67,6 +68,16 @@ pub enum Fault {
     NewNotCounted,
     /// K2: a name whose bits are all set in the table of names counts as doubled.
     BitsTakenForName,
+    /// K5: 01's name rule, in which a space is a bad byte anywhere.
+    SpaceRefused,
+    /// K5: a space may be the last byte.
+    SpaceLast,
+    /// K5: a bad byte's place counts from 1.
+    PlaceFromOne,
+    /// K5: a final slash is told before a bad byte.
+    SlashFirst,
+    /// K5: the name's reason is given where N is bad too.
+    ReasonWhereNBad,
     /// K14: a cut reaches inside the program step behind an undone erase. No fault of a
     /// library: the other reading of "its next program step".
     CutPastErase,
@@ -88,6 +99,8 @@ pub enum Fault {
     RefusalClears,
     /// K1: the steps given back are those handed out.
     WindowCounted,
+    /// K5: a planned call gives no reason beside 22.
+    PlanWithoutReason,
 }
 
 impl Fault {

@@ -3,6 +3,7 @@ use crate::bits;
 use crate::chain::{Chain, Record};
 use crate::faults::{self, Fault};
 use crate::geometry::*;
+use crate::names::good_name;
 
 impl Record {
     /// "An FC or F8 record with an empty name, and any of status E0, is never a

@@ -44,11 +44,6 @@ pub fn size_of(name_len: u64, data_len: u64) -> u64 {
     (8 + up8(name_len + 1)).saturating_add(up8(data_len))
 }
 
-/// "A file name has 1 to 63 bytes, each 21 to 7E hex, the last not '/'."
-pub fn good_name(name: &[u8]) -> bool {
-    (1..=63).contains(&name.len()) && name.iter().all(|b| (0x21..=0x7E).contains(b)) && name.last() != Some(&b'/')
-}
-
 pub fn byte(img: &[u8], a: u64) -> u8 {
     img[a as usize]
 }

@@ -1,4 +1,4 @@
-//! Document 01 with requests K14, K6, K1 and K3 of document 02, read literally, as a
+//! Document 01 with requests K14, K6, K1, K3 and K5 of document 02, read literally, as a
 //! program: what each call answers and leaves.
 //!
 //! One module for each section of 01; quoted text is the documents' own, a request's
@@ -19,6 +19,7 @@ pub mod flash;
 pub mod geometry;
 pub mod head;
 pub mod log;
+pub mod names;
 pub mod place;
 pub mod plan;
 pub mod planner;
@@ -29,11 +30,12 @@ pub mod sweep;
 pub mod torn;
 pub mod write;
 
-pub use calls::{format, get, list, mount, put, remove, sweep, Extent, Reply, Report};
+pub use calls::{format, get, list, mount, put, remove, sweep, Extent, Refusal, Reply, Report};
 pub use chain::{read_chain, Chain, Record};
 pub use flash::{carry_out, cut_inside, Step};
 pub use geometry::*;
 pub use head::{find_head, walk};
+pub use names::{good_name, name_fault, NameFault};
 pub use place::{put_room, sizes_behind, Place, Placed};
 pub use plan::{planned, Ask, Plan};
 pub use planner::{hand_out, plan_out, Handing};

@@ -1,5 +1,5 @@
 //! What a writing call would do, before its first step.
-use crate::calls::{accepted, read, read_file, Reply, Report};
+use crate::calls::{accepted, read, read_file, Refusal, Reply, Report};
 use crate::flash::Step;
 use crate::geometry::DELETED;
 use crate::place::put_room;
@@ -34,7 +34,7 @@ impl Plan {
 }
 
 /// The plan of a call on this image, or its refusal.
-pub fn planned(img: &[u8], ask: Ask) -> Result<Plan, u32> {
+pub fn planned(img: &[u8], ask: Ask) -> Result<Plan, Refusal> {
     match ask {
         Ask::Format => accepted(img, None).map(|()| Plan::of(format_steps(img.len() as u64))),
         Ask::Mount => plan_mount(img),
@@ -47,7 +47,7 @@ pub fn planned(img: &[u8], ask: Ask) -> Result<Plan, u32> {
 
 /// "Mount's success gives h, T, the count of live files (of the image it
 /// leaves), steps."
-fn plan_mount(img: &[u8]) -> Result<Plan, u32> {
+fn plan_mount(img: &[u8]) -> Result<Plan, Refusal> {
     accepted(img, None)?;
     let (steps, c) = mount_steps(img)?;
     let report = Report { head: c.head, tail: c.tail, files: c.live_count() };
@@ -57,9 +57,9 @@ fn plan_mount(img: &[u8]) -> Result<Plan, u32> {
 }
 
 /// 28: "put: no room".
-fn plan_put(img: &[u8], name: &[u8], data: &[u8]) -> Result<Plan, u32> {
+fn plan_put(img: &[u8], name: &[u8], data: &[u8]) -> Result<Plan, Refusal> {
     let c = read(img, Some(name))?;
-    let placed = put_room(img, &c, name, data.len() as u64).ok_or(28u32)?;
+    let placed = put_room(img, &c, name, data.len() as u64).ok_or(Refusal::from(28))?;
     let old = c.find_live(img, name).map(|r| Old { at: r.at, status: r.status });
     let steps = put_steps(old, &placed, name, data);
     let done = Reply { space: space_after(img, &steps, c.head), ..Reply::default() };
@@ -67,8 +67,8 @@ fn plan_put(img: &[u8], name: &[u8], data: &[u8]) -> Result<Plan, u32> {
 }
 
 /// "Sweep's success gives finished moves and steps". 28: "no move made, for want of room".
-fn plan_sweep(img: &[u8]) -> Result<Plan, u32> {
-    let sweep = sweep_steps(img, read(img, None)?).ok_or(28u32)?;
+fn plan_sweep(img: &[u8]) -> Result<Plan, Refusal> {
+    let sweep = sweep_steps(img, read(img, None)?).ok_or(Refusal::from(28))?;
     let space = space(&sweep.left, img.len() as u64);
     let done = Reply { moves: sweep.ends.len() as u64, space, ..Reply::default() };
     Ok(Plan { done, ends: sweep.ends, ..Plan::of(sweep.steps) })

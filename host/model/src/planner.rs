@@ -1,6 +1,6 @@
 //! Request K1: "a second engine that reads the image before the first step, changes
 //! nothing, and hands out the steps .. into lent slices of numbers".
-use crate::calls::Reply;
+use crate::calls::{Refusal, Reply};
 use crate::faults::{self, Fault};
 use crate::flash::Step;
 use crate::plan::{planned, Ask, Plan};
@@ -28,10 +28,10 @@ pub fn numbers(step: Step) -> [u32; 3] {
 /// Hands the steps of a plan out into the kinds, addresses and bytes, "as many as fit the
 /// shortest, from a given step number (0 the first) on". "Slots of a lent slice that get
 /// nothing stay as they were."
-pub fn hand_out(plan: &Result<Plan, u32>, first: u64, slices: [&mut [u32]; 3]) -> Handing {
+pub fn hand_out(plan: &Result<Plan, Refusal>, first: u64, slices: [&mut [u32]; 3]) -> Handing {
     let plan = match plan {
         Ok(plan) => plan,
-        Err(answer) => return refused(*answer, slices),
+        Err(refusal) => return refused(*refusal, slices),
     };
     let steps = listed(&plan.steps);
     let count = steps.len() as u64;
@@ -58,12 +58,14 @@ pub fn plan_out(img: &[u8], ask: Ask, first: u64, slices: [&mut [u32]; 3]) -> Ha
     hand_out(&planned(img, ask), first, slices)
 }
 
-/// A refusal hands nothing out.
-fn refused(answer: u32, slices: [&mut [u32]; 3]) -> Handing {
+/// A refusal hands nothing out; a name's fault (K5) is given as the direct call gives it.
+fn refused(refusal: Refusal, slices: [&mut [u32]; 3]) -> Handing {
     if faults::seeded(Fault::RefusalClears) {
         slices.into_iter().for_each(|slice| slice.fill(0));
     }
-    Handing { reply: Reply::refusal(answer), handed: 0 }
+    let unnamed = faults::seeded(Fault::PlanWithoutReason);
+    let reply = if unnamed { Reply::refusal(refusal.answer) } else { Reply::from(refusal) };
+    Handing { reply, handed: 0 }
 }
 
 /// Where the window begins: at the end if the start is past it.
@@ -93,7 +95,7 @@ fn listed(steps: &[Step]) -> Cow<'_, [Step]> {
 
 impl Fault {
     /// The faults of a planner; the direct calls are right.
-    pub const PLANNER: [Fault; 9] = [
+    pub const PLANNER: [Fault; 10] = [
         Fault::StepLeftOut,
         Fault::MarkerLate,
         Fault::EraseAs00,
@@ -103,5 +105,6 @@ impl Fault {
         Fault::SlotsCleared,
         Fault::RefusalClears,
         Fault::WindowCounted,
+        Fault::PlanWithoutReason,
     ];
 }

@@ -267,10 +267,12 @@ fn names_and_empty_content() {
         Reply { space: below(96, 80), steps: 63 + 1 + 10, ..Reply::default() }
     );
     let before = img.clone();
-    for bad in [&[b'x'; 64][..], b"a/", b"", b"a b", b"\x7F", b"\x20"] {
-        assert_eq!(put(&mut img, bad, b"1", ALL), Reply::refusal(22));
-        assert_eq!(get(&img, bad), Reply::refusal(22));
-        assert_eq!(remove(&mut img, bad, ALL), Reply::refusal(22));
+    // the reasons are K5's; names.rs has more of them
+    for (bad, reason) in [(&[b'x'; 64][..], 2), (b"a/", 4), (b"", 1), (b"\x7F", 3), (b"\x20", 3)] {
+        let refused = Reply { name: NameFault { reason, place: 0 }, ..Reply::refusal(22) };
+        assert_eq!(put(&mut img, bad, b"1", ALL), refused);
+        assert_eq!(get(&img, bad), refused);
+        assert_eq!(remove(&mut img, bad, ALL), refused);
     }
     assert_eq!(img, before);
     assert_eq!(put(&mut img, b"e", b"", ALL), Reply { space: below(112, 96), steps: 1 + 10, ..Reply::default() });

@@ -199,23 +199,24 @@ fn carried_out() {
     }
 }
 
-/// A refusal hands nothing out, and every number is 0.
+/// A refusal hands nothing out, and every number is 0, but a bad name's reason.
 #[test]
 fn refusals() {
     let blank = vec![0xFF; N];
     let refused = [
-        (22, vec![0xFF; 4096], Ask::Mount),
-        (22, dose(ALL), Ask::Put(b"a/", b"")),
-        (22, dose(ALL), Ask::Remove(b"")),
-        (6, blank.clone(), Ask::Mount),
-        (6, blank, Ask::Sweep),
-        (16, dose(7), Ask::Put(b"dose", b"")),
-        (2, dose(ALL), Ask::Remove(b"rose")),
-        (28, dose(ALL), Ask::Put(b"rose", &[0; 2025])),
+        (22, 0, vec![0xFF; 4096], Ask::Mount),
+        (22, 4, dose(ALL), Ask::Put(b"a/", b"")),
+        (22, 1, dose(ALL), Ask::Remove(b"")),
+        (6, 0, blank.clone(), Ask::Mount),
+        (6, 0, blank, Ask::Sweep),
+        (16, 0, dose(7), Ask::Put(b"dose", b"")),
+        (2, 0, dose(ALL), Ask::Remove(b"rose")),
+        (28, 0, dose(ALL), Ask::Put(b"rose", &[0; 2025])),
     ];
-    for (answer, img, ask) in refused {
+    for (answer, reason, img, ask) in refused {
         let (handing, slices) = window(&img, ask, 0, [4; 3]);
-        assert_eq!(handing, Handing { reply: Reply::refusal(answer), handed: 0 });
+        let reply = Reply { name: NameFault { reason, place: 0 }, ..Reply::refusal(answer) };
+        assert_eq!(handing, Handing { reply, handed: 0 });
         assert_eq!(slices, [vec![MARK; 4], vec![MARK; 4], vec![MARK; 4]]);
     }
 }
