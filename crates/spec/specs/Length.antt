@@ -103,9 +103,12 @@ header-stands first s = is-plain (kind (low-of s) (high-of s) (status-of s) (spa
 abbrev pub stretch : ℕ → ℕ → Extent
 stretch from size = record { offset = from; length = size }
 
--- the name's bytes with their 00, or 64 bytes that hold none
+-- the name's bytes with their 00, or 64 bytes that hold none, as far as s goes
+abbrev pub name-read : List ℕ → List ℕ
+name-read s = take (suc (name-length 63 false (drop 8 s))) (drop 8 s)
+
 abbrev pub name-stretch : ℕ → List ℕ → Extent
-name-stretch at s = stretch (at + 8) (suc (name-length 63 false (drop 8 s)))
+name-stretch at s = stretch (at + 8) (length (name-read s))
 
 -- the size of the record at the front of s, if it can stand there; else 0
 unfoldable pub standing-size : Bool → ℕ → List ℕ → ℕ

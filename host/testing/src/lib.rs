@@ -14,6 +14,7 @@ pub mod facts;
 pub mod history;
 pub mod images;
 pub mod ledger;
+pub mod lengths;
 pub mod maker;
 pub mod odd;
 pub mod planner;

@@ -2,6 +2,7 @@
 use crate::emit::{equation, Vector};
 use crate::held::{plain, told, Told};
 use crate::histories;
+use crate::lengths;
 use crate::orders::{self, ORDERS};
 use crate::plans;
 use crate::required::{REQUIRED, SOURCES};
@@ -96,7 +97,7 @@ impl Collection {
         let tags = tags.map(|t| format!("tag {t}"));
         let sources = SOURCES.iter().map(|s| format!("source {s}"));
         let lacking = answers.chain(tags).chain(sources).filter(|w| self.count(w) < EACH);
-        lacking.chain(plans::lacking(self)).chain(spaces::lacking(self)).collect()
+        lacking.chain(plans::lacking(self)).chain(spaces::lacking(self)).chain(lengths::lacking(self)).collect()
     }
 
     /// The coverage: calls by answers, then tags, sources and histories.
@@ -287,6 +288,7 @@ pub fn collect() -> Collection {
     orders::add(&mut c);
     plans::add(&mut c);
     spaces::add(&mut c);
+    lengths::add(&mut c);
     c
 }
 

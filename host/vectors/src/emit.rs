@@ -158,7 +158,7 @@ pub fn file(vectors: &[(usize, &Vector)]) -> String {
          use Rattle.spec.specs.Run.{fill, lit, build, call, file, entry, report, space, extent}\n\
          use Rattle.spec.specs.Run.{check, check-format, check-part, check-place, check-room, check-history}\n\
          use Rattle.spec.specs.Planner as Planner\n\
-         use Rattle.spec.specs.Run.{lent, check-plan, check-in-turn}\n",
+         use Rattle.spec.specs.Run.{lent, check-plan, check-in-turn, length-told, check-length, check-seen}\n",
     );
     for (i, v) in vectors {
         write!(s, "\nv{i} : {} ≡ true\nunfolding {}\nv{i} = refl\n", v.text, v.function).unwrap();

@@ -1,6 +1,6 @@
 //! The test helper Run.antt: what a vector computes. It unfolds every name of the
 //! definitions that can be unfolded.
-use crate::plans;
+use crate::{lengths, plans};
 use scratch::read;
 use std::path::Path;
 
@@ -179,6 +179,6 @@ pub fn text(specs: &Path) -> Result<String, String> {
             uses += &format!("use Rattle.spec.specs.{m} as {m}\n");
         }
     }
-    let body = [BODY, plans::HELPER].concat().replace("NAMES", &names.join(" "));
+    let body = [BODY, plans::HELPER, lengths::HELPER].concat().replace("NAMES", &names.join(" "));
     Ok(format!("{HEAD}{uses}{body}"))
 }

@@ -2,7 +2,7 @@
 //! windows put together and carried out.
 use crate::collect::{Collection, EACH, MOST_STEPS, MOST_TEXT};
 use crate::emit::{numbers, pieces, request, Vector};
-use model::{good_length, hand_out, planned, Handing, Plan};
+use model::{good_length, hand_out, planned, Handing, Plan, Refusal};
 use testing::aimed::{dirty_free_run, superseded_head, tight, unfinished_last};
 use testing::call::Call;
 use testing::compare::{name_for, PLAN_ANSWERS};
@@ -135,14 +135,14 @@ struct Window {
 }
 
 impl Window {
-    fn new(plan: &Result<Plan, u32>, first: u64, lengths: [usize; 3]) -> Window {
+    fn new(plan: &Result<Plan, Refusal>, first: u64, lengths: [usize; 3]) -> Window {
         let (before, mut after) = (marked(lengths), marked(lengths));
         let [kinds, addresses, bytes] = &mut after;
         let handing = hand_out(plan, first, [kinds, addresses, bytes]);
         Window { first, before, after, handing }
     }
 
-    fn tags(&self, plan: &Result<Plan, u32>) -> Vec<&'static str> {
+    fn tags(&self, plan: &Result<Plan, Refusal>) -> Vec<&'static str> {
         let need = plan.as_ref().map_or(0, |p| p.steps.len() as u64);
         let lengths = self.before.each_ref().map(|s| s.len() as u64);
         let shortest = lengths.into_iter().min().unwrap_or(0);
@@ -174,7 +174,7 @@ fn lengths(r: &mut Rng) -> [usize; 3] {
     lengths
 }
 
-fn add_window(r: &mut Rng, c: &mut Collection, img: &[u8], call: &Call, plan: &Result<Plan, u32>) {
+fn add_window(r: &mut Rng, c: &mut Collection, img: &[u8], call: &Call, plan: &Result<Plan, Refusal>) {
     let need = plan.as_ref().map_or(0, |p| p.steps.len() as u64);
     let inside = r.below(need + 1);
     let first = r.of(&[0, 0, 0, inside, inside, need, need + 1, 100_000]);

@@ -4,7 +4,7 @@ use super::plans::Plans;
 use crate::call::{Call, Store};
 use crate::planner::{Planner, PLANNED};
 use crate::rng::Rng;
-use model::{hand_out, planned, Handing, Plan, SECTOR};
+use model::{hand_out, planned, Handing, Plan, Refusal, SECTOR};
 
 /// A long list is handed out in about so many windows.
 const MOST_WINDOWS: u64 = 10;
@@ -27,7 +27,7 @@ pub struct Planning<'s> {
 struct Trial<'a> {
     img: &'a [u8],
     call: &'a Call,
-    plan: Result<Plan, u32>,
+    plan: Result<Plan, Refusal>,
 }
 
 impl Trial<'_> {
