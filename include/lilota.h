@@ -5,10 +5,10 @@
  * multiple of 4,096 from 8,192 to 16,777,216. Nothing is kept between calls.
  *
  * Arguments. A pointer and the length behind it name a stretch of bytes; with
- * length 0 the pointer may be null. A file name has 1 to 63 bytes, each 21 to
- * 7E hex, the last not '/', and no 00 behind it. Name and content must not
- * overlap the image. The pointers to numbers that a call gives back must not be
- * null, nor overlap anything else.
+ * length 0 the pointer may be null. A file name has 1 to 63 bytes, each 20 to
+ * 7E hex, a space (20) neither first nor last, '/' not last, and no 00 behind
+ * it. Name and content must not overlap the image. The pointers to numbers that
+ * a call gives back must not be null, nor overlap anything else.
  *
  * Flash steps. To program one byte or to erase one sector of 4,096 bytes is a
  * step. A writing call takes an allowance, the most steps that it may do, and
@@ -31,9 +31,16 @@
  * a wrap marker, until the head comes past. They sum to the image's length.
  * Cut or refused, all four are 0.
  *
+ * Names. Put, get, remove, plan_put and plan_remove give back what is wrong with
+ * the name: reason, one of the LILOTA_NAME_ numbers below, and place, where the
+ * first bad byte stands in the name (0 the first byte). If several things are
+ * wrong, the reason is the first of them in the order below. Place is 0 unless
+ * the reason is LILOTA_NAME_BAD_BYTE. Reason and place are both 0 on every
+ * answer but LILOTA_INVALID, and there too where the image's length is bad.
+ *
  * Answers. Each call answers with one of the numbers below, checked in their
  * order. Unless the answer is LILOTA_DONE or LILOTA_CUT, every number given
- * back is 0 and the image is unchanged.
+ * back but a bad name's reason and place is 0 and the image is unchanged.
  */
 #ifndef LILOTA_H
 #define LILOTA_H
@@ -66,6 +73,15 @@ extern "C" {
 /* Done. */
 #define LILOTA_DONE 0u
 
+/* The name has no byte. */
+#define LILOTA_NAME_EMPTY 1u
+/* The name has more than 63 bytes. */
+#define LILOTA_NAME_TOO_LONG 2u
+/* A byte is not 20 to 7E, or the first or the last byte is a space. */
+#define LILOTA_NAME_BAD_BYTE 3u
+/* The last byte is '/'. */
+#define LILOTA_NAME_FINAL_SLASH 4u
+
 /*
  * Erases all and leaves an empty store. Gives back the steps done.
  * Steps: length/4,096 + 8, of which 8 program a byte.
@@ -91,8 +107,9 @@ uint32_t lilota_mount(uint8_t *image, size_t length, size_t allowance,
 /*
  * Writes a whole file, in place of an older one of its name. One step is the
  * commit, and clears a single bit: cut before it the old file stands, after it
- * the new one does, inside it one of the two. Gives back the bytes, if done,
- * and the steps done. Done, it has left room for sweeps, as said there.
+ * the new one does, inside it one of the two. Gives back what is wrong with the
+ * name, the bytes, if done, and the steps done. Done, it has left room for
+ * sweeps, as said there.
  * Steps: name_length + content_length + 10 to 15, no erase.
  * Answers: 22, 5, 6, 16, 28, 4, 0.
  */
@@ -100,16 +117,19 @@ uint32_t lilota_put(uint8_t *image, size_t length,
                     const uint8_t *name, size_t name_length,
                     const uint8_t *content, size_t content_length,
                     size_t allowance,
+                    uint32_t *reason, size_t *place,
                     size_t *live_bytes, size_t *dead_bytes,
                     size_t *free_bytes, size_t *lost_bytes,
                     size_t *steps);
 
 /*
- * Gives back where the file's bytes stand in the image, and how many there are.
- * They stay there up to the next writing call. Answers: 22, 5, 6, 16, 2, 0.
+ * Gives back what is wrong with the name; where the file's bytes stand in the
+ * image, and how many there are. They stay there up to the next writing call.
+ * Answers: 22, 5, 6, 16, 2, 0.
  */
 uint32_t lilota_get(const uint8_t *image, size_t length,
                     const uint8_t *name, size_t name_length,
+                    uint32_t *reason, size_t *place,
                     size_t *offset, size_t *size);
 
 /*
@@ -122,12 +142,14 @@ uint32_t lilota_list(const uint8_t *image, size_t length, size_t index,
 
 /*
  * Removes a file, in one step: cut inside it, the file is whole or gone. Gives
- * back the steps done. Steps: 1, no erase.
+ * back what is wrong with the name, and the steps done. Steps: 1, no erase.
  * Answers: 22, 5, 6, 16, 2, 4, 0.
  */
 uint32_t lilota_remove(uint8_t *image, size_t length,
                        const uint8_t *name, size_t name_length,
-                       size_t allowance, size_t *steps);
+                       size_t allowance,
+                       uint32_t *reason, size_t *place,
+                       size_t *steps);
 
 /*
  * Makes room: moves the head on by up to 5 records, copies the live ones to the
@@ -164,7 +186,8 @@ uint32_t lilota_sweep(uint8_t *image, size_t length, size_t allowance,
  * The answer and the other numbers are those of the direct call with an
  * allowance of SIZE_MAX; steps is the number of all steps, handed out or not.
  * With first at or past that number nothing is handed out. On a refusal handed
- * and every other number are 0, and no slot is changed.
+ * and every other number but a bad name's reason and place are 0, and no slot
+ * is changed.
  *
  * A list of steps that is longer than the slices is handed out window after
  * window, with first growing by handed, and every window is planned from the
@@ -184,6 +207,7 @@ uint32_t lilota_plan_put(const uint8_t *image, size_t length,
                          uint32_t *addresses, size_t addresses_length,
                          uint32_t *bytes, size_t bytes_length,
                          size_t *handed,
+                         uint32_t *reason, size_t *place,
                          size_t *live_bytes, size_t *dead_bytes,
                          size_t *free_bytes, size_t *lost_bytes,
                          size_t *steps);
@@ -195,7 +219,9 @@ uint32_t lilota_plan_remove(const uint8_t *image, size_t length,
                             uint32_t *kinds, size_t kinds_length,
                             uint32_t *addresses, size_t addresses_length,
                             uint32_t *bytes, size_t bytes_length,
-                            size_t *handed, size_t *steps);
+                            size_t *handed,
+                            uint32_t *reason, size_t *place,
+                            size_t *steps);
 
 /* Plans lilota_sweep. Answers: 22, 5, 6, 16, 28, 0. */
 uint32_t lilota_plan_sweep(const uint8_t *image, size_t length, size_t first,

@@ -21,6 +21,7 @@ use crate::rules::settled;
 use crate::scan::pass;
 use crate::sought::file_of;
 use spec::Ending;
+use spec::NO_FAULT;
 use spec::Place;
 use spec::Refusal;
 use spec::floor;
@@ -115,7 +116,10 @@ fn if_settled(j: Judged) -> Read
     if j.settled {
         return Read::Good(s);
     }
-    Read::Refused(Refusal { number: 16 })
+    Read::Refused(Refusal {
+        number: 16,
+        name: NO_FAULT,
+    })
 }
 
 // What is read from the head h on, and whether it is settled; blank is a run of FF.
@@ -136,7 +140,10 @@ fn judge_from(image: &[u8], h: usize, blank: Stretch, wanted: u64) -> Judgement
             found: f,
         });
     }
-    Judgement::Refused(Refusal { number: 5 })
+    Judgement::Refused(Refusal {
+        number: 5,
+        name: NO_FAULT,
+    })
 }
 
 // What an image reads as, whether it is settled, and the first file of the hash that is wanted.
@@ -150,7 +157,10 @@ fn judge_for(image: &[u8], wanted: u64) -> Judgement
     let x = found.head;
     match x {
         Headed::At(h) => judge_from(image, h, blank, wanted),
-        Headed::Refused(n) => Judgement::Refused(Refusal { number: n }),
+        Headed::Refused(n) => Judgement::Refused(Refusal {
+            number: n,
+            name: NO_FAULT,
+        }),
     }
 }
 

@@ -120,6 +120,12 @@ pub struct NameFault {
     pub place: usize,
 }
 
+// Nothing is wrong with the name.
+pub const NO_FAULT: NameFault = NameFault {
+    reason: 0,
+    place: 0,
+};
+
 // What a refusal gives back: document 01's number; and what is wrong with the name, where that is the reason.
 pub struct Refusal {
     pub number: u32,
@@ -134,7 +140,6 @@ pub struct Report {
 }
 
 // What the bytes of an image are good for, as mount, put and sweep tell it of the image that they leave.
-#[repr(C)]
 pub struct Space {
     pub live: usize,
     pub dead: usize,
