@@ -97,6 +97,9 @@ fn walked(seen: &[Extent], at: u64) -> bool {
 /// The tags of a length that was asked and told.
 pub fn tags(a: &Asked, reply: &Reply, seen: &[Extent]) -> Vec<&'static str> {
     let n = a.img.len() as u64;
+    if !good_length(n) {
+        return Vec::new();
+    }
     let own = find_head(&a.img).ok();
     let at_own = own == Some(a.head);
     let settled = read_image(&a.img).is_ok_and(|c| settled(&a.img, &c));

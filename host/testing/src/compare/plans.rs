@@ -2,7 +2,7 @@
 use super::tally::described;
 use crate::call::Call;
 use crate::planner::PLANNED;
-use model::{good_length, read_image, settled, Plan};
+use model::{good_length, read_image, settled, Plan, Refusal};
 use std::collections::BTreeMap;
 use std::fmt::Write as _;
 
@@ -72,9 +72,9 @@ impl Plans {
         }
     }
 
-    pub fn call(&mut self, img: &[u8], call: &Call, plan: Result<&Plan, &u32>) {
+    pub fn call(&mut self, img: &[u8], call: &Call, plan: Result<&Plan, &Refusal>) {
         self.calls += 1;
-        let answer = plan.err().copied().unwrap_or(0);
+        let answer = plan.err().map_or(0, |refusal| refusal.answer);
         *self.answers.entry((call.kind(), answer)).or_default() += 1;
         self.tag(&[("nothing to do", plan.is_ok_and(|p| p.steps.is_empty())), ("image with no room", answer == 28)]);
         if !good_length(img.len() as u64) {
