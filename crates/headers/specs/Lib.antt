@@ -1,0 +1,8 @@
+-- A file's length from headers and names alone (request K8). The files stand here lowest first.
+
+-- ---- what a header says
+pub mod Kinds
+-- ---- on a settled image with its own head the length is get's
+-- pub mod Named
+-- pub mod Finished
+-- pub mod Settled
