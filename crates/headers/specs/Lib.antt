@@ -3,6 +3,8 @@
 -- ---- what a header says
 pub mod Kinds
 -- ---- on a settled image with its own head the length is get's
--- pub mod Named
--- pub mod Finished
--- pub mod Settled
+pub mod Named
+pub mod Finished
+pub mod FirstOne
+pub mod Own
+pub mod Settled
