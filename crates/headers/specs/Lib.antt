@@ -8,3 +8,8 @@ pub mod Finished
 pub mod FirstOne
 pub mod Own
 pub mod Settled
+-- ---- two images that agree in all headers and names on the walk give one length
+pub mod Twins
+pub mod NameBytes
+pub mod Agree
+pub mod Alike
