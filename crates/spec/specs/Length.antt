@@ -31,10 +31,10 @@ own-name-ok e = elim (named 0xFC e || named 0xF8 e) [ true ↦ name-ok (name-of 
 unfoldable pub stands : Bool → Entry → Bool
 stands first e = right-mark first (e .it .low) && not (is-unfinished (e .it .status)) && own-name-ok e
 
--- all of them; at the head there is one
-unfoldable pub all-stand : List Entry → Bool
-all-stand [] = false
-all-stand (x ∷ es) = stands true x && all (stands false) es
+-- all of them; the first stands at the head h itself, with no turn before it
+unfoldable pub all-stand : ℕ → List Entry → Bool
+all-stand h [] = false
+all-stand h (x ∷ es) = eqb (x .at) h && stands true x && all (stands false) es
 
 -- "ending at the first eight FF bytes, at a turn's limit or, with floor(h) = 0, at N"; a torn wrap marker is unfinished
 abbrev pub at-tail : Ending → Bool
@@ -58,15 +58,15 @@ abbrev pub length-in : List ℕ → List Entry → Answer ℕ
 length-in name es = or-else (first-such (of-name 0xFC name) es) (first-such (of-name 0xF8 name) es)
 
 -- "5 .. if the walk, to its end, meets what can't stand"
-unfoldable pub walked : List ℕ → Reading → Answer ℕ
-walked name r = checked (at-tail (r .ending) && all-stand (r .entries)) (numbered 5) (length-in name (r .entries))
+unfoldable pub walked : List ℕ → ℕ → Reading → Answer ℕ
+walked name h r = checked (at-tail (r .ending) && all-stand h (r .entries)) (numbered 5) (length-in name (r .entries))
 
 -- "5 if the head isn't an 8-byte boundary below N"
 unfoldable pub head-fits : ℕ → ℕ → Bool
 head-fits N h = eqb (h % 8) 0 && ltb h N
 
 unfoldable pub length-from : List ℕ → ℕ → Image → Answer ℕ
-length-from name h image = checked (head-fits (length image) h) (numbered 5) (walked name (reading-from image h))
+length-from name h image = checked (head-fits (length image) h) (numbered 5) (walked name h (reading-from image h))
 
 -- "Get's 22 comes first"
 unfoldable pub length-asked : List ℕ → ℕ → Image → Answer ℕ
@@ -154,7 +154,7 @@ seen-from image h =
     let k = suc (length image) in
     let c = from-head image h in
     seen k true h (drop h image)
-    ++ elim (not (eqb (floor h) 0) && all-stand (c .entries) && goes-round (c .last)) [
+    ++ elim (not (eqb (floor h) 0) && all-stand h (c .entries) && goes-round (c .last)) [
       | true ↦ seen k false 0 (take (floor h) image)
       | false ↦ []
     ]
