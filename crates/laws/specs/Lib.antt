@@ -26,5 +26,6 @@ pub mod Settled
 pub mod Answer
 pub mod Door
 pub mod Refusing
+pub mod Nameless
 -- ---- planned steps
 pub mod Planner
