@@ -2,7 +2,8 @@
 use std::path::Path;
 use std::process::Command;
 
-const FILES: [&str; 10] = ["place", "head", "chain", "reading", "read", "space", "write", "move", "mount", "scan"];
+const FILES: [&str; 11] =
+    ["place", "head", "chain", "names", "reading", "read", "space", "write", "move", "mount", "scan"];
 /// Functions begin at a cache line, so that times don't depend on where the linker puts them.
 const FLAGS: [&str; 8] =
     ["-O2", "-falign-functions=64", "-std=c99", "-Wall", "-Wextra", "-Werror", "-pedantic", "-fPIE"];

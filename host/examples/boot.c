@@ -34,8 +34,9 @@ static uint32_t told(const char *call, uint32_t answer)
 
 static void load(void)
 {
-    size_t offset = 0, size = 0;
-    uint32_t answer = lilota_get(image, LENGTH, NAME, NAME_LENGTH, &offset, &size);
+    uint32_t reason = 0;
+    size_t place = 0, offset = 0, size = 0;
+    uint32_t answer = lilota_get(image, LENGTH, NAME, NAME_LENGTH, &reason, &place, &offset, &size);
     if (told("  get", answer) == LILOTA_DONE)
         printf("  dose table: %u bytes, the first is %u\n", (unsigned)size, (unsigned)image[offset]);
 }
@@ -60,11 +61,12 @@ static void boot(const char *story)
 static void put_until(uint8_t first, size_t allowance)
 {
     uint8_t table[3] = {0, 2, 3};
-    size_t live = 0, dead = 0, blank = 0, lost = 0;
+    uint32_t reason = 0;
+    size_t place = 0, live = 0, dead = 0, blank = 0, lost = 0;
     size_t steps = 0;
     table[0] = first;
-    lilota_put(image, LENGTH, NAME, NAME_LENGTH, table, sizeof table, allowance, &live, &dead, &blank, &lost,
-               &steps);
+    lilota_put(image, LENGTH, NAME, NAME_LENGTH, table, sizeof table, allowance, &reason, &place, &live, &dead, &blank,
+               &lost, &steps);
 }
 
 int main(void)

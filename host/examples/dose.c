@@ -19,18 +19,20 @@ static int told(const char *call, uint32_t answer, size_t steps)
 
 static int write_table(const char *call, const uint8_t *table, size_t size)
 {
-    size_t live = 0, dead = 0, blank = 0, lost = 0;
+    uint32_t reason = 0;
+    size_t place = 0, live = 0, dead = 0, blank = 0, lost = 0;
     size_t steps = 0;
-    uint32_t answer = lilota_put(image, LENGTH, NAME, NAME_LENGTH, table, size, SIZE_MAX, &live, &dead, &blank, &lost,
-                                 &steps);
+    uint32_t answer = lilota_put(image, LENGTH, NAME, NAME_LENGTH, table, size, SIZE_MAX, &reason, &place, &live, &dead,
+                                 &blank, &lost, &steps);
     return told(call, answer, steps);
 }
 
 /* The file stands in the image itself: nothing is copied. */
 static int read_table(void)
 {
-    size_t offset = 0, size = 0, i;
-    uint32_t answer = lilota_get(image, LENGTH, NAME, NAME_LENGTH, &offset, &size);
+    uint32_t reason = 0;
+    size_t place = 0, offset = 0, size = 0, i;
+    uint32_t answer = lilota_get(image, LENGTH, NAME, NAME_LENGTH, &reason, &place, &offset, &size);
     printf("get: answer %u, %u bytes at %u:", (unsigned)answer, (unsigned)size, (unsigned)offset);
     for (i = 0; i < size; i++)
         printf(" %02X", image[offset + i]);

@@ -51,8 +51,10 @@ static int load(const char *path, uint8_t *image)
 
 static uint32_t put_new(uint8_t *image, size_t allowance, size_t *steps)
 {
-    size_t live = 0, dead = 0, blank = 0, lost = 0;
-    return lilota_put(image, LENGTH, NAME, NAME_LENGTH, NEW, SIZE, allowance, &live, &dead, &blank, &lost, steps);
+    uint32_t reason = 0;
+    size_t place = 0, live = 0, dead = 0, blank = 0, lost = 0;
+    return lilota_put(image, LENGTH, NAME, NAME_LENGTH, NEW, SIZE, allowance, &reason, &place, &live, &dead, &blank,
+                      &lost, steps);
 }
 
 static uint32_t recover(uint8_t *image, size_t allowance, size_t *steps)
@@ -65,8 +67,9 @@ static uint32_t recover(uint8_t *image, size_t allowance, size_t *steps)
 /* Which table the pump loads from this image; none before a whole mount. */
 static Table table(const uint8_t *image)
 {
-    size_t offset = 0, size = 0;
-    if (lilota_get(image, LENGTH, NAME, NAME_LENGTH, &offset, &size) != LILOTA_DONE)
+    uint32_t reason = 0;
+    size_t place = 0, offset = 0, size = 0;
+    if (lilota_get(image, LENGTH, NAME, NAME_LENGTH, &reason, &place, &offset, &size) != LILOTA_DONE)
         return NO_TABLE;
     if (size == SIZE && memcmp(image + offset, OLD, SIZE) == 0)
         return OLD_TABLE;
@@ -188,12 +191,13 @@ int main(int count, char **words)
 {
     static uint8_t image[LENGTH];
     size_t steps = 0, allowance;
-    size_t live = 0, dead = 0, blank = 0, lost = 0;
-    uint32_t put = LILOTA_CUT;
+    size_t place = 0, live = 0, dead = 0, blank = 0, lost = 0;
+    uint32_t put = LILOTA_CUT, reason = 0;
     if (count != 2)
         return 2;
     lilota_format(image, LENGTH, SIZE_MAX, &steps);
-    lilota_put(image, LENGTH, NAME, NAME_LENGTH, OLD, SIZE, SIZE_MAX, &live, &dead, &blank, &lost, &steps);
+    lilota_put(image, LENGTH, NAME, NAME_LENGTH, OLD, SIZE, SIZE_MAX, &reason, &place, &live, &dead, &blank, &lost,
+               &steps);
     printf("cut   put  mount    its  the pump        inside the next step:                 inside mount's steps:\n");
     printf(" at  says   says  steps  loads           byte      values  loads               values  loads\n");
     for (allowance = 0; put == LILOTA_CUT; allowance++)

@@ -76,12 +76,15 @@ static const uint8_t *name, *content;
 static size_t name_length, content_length;
 static size_t moves, head, tail, files;
 static size_t live, dead, blank, lost;
+/* what is wrong with a name, as names.c prints it */
+static uint32_t reason;
+static size_t place;
 
 static uint32_t plan_put(size_t first, Window *w)
 {
     return lilota_plan_put(image, LENGTH, name, name_length, content, content_length, first, w->kinds, SLOTS,
-                           w->addresses, SLOTS, w->bytes, SLOTS, &w->handed, &live, &dead, &blank, &lost,
-                           &w->steps);
+                           w->addresses, SLOTS, w->bytes, SLOTS, &w->handed, &reason, &place, &live, &dead, &blank,
+                           &lost, &w->steps);
 }
 
 static uint32_t plan_sweep(size_t first, Window *w)
@@ -164,7 +167,7 @@ static int sweep(void)
 static void load(void)
 {
     size_t offset = 0, size = 0, i;
-    uint32_t answer = lilota_get(image, LENGTH, (const uint8_t *)"dose", 4, &offset, &size);
+    uint32_t answer = lilota_get(image, LENGTH, (const uint8_t *)"dose", 4, &reason, &place, &offset, &size);
     printf("  get dose: answer %u", (unsigned)answer);
     for (i = 0; i < size; i++)
         printf("%s%02X", i == 0 ? ", " : " ", image[offset + i]);

@@ -28,12 +28,15 @@ static inline bool name_end(const uint8_t *m, size_t n, size_t at, Header h, siz
     return false;
 }
 
-/* Each byte of the word is 21 to 7E. */
-static inline bool printable(uint64_t word)
+/* Each byte of the word is 20 to 7E. */
+static inline bool readable(uint64_t word)
 {
-    uint64_t below_21 = ~(word + EACH_BYTE * (0x80 - 0x21)), above_7e = word + EACH_BYTE * (0x7F - 0x7E);
-    return ((word | below_21 | above_7e) & TOP_BITS) == 0;
+    uint64_t below_20 = ~(word + EACH_BYTE * (0x80 - 0x20)), above_7e = word + EACH_BYTE * (0x7F - 0x7E);
+    return ((word | below_20 | above_7e) & TOP_BITS) == 0;
 }
+
+/* Of the readable bytes those that a name may end with. */
+static inline bool may_end(uint8_t last) { return last != ' ' && last != '/'; }
 
 /* Each bit of the result depends on most of the bits, and the low ones on all. */
 static inline uint64_t mixed(uint64_t bits)
@@ -50,18 +53,18 @@ static inline bool name_key(const uint8_t *name, size_t length, uint64_t *key)
 {
     size_t i;
     uint64_t word, kept, sum = 0;
-    if (length < 1 || length > 63 || name[length - 1] == '/')
+    if (length < 1 || length > 63 || name[0] == ' ' || !may_end(name[length - 1]))
         return false;
     for (i = 0; i + 8 <= length; i += 8) {
         word = word_at(name, i);
-        if (!printable(word))
+        if (!readable(word))
             return false;
         sum = mixed(sum ^ word);
     }
     kept = (UINT64_C(1) << 8 * (length - i)) - 1;
     word = word_at(name, i) & kept;
     *key = mixed(mixed(sum ^ word));
-    return printable(word | (EACH_BYTE * 'a' & ~kept));
+    return readable(word | (EACH_BYTE * 'a' & ~kept));
 }
 
 /*

@@ -9,11 +9,11 @@ static uint32_t file_asked(const uint8_t *m, size_t n, Query *q)
     return answer == DONE && !q->found ? NO_FILE : answer;
 }
 
-uint32_t baseline_get(const uint8_t *m, size_t n, const uint8_t *name, size_t name_length, size_t *offset,
-                      size_t *size)
+uint32_t baseline_get(const uint8_t *m, size_t n, const uint8_t *name, size_t name_length, uint32_t *reason,
+                      size_t *place, size_t *offset, size_t *size)
 {
     Query q;
-    uint32_t answer = bl_ask(&q, name, name_length) ? file_asked(m, n, &q) : INVALID;
+    uint32_t answer = bl_admit(&q, n, name, name_length, reason, place) ? file_asked(m, n, &q) : INVALID;
     *offset = answer == DONE ? data_at(&q.file) : 0;
     *size = answer == DONE ? data_length_of(q.file.header) : 0;
     return answer;

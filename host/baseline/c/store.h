@@ -135,6 +135,10 @@ bool bl_ask(Query *q, const uint8_t *name, size_t length);
 uint32_t bl_read(const uint8_t *m, size_t n, Query *q, Reading *s);
 uint32_t bl_read_settled(const uint8_t *m, size_t n, Query *q, Reading *s);
 
+/* names.c: whether N and the name are good; then the query asks for the file. Else why the name isn't, 0 where N isn't. */
+
+bool bl_admit(Query *q, size_t n, const uint8_t *name, size_t length, uint32_t *reason, size_t *place);
+
 /* The query that asks for no file. */
 static inline Query nothing(void)
 {

@@ -94,7 +94,8 @@ static bool has_room(const Reading *s, const Query *q, size_t data_length, Spot 
 }
 
 uint32_t baseline_put(uint8_t *m, size_t n, const uint8_t *name, size_t name_length, const uint8_t *data,
-                      size_t data_length, size_t allowance, size_t *live, size_t *dead, size_t *blank, size_t *lost, size_t *steps)
+                      size_t data_length, size_t allowance, uint32_t *reason, size_t *place, size_t *live, size_t *dead,
+                      size_t *blank, size_t *lost, size_t *steps)
 {
     Flash f = {m, allowance, 0};
     Content content = {name, data, name_length, data_length};
@@ -104,7 +105,7 @@ uint32_t baseline_put(uint8_t *m, size_t n, const uint8_t *name, size_t name_len
     uint32_t answer;
     *steps = 0;
     *live = *dead = *blank = *lost = 0;
-    if (!bl_ask(&q, name, name_length))
+    if (!bl_admit(&q, n, name, name_length, reason, place))
         return INVALID;
     answer = bl_read_settled(m, n, &q, &s);
     if (answer != DONE)
@@ -118,14 +119,14 @@ uint32_t baseline_put(uint8_t *m, size_t n, const uint8_t *name, size_t name_len
 }
 
 uint32_t baseline_remove(uint8_t *m, size_t n, const uint8_t *name, size_t name_length, size_t allowance,
-                         size_t *steps)
+                         uint32_t *reason, size_t *place, size_t *steps)
 {
     Flash f = {m, allowance, 0};
     Query q;
     Reading s;
     uint32_t answer;
     *steps = 0;
-    if (!bl_ask(&q, name, name_length))
+    if (!bl_admit(&q, n, name, name_length, reason, place))
         return INVALID;
     answer = bl_read_settled(m, n, &q, &s);
     if (answer != DONE)

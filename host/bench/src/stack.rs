@@ -72,6 +72,7 @@ fn note() -> u32 {
 }
 
 type Number = *mut usize;
+type Reason = *mut u32;
 
 unsafe extern "C" fn format(_: *mut u8, _: usize, _: usize, _: Number) -> u32 {
     note()
@@ -101,6 +102,8 @@ unsafe extern "C" fn put(
     _: *const u8,
     _: usize,
     _: usize,
+    _: Reason,
+    _: Number,
     _: Number,
     _: Number,
     _: Number,
@@ -110,7 +113,16 @@ unsafe extern "C" fn put(
     note()
 }
 
-unsafe extern "C" fn get(_: *const u8, _: usize, _: *const u8, _: usize, _: Number, _: Number) -> u32 {
+unsafe extern "C" fn get(
+    _: *const u8,
+    _: usize,
+    _: *const u8,
+    _: usize,
+    _: Reason,
+    _: Number,
+    _: Number,
+    _: Number,
+) -> u32 {
     note()
 }
 
@@ -118,7 +130,16 @@ unsafe extern "C" fn list(_: *const u8, _: usize, _: usize, _: Number, _: Number
     note()
 }
 
-unsafe extern "C" fn remove(_: *mut u8, _: usize, _: *const u8, _: usize, _: usize, _: Number) -> u32 {
+unsafe extern "C" fn remove(
+    _: *mut u8,
+    _: usize,
+    _: *const u8,
+    _: usize,
+    _: usize,
+    _: Reason,
+    _: Number,
+    _: Number,
+) -> u32 {
     note()
 }
 

@@ -1,8 +1,8 @@
 //! The four planning calls of liblilota.a (K1), and a planner that calls them.
-use model::{Handing, Reply, Report};
+use model::{Handing, NameFault, Reply, Report};
 use std::cell::Cell;
 use std::ptr;
-use testing::c_calls::space;
+use testing::c_calls::{space, UNWRITTEN_REASON};
 use testing::call::Call;
 use testing::planner::Planner;
 
@@ -22,6 +22,8 @@ extern "C" {
         bytes: *mut u32,
         bytes_length: usize,
         handed: *mut usize,
+        reason: *mut u32,
+        place: *mut usize,
         live: *mut usize,
         dead: *mut usize,
         free: *mut usize,
@@ -41,6 +43,8 @@ extern "C" {
         bytes: *mut u32,
         bytes_length: usize,
         handed: *mut usize,
+        reason: *mut u32,
+        place: *mut usize,
         steps: *mut usize,
     ) -> u32;
     fn lilota_plan_sweep(
@@ -117,7 +121,8 @@ impl Plans {
     pub fn lend(&self, img: &mut [u8], call: &Call, first: u64, slices: [&mut [u32]; 3]) -> Handing {
         let (at, n, first) = (self.bytes(img), img.len(), first as usize);
         let [(k, kl), (a, al), (b, bl)] = slices.map(|s| self.slots(s));
-        let [mut handed, mut head, mut tail, mut files, mut moves, mut steps] = [UNWRITTEN; 6];
+        let [mut handed, mut place, mut head, mut tail, mut files, mut moves, mut steps] = [UNWRITTEN; 7];
+        let mut reason = UNWRITTEN_REASON;
         let mut told = [UNWRITTEN; 4];
         let [live, dead, free, lost] = &mut told;
         // Safety: each pointer comes with the length of the slice that it is of, or is
@@ -126,12 +131,13 @@ impl Plans {
             match call {
                 Call::Put(name, data, _) => {
                     let (p, pl, d, dl) = (self.bytes(name), name.len(), self.bytes(data), data.len());
-                    let (h, s) = (&mut handed, &mut steps);
-                    lilota_plan_put(at, n, p, pl, d, dl, first, k, kl, a, al, b, bl, h, live, dead, free, lost, s)
+                    let (h, r, i, s) = (&mut handed, &mut reason, &mut place, &mut steps);
+                    lilota_plan_put(at, n, p, pl, d, dl, first, k, kl, a, al, b, bl, h, r, i, live, dead, free, lost, s)
                 }
                 Call::Remove(name, _) => {
                     let (p, pl) = (self.bytes(name), name.len());
-                    lilota_plan_remove(at, n, p, pl, first, k, kl, a, al, b, bl, &mut handed, &mut steps)
+                    let (h, r, i, s) = (&mut handed, &mut reason, &mut place, &mut steps);
+                    lilota_plan_remove(at, n, p, pl, first, k, kl, a, al, b, bl, h, r, i, s)
                 }
                 Call::Sweep(_) => {
                     let (h, m, s) = (&mut handed, &mut moves, &mut steps);
@@ -144,14 +150,16 @@ impl Plans {
                 other => unreachable!("{} is not planned", other.kind()),
             }
         };
+        let name = NameFault { reason, place: place as u64 };
         let report = Report { head: head as u64, tail: tail as u64, files: files as u64 };
         let (moves, steps, zeros) = (moves as u64, steps as u64, Reply::refusal(answer));
         let space = space(told);
         let reply = match call {
-            Call::Put(..) => Reply { space, steps, ..zeros },
+            Call::Put(..) => Reply { name, space, steps, ..zeros },
+            Call::Remove(..) => Reply { name, steps, ..zeros },
             Call::Mount(_) => Reply { report, space, steps, ..zeros },
             Call::Sweep(_) => Reply { moves, space, steps, ..zeros },
-            _ => Reply { steps, ..zeros },
+            other => unreachable!("{} is not planned", other.kind()),
         };
         Handing { reply, handed: handed as u64 }
     }

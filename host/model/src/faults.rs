@@ -70,6 +70,8 @@ pub enum Fault {
     BitsTakenForName,
     /// K5: 01's name rule, in which a space is a bad byte anywhere.
     SpaceRefused,
+    /// K5: a space may be the first byte.
+    SpaceFirst,
     /// K5: a space may be the last byte.
     SpaceLast,
     /// K5: a bad byte's place counts from 1.

@@ -29,7 +29,10 @@ fn may_stand(name: &[u8], place: usize) -> bool {
     match name[place] {
         0x21..=0x7E => true,
         0x20 if faults::seeded(Fault::SpaceRefused) => false,
-        0x20 => place != 0 && (place + 1 != name.len() || faults::seeded(Fault::SpaceLast)),
+        0x20 => {
+            let [first, last] = [place == 0, place + 1 == name.len()];
+            (!first || faults::seeded(Fault::SpaceFirst)) && (!last || faults::seeded(Fault::SpaceLast))
+        }
         _ => false,
     }
 }
@@ -67,6 +70,12 @@ pub fn good_name(name: &[u8]) -> bool {
 impl Fault {
     /// The faults of the name check and of what put, get and remove give back of it. A
     /// history checks no reason, and by its own rule a wrong name is kept like any other.
-    pub const NAMES: [Fault; 5] =
-        [Fault::SpaceRefused, Fault::SpaceLast, Fault::PlaceFromOne, Fault::SlashFirst, Fault::ReasonWhereNBad];
+    pub const NAMES: [Fault; 6] = [
+        Fault::SpaceRefused,
+        Fault::SpaceFirst,
+        Fault::SpaceLast,
+        Fault::PlaceFromOne,
+        Fault::SlashFirst,
+        Fault::ReasonWhereNBad,
+    ];
 }

@@ -6,7 +6,7 @@
 mod plans;
 
 use model::faults::{self, Fault};
-use model::{Reply, Space};
+use model::{NameFault, Reply, Space};
 use std::panic::{catch_unwind, AssertUnwindSafe};
 use std::sync::OnceLock;
 
@@ -17,7 +17,8 @@ fn fault() -> Option<Fault> {
     static FAULT: OnceLock<Option<Fault>> = OnceLock::new();
     *FAULT.get_or_init(|| {
         let name = std::env::var("STANDIN_FAULT").ok()?;
-        let found = Fault::ALL.into_iter().chain(Fault::PLANNER).find(|f| format!("{f:?}") == name);
+        let mut all = Fault::ALL.into_iter().chain(Fault::NAMES).chain(Fault::PLANNER);
+        let found = all.find(|f| format!("{f:?}") == name);
         Some(found.unwrap_or_else(|| panic!("no fault {name}")))
     })
 }
@@ -36,6 +37,13 @@ unsafe fn give_space(s: Space, to: [*mut usize; 4]) {
     for (number, at) in [s.live, s.dead, s.free, s.lost].into_iter().zip(to) {
         *at = number as usize;
     }
+}
+
+/// # Safety
+/// Pointers to two numbers.
+unsafe fn give_name(fault: NameFault, reason: *mut u32, place: *mut usize) {
+    *reason = fault.reason;
+    *place = fault.place as usize;
 }
 
 /// # Safety
@@ -103,6 +111,8 @@ pub unsafe extern "C" fn lilota_put(
     content: *const u8,
     content_length: usize,
     allowance: usize,
+    reason: *mut u32,
+    place: *mut usize,
     live: *mut usize,
     dead: *mut usize,
     free: *mut usize,
@@ -111,6 +121,7 @@ pub unsafe extern "C" fn lilota_put(
 ) -> u32 {
     let (name, content) = (slice(name, name_length), slice(content, content_length));
     let reply = run(|| model::put(slice_mut(image, length), name, content, allowance as u64));
+    give_name(reply.name, reason, place);
     give_space(reply.space, [live, dead, free, lost]);
     *steps = reply.steps as usize;
     reply.answer
@@ -124,10 +135,13 @@ pub unsafe extern "C" fn lilota_get(
     length: usize,
     name: *const u8,
     name_length: usize,
+    reason: *mut u32,
+    place: *mut usize,
     offset: *mut usize,
     size: *mut usize,
 ) -> u32 {
     let reply = run(|| model::get(slice(image, length), slice(name, name_length)));
+    give_name(reply.name, reason, place);
     *offset = reply.extent.offset as usize;
     *size = reply.extent.length as usize;
     reply.answer
@@ -160,9 +174,12 @@ pub unsafe extern "C" fn lilota_remove(
     name: *const u8,
     name_length: usize,
     allowance: usize,
+    reason: *mut u32,
+    place: *mut usize,
     steps: *mut usize,
 ) -> u32 {
     let reply = run(|| model::remove(slice_mut(image, length), slice(name, name_length), allowance as u64));
+    give_name(reply.name, reason, place);
     *steps = reply.steps as usize;
     reply.answer
 }

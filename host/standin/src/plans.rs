@@ -1,5 +1,5 @@
 //! The planning calls (K1) of the stand-in: the model's planner under the C names.
-use crate::{fault, give_space, slice, slice_mut, TRIPPED};
+use crate::{fault, give_name, give_space, slice, slice_mut, TRIPPED};
 use model::faults;
 use model::{plan_out, Ask, Handing, Reply};
 use std::panic::{catch_unwind, AssertUnwindSafe};
@@ -38,6 +38,8 @@ pub unsafe extern "C" fn lilota_plan_put(
     bytes: *mut u32,
     bytes_length: usize,
     handed: *mut usize,
+    reason: *mut u32,
+    place: *mut usize,
     live: *mut usize,
     dead: *mut usize,
     free: *mut usize,
@@ -48,6 +50,7 @@ pub unsafe extern "C" fn lilota_plan_put(
     let ask = Ask::Put(slice(name, name_length), slice(content, content_length));
     let told = run(slice(image, length), ask, first, slices);
     *handed = told.handed as usize;
+    give_name(told.reply.name, reason, place);
     give_space(told.reply.space, [live, dead, free, lost]);
     *steps = told.reply.steps as usize;
     told.reply.answer
@@ -69,11 +72,14 @@ pub unsafe extern "C" fn lilota_plan_remove(
     bytes: *mut u32,
     bytes_length: usize,
     handed: *mut usize,
+    reason: *mut u32,
+    place: *mut usize,
     steps: *mut usize,
 ) -> u32 {
     let slices = [(kinds, kinds_length), (addresses, addresses_length), (bytes, bytes_length)];
     let told = run(slice(image, length), Ask::Remove(slice(name, name_length)), first, slices);
     *handed = told.handed as usize;
+    give_name(told.reply.name, reason, place);
     *steps = told.reply.steps as usize;
     told.reply.answer
 }

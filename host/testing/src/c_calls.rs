@@ -1,13 +1,14 @@
 //! The seven calls as C functions: the signatures of include/lilota.h, and a
 //! store that calls them.
 use crate::call::{Call, Store};
-use model::{Extent, Reply, Report, Space};
+use model::{Extent, NameFault, Reply, Report, Space};
 use std::cell::Cell;
 use std::ptr;
 
 type Image = *mut u8;
 type Bytes = *const u8;
 type Number = *mut usize;
+type Reason = *mut u32;
 
 /// The functions of a library.
 #[derive(Clone, Copy)]
@@ -34,20 +35,24 @@ pub struct Functions {
         Bytes,
         usize,
         usize,
+        Reason,
+        Number,
         Number,
         Number,
         Number,
         Number,
         Number,
     ) -> u32,
-    pub get: unsafe extern "C" fn(Bytes, usize, Bytes, usize, Number, Number) -> u32,
+    pub get: unsafe extern "C" fn(Bytes, usize, Bytes, usize, Reason, Number, Number, Number) -> u32,
     pub list: unsafe extern "C" fn(Bytes, usize, usize, Number, Number, Number) -> u32,
-    pub remove: unsafe extern "C" fn(Image, usize, Bytes, usize, usize, Number) -> u32,
+    pub remove: unsafe extern "C" fn(Image, usize, Bytes, usize, usize, Reason, Number, Number) -> u32,
     pub sweep: unsafe extern "C" fn(Image, usize, usize, Number, Number, Number, Number, Number, Number) -> u32,
 }
 
 /// Stands in the numbers before a call: one that the call leaves is seen.
 const UNWRITTEN: usize = 0x5EED_0BAD_5EED_0BAD;
+/// The same of a reason.
+pub const UNWRITTEN_REASON: u32 = 0x5EED_0BAD;
 /// Stands before and behind the image: what is written there is seen.
 const GUARD: [u8; 64] = [0x6B; 64];
 /// Larger images are lent as they are, since the copy costs too much.
@@ -83,7 +88,7 @@ impl Library {
         let at = if self.goes_as_null(img) { ptr::null_mut() } else { img.as_mut_ptr() };
         let n = img.len();
         let mut out = Numbers::UNWRITTEN;
-        let Numbers { head, tail, files, moves, offset, length, size, space, steps } = &mut out;
+        let Numbers { reason, place, head, tail, files, moves, offset, length, size, space, steps } = &mut out;
         let [live, dead, free, lost] = space;
         // Safety: each pointer comes with the length of the slice that it is of,
         // or is null with length 0; the numbers are different ones.
@@ -92,12 +97,14 @@ impl Library {
                 Call::Format(k) => (f.format)(at, n, *k as usize, steps),
                 Call::Mount(k) => (f.mount)(at, n, *k as usize, head, tail, files, live, dead, free, lost, steps),
                 Call::Put(name, data, k) => {
-                    let (name_at, data_at) = (self.pointer(name), self.pointer(data));
-                    (f.put)(at, n, name_at, name.len(), data_at, data.len(), *k as usize, live, dead, free, lost, steps)
+                    let (p, pl, d, dl) = (self.pointer(name), name.len(), self.pointer(data), data.len());
+                    (f.put)(at, n, p, pl, d, dl, *k as usize, reason, place, live, dead, free, lost, steps)
                 }
-                Call::Get(name) => (f.get)(at, n, self.pointer(name), name.len(), offset, length),
+                Call::Get(name) => (f.get)(at, n, self.pointer(name), name.len(), reason, place, offset, length),
                 Call::List(index) => (f.list)(at, n, *index as usize, offset, length, size),
-                Call::Remove(name, k) => (f.remove)(at, n, self.pointer(name), name.len(), *k as usize, steps),
+                Call::Remove(name, k) => {
+                    (f.remove)(at, n, self.pointer(name), name.len(), *k as usize, reason, place, steps)
+                }
                 Call::Sweep(k) => (f.sweep)(at, n, *k as usize, moves, live, dead, free, lost, steps),
             }
         };
@@ -124,6 +131,8 @@ pub fn space([live, dead, free, lost]: [usize; 4]) -> Space {
 
 /// The numbers that the calls give back, each call its own.
 struct Numbers {
+    reason: u32,
+    place: usize,
     head: usize,
     tail: usize,
     files: usize,
@@ -137,6 +146,8 @@ struct Numbers {
 
 impl Numbers {
     const UNWRITTEN: Numbers = Numbers {
+        reason: UNWRITTEN_REASON,
+        place: UNWRITTEN,
         head: UNWRITTEN,
         tail: UNWRITTEN,
         files: UNWRITTEN,
@@ -150,15 +161,17 @@ impl Numbers {
 
     /// Those that this call gives back; the others are 0.
     fn reply(&self, call: &Call, answer: u32) -> Reply {
+        let name = NameFault { reason: self.reason, place: self.place as u64 };
         let report = Report { head: self.head as u64, tail: self.tail as u64, files: self.files as u64 };
         let extent = Extent { offset: self.offset as u64, length: self.length as u64 };
         let (moves, size, steps) = (self.moves as u64, self.size as u64, self.steps as u64);
         let (space, zeros) = (space(self.space), Reply::refusal(answer));
         match call {
-            Call::Format(_) | Call::Remove(..) => Reply { steps, ..zeros },
-            Call::Put(..) => Reply { space, steps, ..zeros },
+            Call::Format(_) => Reply { steps, ..zeros },
+            Call::Remove(..) => Reply { name, steps, ..zeros },
+            Call::Put(..) => Reply { name, space, steps, ..zeros },
             Call::Mount(_) => Reply { report, space, steps, ..zeros },
-            Call::Get(_) => Reply { extent, ..zeros },
+            Call::Get(_) => Reply { name, extent, ..zeros },
             Call::List(_) => Reply { extent, size, ..zeros },
             Call::Sweep(_) => Reply { moves, space, steps, ..zeros },
         }
@@ -202,6 +215,8 @@ macro_rules! c_library {
                 content: *const u8,
                 content_length: usize,
                 allowance: usize,
+                reason: *mut u32,
+                place: *mut usize,
                 live: *mut usize,
                 dead: *mut usize,
                 free: *mut usize,
@@ -213,6 +228,8 @@ macro_rules! c_library {
                 length: usize,
                 name: *const u8,
                 name_length: usize,
+                reason: *mut u32,
+                place: *mut usize,
                 offset: *mut usize,
                 size: *mut usize,
             ) -> u32;
@@ -230,6 +247,8 @@ macro_rules! c_library {
                 name: *const u8,
                 name_length: usize,
                 allowance: usize,
+                reason: *mut u32,
+                place: *mut usize,
                 steps: *mut usize,
             ) -> u32;
             pub fn $sweep(

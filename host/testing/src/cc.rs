@@ -3,7 +3,7 @@ use std::path::{Path, PathBuf};
 use std::process::Command;
 
 /// The programs of host/examples.
-pub const EXAMPLES: [&str; 4] = ["dose", "boot", "promise", "spi"];
+pub const EXAMPLES: [&str; 5] = ["dose", "boot", "promise", "spi", "names"];
 /// Everything that the compilers warn of is an error.
 const STRICT: [&str; 4] = ["-Wall", "-Wextra", "-Werror", "-pedantic"];
 

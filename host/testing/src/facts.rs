@@ -67,8 +67,10 @@ fn record(img: &[u8], r: &Record, found: &mut Vec<Broken>) {
         ("name padding is FF", !blank(img, named, r.data_at)),
         ("data padding is FF", !blank(img, r.data_at + r.data_len, end)),
         // 7F, where a dead record's name was cut inside a byte
-        ("names are bytes 21 to 7F", !r.name(img).iter().all(|b| (0x21..=0x7F).contains(b))),
-        ("files' names are bytes 21 to 7E", r.live && !r.name(img).iter().all(|b| (0x21..=0x7E).contains(b))),
+        ("names are bytes 20 to 7F", !r.name(img).iter().all(|b| (0x20..=0x7F).contains(b))),
+        ("files' names are bytes 20 to 7E", r.live && !r.name(img).iter().all(|b| (0x20..=0x7E).contains(b))),
+        ("no name begins with a space", r.name(img).starts_with(b" ")),
+        ("no file's name ends with a space", r.live && r.name(img).ends_with(b" ")),
         ("a dead status is part of FC or 7F", r.status & 0x80 != 0 && r.status & 0x03 != 0 && r.status != RESERVED),
         ("a file has a name", empty && matches!(r.status, COMMITTED | MIGRATING)),
         ("FF after a cut name", cut && !blank(img, r.data_at, end)),

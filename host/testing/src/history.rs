@@ -53,6 +53,8 @@ pub struct Seen {
     pub bytes: BTreeMap<&'static str, u64>,
     /// images by how many of their names collide
     pub collisions: Collisions,
+    /// images with a file whose name has a space
+    pub spaced: u64,
     pub facts: Facts,
     /// puts, each followed by its sweeps
     pub progress: Progress,
@@ -64,6 +66,7 @@ impl Seen {
         self.facts.look(img);
         let Ok(c) = read_image(img) else { return };
         self.collisions.note(bits::colliding(c.live().map(|x| x.name(img))));
+        self.spaced += c.live().any(|x| x.name(img).contains(&b' ')) as u64;
         for tag in tags::of_bytes(img, &c) {
             *self.bytes.entry(tag).or_default() += 1;
         }

@@ -45,7 +45,7 @@ fn damage_at(r: &mut Rng, img: &mut [u8], at: usize) {
         4 => {
             let a = at + 8 + r.below(70) as usize;
             if a < img.len() {
-                img[a] = r.of(&[0, 0xFF, b'/', b'a', b' ', 0x5A, 0xA0, 0x80, 0xE1, 0x7F]);
+                img[a] = r.of(&[0, 0xFF, b'/', b'a', b' ', 0x5A, 0xA0, 0x80, 0xE1, 0x7F, 0x1F, 0x21, 0x7E]);
             }
         }
         5 => img[at + 3] = r.of(&[0xFF, 0x00]),
@@ -202,7 +202,8 @@ impl Builder {
 
     /// A name, and a length of data that may fill the room to the last byte.
     fn sizes(&self, r: &mut Rng, room: usize) -> (Vec<u8>, usize) {
-        let mut names: Vec<Vec<u8>> = ["a", "b", "c", "dddddddd", "", "eeeeeee", "f/", "A "].map(|s| s.into()).into();
+        let mut names: Vec<Vec<u8>> =
+            ["a", "b", "c", "dddddddd", "", "eeeeeee", "f/", "A ", "g  h", "i j"].map(|s| s.into()).into();
         if !self.plain && r.chance(6) {
             // a dead record's name may hold a mark
             names = vec![b"dead name\xA0\x5A".to_vec(), b"\x11\x22\x33\x44\x55\x66\x77\x88\xA0\x5A\x01".to_vec()];

@@ -2,7 +2,8 @@
 //! damaged ones, and heads that are wrong.
 use crate::aimed::{superseded, superseded_head, tight, unfinished_last};
 use crate::images::{built, damage, of_history};
-use crate::maker::{bad_names, Maker};
+use crate::maker::Maker;
+use crate::names::bad_names;
 use crate::rng::Rng;
 use crate::ALL;
 use model::*;
@@ -15,7 +16,7 @@ pub struct Asked {
 }
 
 /// What a length shows.
-pub const TAGS: [&str; 14] = [
+pub const TAGS: [&str; 15] = [
     "length: settled, own head",
     "length: settled, own head, no such file",
     "length: not settled",
@@ -30,6 +31,7 @@ pub const TAGS: [&str; 14] = [
     "length: FC behind an F8 of its name",
     "length: F8 alone",
     "length: refused behind a record of its name",
+    "length: head at a marker, START at 0",
 ];
 
 fn image(r: &mut Rng, n: usize) -> Vec<u8> {
@@ -79,11 +81,19 @@ fn name(r: &mut Rng, img: &[u8], head: u64) -> Vec<u8> {
     r.of(&names)
 }
 
+/// The marker of a turned image taken for the head, with the record at 0 made a START.
+fn at_marker(img: &mut [u8]) -> Option<u64> {
+    let marker = read_image(img).ok()?.marker?;
+    img[0] = 0x00;
+    Some(marker)
+}
+
 pub fn asked(r: &mut Rng, lengths: &[usize]) -> Asked {
     let n = r.of(lengths);
-    let img = image(r, n);
+    let mut img = image(r, n);
     let own = own_head(r, &img);
-    let head = head(r, &img, own);
+    let marker = if r.chance(10) { at_marker(&mut img) } else { None };
+    let head = marker.unwrap_or_else(|| head(r, &img, own));
     let near = if head < img.len() as u64 { head } else { own };
     let name = name(r, &img, near);
     Asked { img, head, name }
@@ -132,6 +142,7 @@ pub fn tags(a: &Asked, reply: &Reply, seen: &[Extent]) -> Vec<&'static str> {
         done && fc.zip(f8).is_some_and(|(c, m)| place(m) < place(c)),
         done && fc.is_none() && f8.is_some(),
         reply.answer == 5 && (fc.is_some() || f8.is_some()) && walked(seen, a.head) && seen.len() > 2,
+        a.head + 8 <= n && magic(&a.img, a.head) == WRAP && magic(&a.img, 0) == START,
     ];
     TAGS.into_iter().zip(found).filter(|t| t.1).map(|t| t.0).collect()
 }

@@ -16,6 +16,7 @@ pub mod images;
 pub mod ledger;
 pub mod lengths;
 pub mod maker;
+pub mod names;
 pub mod odd;
 pub mod planner;
 pub mod progress;

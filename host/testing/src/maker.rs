@@ -1,22 +1,10 @@
 //! Random names, contents and calls.
 use crate::call::Call;
 use crate::images::MARKS;
+use crate::names::{bad_names, good_names};
 use crate::rng::Rng;
 use crate::ALL;
 use model::*;
-
-/// Names that pass the name check, of lengths around the multiples of 8.
-pub fn good_names() -> Vec<Vec<u8>> {
-    let mut names: Vec<Vec<u8>> =
-        ["a", "bb", "dose", "seven77", "eight888", "dir/fifteen-byt", "!", "ZZ"].map(|s| s.into()).into();
-    names.extend([vec![b'~'; 16], vec![b'Z'; 63]]);
-    names
-}
-
-/// Names that fail it.
-pub fn bad_names() -> Vec<Vec<u8>> {
-    vec![vec![], b"a/".to_vec(), vec![b'q'; 64], b"a b".to_vec(), vec![0x7F], vec![0x80]]
-}
 
 /// How long the contents of puts are.
 #[derive(Clone, Copy, Debug)]
@@ -111,7 +99,7 @@ impl Maker {
     /// Short contents and many cuts: calls with few steps.
     pub fn short(big: u64) -> Maker {
         Maker {
-            names: ["a", "b", "dose", "eight888", "seven77"]
+            names: ["a", "b", "dose", "eight888", "seven77", "a b"]
                 .map(|s| s.into())
                 .into_iter()
                 .chain([vec![b'z'; 63]])

@@ -63,8 +63,9 @@ fn odd_name(r: &mut Rng, img: &mut [u8], x: &Record) {
             img[from + r.below(window as u64) as usize] = 0xFF;
         }
         _ => {
-            let i = from + r.below(x.name_len.max(1)) as usize;
-            img[i] = r.of(&[0x20, 0x7F, 0x80, 0xE1, b'/', 0x01, 0xFF]);
+            let any = r.below(x.name_len.max(1));
+            let i = from + r.of(&[any, any, 0, x.name_len.saturating_sub(1)]) as usize;
+            img[i] = r.of(&[0x20, 0x20, 0x7F, 0x80, 0xE1, b'/', 0x01, 0xFF, 0x1F, 0x21, 0x7E]);
         }
     }
 }

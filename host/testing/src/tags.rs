@@ -1,5 +1,6 @@
 //! What a call on an image shows, so that a tester can tell what it covered.
 use crate::call::Call;
+use crate::names;
 use model::faults::{self, Fault};
 use model::*;
 
@@ -58,6 +59,7 @@ fn of_image(img: &[u8], t: &mut Vec<&'static str>) {
         ("wear record", c.records.iter().any(|r| r.status == WEAR)),
         ("reserved after the turn", last.status == RESERVED && last.turned),
         ("colliding names", bits::colliding(c.live().map(|x| x.name(img))) > 0),
+        ("file name with a space", c.live().any(|x| x.name(img).contains(&b' '))),
     ];
     add(t, &found);
     t.extend(of_bytes(img, &c));
@@ -170,6 +172,10 @@ pub fn of(img: &[u8], call: &Call, reply: &Reply, after: &[u8]) -> Vec<&'static 
     of_image(img, &mut t);
     if reply.answer == 0 && reply.steps > 0 && reply.steps == call.allowance() {
         t.push("allowance is the need");
+    }
+    if let Call::Put(name, ..) | Call::Get(name) | Call::Remove(name, _) = call {
+        let good = good_length(img.len() as u64);
+        t.extend(names::tag(name).filter(|_| good));
     }
     match call {
         Call::Put(name, data, _) => of_put(img, name, data, &mut t),

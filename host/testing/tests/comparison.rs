@@ -4,6 +4,7 @@ use model::faults::Fault;
 use model::Reply;
 use testing::call::{Call, Model, Store, Wrong, ANSWERS};
 use testing::compare::{Comparison, Tally};
+use testing::names::NAME_TAGS;
 use testing::tags::{BYTE_TAGS, ROOM_TAGS};
 
 fn compared(store: &impl Store, images: u64) -> Tally {
@@ -47,14 +48,14 @@ fn the_model_equals_itself() {
             assert!(tally.answered(kind, answer) >= 20, "{kind} {answer}\n{}", tally.report());
         }
     }
-    for place in PLACES.into_iter().chain(BYTE_TAGS).chain(ROOM_TAGS) {
+    for place in PLACES.into_iter().chain(BYTE_TAGS).chain(ROOM_TAGS).chain(NAME_TAGS) {
         assert!(tally.tagged(place) >= 10, "{place}\n{}", tally.report());
     }
 }
 
 #[test]
 fn faults_are_noticed() {
-    for fault in Fault::ALL {
+    for fault in Fault::ALL.into_iter().chain(Fault::NAMES) {
         assert!(compared(&Wrong(fault), 10_000).differ > 0, "{fault:?} is not noticed");
     }
 }
@@ -78,6 +79,17 @@ fn number_after_refusal(_: &Call, reply: &mut Reply, _: &mut [u8]) {
     reply.report.tail += (reply.answer == 6) as u64;
 }
 
+/// A reason that is taken for an offset.
+fn reason_as_offset(call: &Call, reply: &mut Reply, _: &mut [u8]) {
+    if matches!(call, Call::Get(_)) {
+        reply.extent.offset += u64::from(reply.name.reason);
+    }
+}
+
+fn reason_of_no_file(_: &Call, reply: &mut Reply, _: &mut [u8]) {
+    reply.name.reason += (reply.answer == 2) as u32;
+}
+
 fn byte_after_refusal(_: &Call, reply: &mut Reply, img: &mut [u8]) {
     if reply.answer == 28 {
         *img.last_mut().expect("an image") = 0;
@@ -93,7 +105,14 @@ fn tail_of_the_image_before(call: &Call, reply: &mut Reply, img: &mut [u8]) {
 
 #[test]
 fn changed_answers_are_noticed() {
-    for change in [wrong_step_count, number_after_refusal, byte_after_refusal, tail_of_the_image_before] {
+    for change in [
+        wrong_step_count,
+        number_after_refusal,
+        reason_as_offset,
+        reason_of_no_file,
+        byte_after_refusal,
+        tail_of_the_image_before,
+    ] {
         assert!(compared(&Changed(change), 10_000).differ > 0);
     }
 }

@@ -101,6 +101,7 @@ fn histories_keep_demand_3() {
     }
     assert_eq!(seen.bytes.len(), BYTE_TAGS.len(), "{:?}", seen.bytes);
     assert!(seen.progress.puts >= 1_000 && seen.progress.refused > 0);
+    assert!(seen.spaced >= 1_000, "{} images with a space in a name", seen.spaced);
 }
 
 /// The count that the ledger goes by is the commit's place in the step list.

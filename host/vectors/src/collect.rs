@@ -3,6 +3,7 @@ use crate::emit::{equation, Vector};
 use crate::held::{plain, told, Told};
 use crate::histories;
 use crate::lengths;
+use crate::names;
 use crate::orders::{self, ORDERS};
 use crate::plans;
 use crate::required::{REQUIRED, SOURCES};
@@ -97,7 +98,8 @@ impl Collection {
         let tags = tags.map(|t| format!("tag {t}"));
         let sources = SOURCES.iter().map(|s| format!("source {s}"));
         let lacking = answers.chain(tags).chain(sources).filter(|w| self.count(w) < EACH);
-        lacking.chain(plans::lacking(self)).chain(spaces::lacking(self)).chain(lengths::lacking(self)).collect()
+        let lacking = lacking.chain(plans::lacking(self)).chain(spaces::lacking(self));
+        lacking.chain(names::lacking(self)).chain(lengths::lacking(self)).collect()
     }
 
     /// The coverage: calls by answers, then tags, sources and histories.
@@ -122,6 +124,7 @@ impl Collection {
                 || what.starts_with("source ")
                 || what.starts_with("history")
                 || what.starts_with("place")
+                || what.starts_with("name")
             {
                 writeln!(s, "{n:>6}  {what}").unwrap();
             }
@@ -289,6 +292,7 @@ pub fn collect() -> Collection {
     plans::add(&mut c);
     spaces::add(&mut c);
     lengths::add(&mut c);
+    names::add(&mut c);
     c
 }
 

@@ -1,5 +1,5 @@
 //! Vectors as antt text.
-use model::{put_room, Chain, Extent, Place, Record, Reply, Report, Space};
+use model::{put_room, Chain, Extent, NameFault, Place, Record, Reply, Report, Space};
 use std::fmt::Write as _;
 use testing::call::Call;
 
@@ -103,6 +103,9 @@ fn extent(x: &Extent) -> String {
 /// The numbers of a reply, each under its name.
 pub fn numbers(call: &Call, r: &Reply) -> String {
     let (answer, steps) = (r.answer, r.steps);
+    if r.name != NameFault::default() {
+        return format!("(refused-name {answer} {} {})", r.name.reason, r.name.place);
+    }
     match call {
         Call::Mount(_) => format!("(of-mount {answer} {} {} {steps})", report(&r.report), space(&r.space)),
         Call::Put(..) => format!("(of-put {answer} {} {steps})", space(&r.space)),
@@ -155,10 +158,11 @@ pub fn file(vectors: &[(usize, &Vector)]) -> String {
          use mathlib.Core.List.{List, [], _∷_}\n\
          use Rattle.spec.specs.History.{Request, put, remove, sweep, mount, get, list}\n\
          use Rattle.spec.specs.Numbers.{of-write, of-put, of-mount, of-sweep, of-get, of-list}\n\
-         use Rattle.spec.specs.Run.{fill, lit, build, call, file, entry, report, space, extent}\n\
+         use Rattle.spec.specs.Run.{fill, lit, build, call, file, entry, report, space, extent, refused-name}\n\
          use Rattle.spec.specs.Run.{check, check-format, check-part, check-place, check-room, check-history}\n\
          use Rattle.spec.specs.Planner as Planner\n\
-         use Rattle.spec.specs.Run.{lent, check-plan, check-in-turn, length-told, check-length, check-seen}\n",
+         use Rattle.spec.specs.Run.{lent, check-plan, check-in-turn, check-name}\n\
+         use Rattle.spec.specs.Run.{length-told, check-length, check-seen}\n",
     );
     for (i, v) in vectors {
         write!(s, "\nv{i} : {} ≡ true\nunfolding {}\nv{i} = refl\n", v.text, v.function).unwrap();

@@ -1,6 +1,6 @@
 //! The test helper Run.antt: what a vector computes. It unfolds every name of the
 //! definitions that can be unfolded.
-use crate::{lengths, plans};
+use crate::{lengths, names, plans};
 use scratch::read;
 use std::path::Path;
 
@@ -11,11 +11,13 @@ use mathlib.Core.List.{List, [], _∷_, _++_}
 use lib.ListN.{length, take, drop, replicate, set, getD}
 use lib.Dec.{eqb}
 use lib.Bits.{bitAnd}
-use Rattle.spec.specs.Numbers.{Numbers, Outcome, of-write, of-put, of-mount, of-sweep, of-get, of-list, part-of}
+use Rattle.spec.specs.Numbers.{Numbers, Outcome, of-write, of-put, of-mount, of-sweep, of-get, of-list, refusal, part-of}
 use Rattle.spec.specs.Answers.{format}
 use Rattle.spec.specs.declared.Report.{Report}
 use Rattle.spec.specs.declared.Extent.{Extent}
 use Rattle.spec.specs.declared.Space.{Space}
+use Rattle.spec.specs.declared.NameFault.{NameFault}
+use Rattle.spec.specs.declared.Refusal.{Refusal}
 use Rattle.spec.specs.History.{Request, put, remove, sweep, mount, get, list, Call, outcome, replay, steps-done, steps-of, File, Ledger, ledger}
 use Rattle.spec.specs.Step.{Step, program, erase, apply}
 use Rattle.spec.specs.declared.Place.{Place}
@@ -53,10 +55,18 @@ space live dead free lost = record { live = live; dead = dead; free = free; lost
 abbrev pub extent : ℕ → ℕ → Extent
 extent offset length = record { offset = offset; length = length }
 
+-- the numbers where a name is refused
+abbrev pub name-says : ℕ → ℕ → NameFault
+name-says reason place = record { reason = reason; place = place }
+
+abbrev pub refused-name : ℕ → ℕ → ℕ → Numbers
+refused-name answer reason place = refusal (record { number = answer; name = name-says reason place })
+
 -- all numbers of two replies are equal
 abbrev pub told : Numbers → Numbers → Bool
 told n m =
-    eqb (n .answer) (m .answer) && eqb (n .report .head) (m .report .head) && eqb (n .report .tail) (m .report .tail)
+    eqb (n .answer) (m .answer) && eqb (n .name .reason) (m .name .reason) && eqb (n .name .place) (m .name .place)
+    && eqb (n .report .head) (m .report .head) && eqb (n .report .tail) (m .report .tail)
     && eqb (n .report .files) (m .report .files) && eqb (n .moves) (m .moves) && eqb (n .extent .offset) (m .extent .offset)
     && eqb (n .extent .length) (m .extent .length) && eqb (n .size) (m .size) && eqb (n .space .live) (m .space .live)
     && eqb (n .space .dead) (m .space .dead) && eqb (n .space .free) (m .space .free) && eqb (n .space .lost) (m .space .lost)
@@ -179,6 +189,6 @@ pub fn text(specs: &Path) -> Result<String, String> {
             uses += &format!("use Rattle.spec.specs.{m} as {m}\n");
         }
     }
-    let body = [BODY, plans::HELPER, lengths::HELPER].concat().replace("NAMES", &names.join(" "));
+    let body = [BODY, plans::HELPER, names::HELPER, lengths::HELPER].concat().replace("NAMES", &names.join(" "));
     Ok(format!("{HEAD}{uses}{body}"))
 }

@@ -12,7 +12,7 @@ abbrev pub length-told : ℕ → ℕ → ℕ → ℕ → Numbers
 length-told answer reason place size =
     record {
       answer = answer;
-      name = record { reason = reason; place = place };
+      name = name-says reason place;
       report = report 0 0 0;
       moves = 0;
       extent = extent 0 0;
@@ -21,13 +21,12 @@ length-told answer reason place size =
       steps = 0;
     }
 
--- all numbers of a length, the reason and place too, and the image as it was
+-- all numbers of a length, and the image as it was
 unfoldable pub check-length : List Piece → ℕ → List ℕ → Numbers → Bool
 unfolding NAMES
 check-length before h name n =
     let m = build before in
-    let o = Length.file-length m h name in
-    right o n m && eqb (o .numbers .name .reason) (n .name .reason) && eqb (o .numbers .name .place) (n .name .place)
+    right (Length.file-length m h name) n m
 
 spread : List Extent → List ℕ
 spread [] = []

@@ -14,6 +14,8 @@ mod histories;
 mod inside_faults;
 mod length_faults;
 mod lengths;
+mod name_faults;
+mod names;
 mod orders;
 mod plan_faults;
 mod plans;

@@ -142,6 +142,12 @@ impl Window {
         Window { first, before, after, handing }
     }
 
+    fn equation(&self, img: &[u8], call: &Call) -> String {
+        let [before, after] = [&self.before, &self.after].map(lent);
+        let (first, handed, told) = (self.first, self.handing.handed, numbers(call, &self.handing.reply));
+        format!("check-plan {} {} {first} {before} {told} {handed} {after}", pieces(img), writing(call))
+    }
+
     fn tags(&self, plan: &Result<Plan, Refusal>) -> Vec<&'static str> {
         let need = plan.as_ref().map_or(0, |p| p.steps.len() as u64);
         let lengths = self.before.each_ref().map(|s| s.len() as u64);
@@ -185,19 +191,19 @@ fn add_window(r: &mut Rng, c: &mut Collection, img: &[u8], call: &Call, plan: &R
     if !rare && c.count(&format!("{kind} {answer}")) >= most {
         return;
     }
-    let told = numbers(call, &window.handing.reply);
-    let slots = [&window.before, &window.after].map(lent);
-    let text = format!(
-        "check-plan {} {} {first} {} {told} {} {}",
-        pieces(img),
-        writing(call),
-        slots[0],
-        window.handing.handed,
-        slots[1]
-    );
+    let text = window.equation(img, call);
     if text.len() <= MOST_TEXT {
         c.add(Vector { function: "check-plan", text, kind, answer, tags, source: SOURCE });
     }
+}
+
+/// A plan that is refused, into slots that stay as they are.
+pub fn refused(c: &mut Collection, img: &[u8], call: &Call, source: &'static str) {
+    let plan = planned(img, call.ask().expect("a writing call"));
+    let window = Window::new(&plan, 0, [2, 3, 2]);
+    let (kind, answer, tags) = (title(call), window.handing.reply.answer, window.tags(&plan));
+    let text = window.equation(img, call);
+    c.add(Vector { function: "check-plan", text, kind, answer, tags, source });
 }
 
 /// The first steps of windows in turn, carried out, are the direct call's at that allowance.

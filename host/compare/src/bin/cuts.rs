@@ -61,8 +61,9 @@ fn aimed(seen: &Seen) -> usize {
     let inside = INSIDE
         .iter()
         .map(|kind| (format!("times {kind}, cut inside a byte"), seen.inside.get(kind).copied().unwrap_or(0)));
-    let colliding = ("images with colliding names".to_string(), seen.collisions.images());
-    let counts: Vec<(String, u64)> = images.chain(bytes).chain([colliding]).chain(inside).collect();
+    let names = [("colliding names", seen.collisions.images()), ("a space in a name", seen.spaced)];
+    let names = names.map(|(part, count)| (format!("images with {part}"), count));
+    let counts: Vec<(String, u64)> = images.chain(bytes).chain(names).chain(inside).collect();
     for (what, count) in &counts {
         println!("{count:>9} {what}");
     }

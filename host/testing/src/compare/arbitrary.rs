@@ -1,10 +1,11 @@
 //! Histories, and images that no history need make.
 use super::writing::{name_for, name_from};
-use super::{colliding, Comparison};
+use super::{colliding, naming, Comparison};
 use crate::aimed::*;
 use crate::call::{formatted, Call, Store};
 use crate::images::{built, damage, of_history};
-use crate::maker::{bad_names, good_names, Maker};
+use crate::maker::Maker;
+use crate::names::{bad_names, edge_name, good_names};
 use crate::odd;
 use crate::rng::Rng;
 use crate::ALL;
@@ -46,6 +47,9 @@ pub fn history<S: Store>(c: &mut Comparison<S>, r: &mut Rng, calls: u64) {
 pub fn any<S: Store>(c: &mut Comparison<S>, r: &mut Rng) {
     if r.chance(10) {
         return colliding::any(c, r);
+    }
+    if r.chance(8) {
+        return naming::any(c, r);
     }
     let n = any_length(r);
     let (source, img) = match r.below(9) {
@@ -125,7 +129,11 @@ pub fn every_call<S: Store>(c: &mut Comparison<S>, r: &mut Rng, img: &[u8], name
 }
 
 fn others<S: Store>(c: &mut Comparison<S>, r: &mut Rng, img: &[u8], names: &[Vec<u8>]) {
-    let name = if r.chance(5) { r.of(&bad_names()) } else { name_from(r, img, names) };
+    let name = match r.below(20) {
+        0 => r.of(&bad_names()),
+        1 => edge_name(r),
+        _ => name_from(r, img, names),
+    };
     let allowance = if r.chance(50) { ALL } else { r.below(60) };
     let length = r.of(&[0, 1, 8, 31, 500]);
     let content = Maker::short(20).content(r, length);

@@ -4,7 +4,7 @@ use super::Comparison;
 use crate::aimed::chain_of;
 use crate::call::Store;
 use crate::colliding::Kind;
-use crate::maker::good_names;
+use crate::names::good_names;
 use crate::rng::Rng;
 use model::{bits, COMMITTED, MIGRATING};
 

@@ -3,6 +3,7 @@ use super::mounting::mounts;
 use super::Comparison;
 use crate::call::{formatted, Call, Store};
 use crate::images::MARKS;
+use crate::names::EDGES;
 use crate::rng::Rng;
 use crate::ALL;
 use model::SECTOR;
@@ -40,7 +41,7 @@ fn lengths_of<S: Store>(c: &mut Comparison<S>, n: usize) {
     for img in images {
         c.image("lengths");
         // a bad name behind a bad or good length
-        for name in [&b"dose"[..], b""] {
+        for name in [&b"dose"[..], b"", b"a ", b"a/"] {
             for call in one_of_each(name, ALL) {
                 c.call(&img, &call);
             }
@@ -65,7 +66,7 @@ pub fn too_long<S: Store>(c: &mut Comparison<S>) {
     }
 }
 
-/// Names of 0 to 70 bytes, good and with a bad byte at the front, inside, at the end.
+/// Names of 0 to 70 bytes: good; with a byte of EDGES at the front, inside, at the end; and with a second one behind it.
 pub fn names<S: Store>(c: &mut Comparison<S>) {
     let base = formatted(8192);
     for length in 0..=70 {
@@ -73,11 +74,14 @@ pub fn names<S: Store>(c: &mut Comparison<S>) {
         let (_, img) = c.call(&base, &Call::Put(good.clone(), vec![9; 5], ALL));
         c.image("names");
         named(c, &img, &good);
-        for bad in [0x00, 0x20, 0x21, 0x2F, 0x7E, 0x7F, 0x80, 0xFF] {
-            for at in [0, length / 2, length.saturating_sub(1)] {
+        let last = length.saturating_sub(1);
+        for edge in EDGES {
+            for at in [0, length / 2, last] {
                 let mut name = good.clone();
                 if let Some(byte) = name.get_mut(at) {
-                    *byte = bad;
+                    *byte = edge;
+                    named(c, &img, &name);
+                    name[last] = if at % 2 == 0 { b'/' } else { 0x7F };
                     named(c, &img, &name);
                 }
             }

@@ -3,6 +3,7 @@ mod arbitrary;
 mod colliding;
 mod fixed;
 mod mounting;
+mod naming;
 mod planning;
 mod plans;
 mod tally;
