@@ -77,7 +77,7 @@ kind-open b c st m o = go (is-erased st) (is-reserved st) refl refl where
 
 -- ---- a stretch that goes on behind a record that stands
 
-right-all : (es : List Entry) → all-right false es ≡ all (stands false) es
+pub right-all : (es : List Entry) → all-right false es ≡ all (stands false) es
 right-all [] = refl
 right-all (x ∷ es) = go (stands false x) refl where
   go : (t : Bool) → stands false x ≡ t → all-right false (x ∷ es) ≡ all (stands false) (x ∷ es)
@@ -219,6 +219,7 @@ module _ (k : ℕ) (first : Bool) (at : ℕ) (s t : List ℕ) (l : length s ≡ 
         twin-there : size-of n d ≤ length s → Twin (record { at = at; it = rec-of s n d }) (record { at = at; it = rec-of t n d })
         twin-there f =
             record {
+              at = refl;
               low = byte-same 0 (omega arith);
               status = byte-same 2 (omega arith);
               name = name-same .1;

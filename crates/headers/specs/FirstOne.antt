@@ -44,6 +44,7 @@ module _ (image : Image) (h : ℕ) (l : h < length image) (b : Low (getD image h
     pub first : Entry
     pub others : List Entry
     pub are : reading-from image h .entries ≡ first ∷ others
+    pub at : first .at ≡ h
     pub low : first .it .low ≡ getD image h 0
 
   pub starts : at-tail (reading-from image h .ending) ≡ true → Starts
@@ -58,6 +59,7 @@ module _ (image : Image) (h : ℕ) (l : h < length image) (b : Low (getD image h
           first = entry-of image x;
           others = rest image v .entries;
           are = entries-from image h (omega arith) ∙ ap (λ (r : Run). r .entries) (rest-record image c x v a);
+          at = refl;
           low = low-is;
         }
     go Next.Wrap e z = absurd z

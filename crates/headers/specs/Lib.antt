@@ -13,3 +13,5 @@ pub mod Twins
 pub mod NameBytes
 pub mod Agree
 pub mod Alike
+pub mod Seen
+pub mod Theorem

@@ -139,12 +139,12 @@ start-left b (inr (inl e)) f = wrong (sym (rw e at f))
 start-left b (inr (inr e)) f = wrong (sym (rw e at f))
 
 module _ (x : Entry) (es : List Entry) where
-  stand-by : is-start (x .it .low) ≡ true → Each Lowly (x ∷ es) → Each Finished (x ∷ es) → all name-fine (x ∷ es) ≡ true
-      → second-marked (x ∷ es) ≡ false → marks-ok (x ∷ es) ≡ true → all-stand (x ∷ es) ≡ true
+  stand-by : (h : ℕ) → x .at ≡ h → is-start (x .it .low) ≡ true → Each Lowly (x ∷ es) → Each Finished (x ∷ es) → all name-fine (x ∷ es) ≡ true
+      → second-marked (x ∷ es) ≡ false → marks-ok (x ∷ es) ≡ true → all-stand h (x ∷ es) ≡ true
   unfolding all-stand
-  stand-by s l f n u m =
+  stand-by h a s l f n u m =
       let ns = all-each name-fine (x ∷ es) n in
-      rw (all-stand, first-stands x s (f .0) (ns .0))
+      rw (all-stand, eq-eqb (x .at) h a, first-stands x s (f .0) (ns .0))
       (all-of (stands false) es (behind-all es (l .1) (f .1) (ns .1) (unmarked x es u m)))
 
 -- ---- the first of the name
@@ -206,7 +206,7 @@ module _ (image : Image) (r : Reading) (name : List ℕ) (admit : admitted image
   entries-by : r .entries ≡ rest image (first-cursor image (r .place .head)) .entries
   entries-by = ap (λ (x : Reading). x .entries) (own .same) ∙ entries-from image (r .place .head) (omega (arith, own .led .inside))
 
-  stood : all-stand (r .entries) ≡ true
+  stood : all-stand (r .place .head) (r .entries) ≡ true
   stood =
       let h : ℕ = r .place .head in
       let f = starts image h (own .led .inside) (own .led .low) (sym (ap (λ (x : Reading). at-tail (x .ending)) (own .same)) ∙ quiet .tail) in
@@ -219,10 +219,10 @@ module _ (image : Image) (r : Reading) (name : List ℕ) (admit : admitted image
       let shut : last-open (rest image (first-cursor image h) .entries) ≡ false = sym (ap last-open entries-by) ∙ quiet .shut in
       let done : Each Finished es = rw e at (o .but-last shut) in
       rw q
-      (stand-by (f .first) (f .others) (start-left (f .first .it .low) (rw (f .low) (own .led .low)) clean) lows done
+      (stand-by (f .first) (f .others) h (f .at) (start-left (f .first .it .low) (rw (f .low) (own .led .low)) clean) lows done
       (sym (ap (all name-fine) q) ∙ quiet .names) (sym (ap second-marked q) ∙ quiet .second) (sym (ap marks-ok q) ∙ quiet .marks))
 
-  walk-whole : walked name r ≡ length-in name (r .entries)
+  walk-whole : walked name (r .place .head) r ≡ length-in name (r .entries)
   unfolding walked
   walk-whole = rw (walked, quiet .tail, stood)
 
@@ -234,7 +234,7 @@ module _ (image : Image) (r : Reading) (name : List ℕ) (admit : admitted image
   unfolding length-asked length-from
   asked-is n =
       rw (length-asked, good-size, n, length-from, head-there)
-      (ap (walked name) (sym (own .same)) ∙ walk-whole ∙ length-is name (r .entries) (quiet .lone))
+      (ap (walked name (r .place .head)) (sym (own .same)) ∙ walk-whole ∙ length-is name (r .entries) (quiet .lone))
 
   got-is : name-ok name ≡ true → get-plan name image ≡ found getting (file-named name (r .entries))
   unfolding get-plan file-plan

@@ -5,6 +5,7 @@ use mathlib.Core.Bool.{Bool, true, false, _&&_, _||_, not}
 use mathlib.Core.Option.{Option, none, some}
 use mathlib.Core.List.{List, [], _∷_, _++_}
 use lib.ListN.{length}
+use lib.Dec.{eqb}
 use Rattle.spec.specs.Basics.{Answer, refuse, give, numbered, all, first-such, same, empty}
 use Rattle.spec.specs.Bytes.{is-unfinished}
 use Rattle.spec.specs.Record.{Entry, name-ok, name-of, content-of}
@@ -12,6 +13,7 @@ use Rattle.spec.specs.Files.{named, has-name}
 use Rattle.spec.specs.Length.{right-mark, own-name-ok, stands, all-stand, of-name, or-else, length-in}
 
 pub record Twin (x y : Entry) : Type 0 where
+  pub at : x .at ≡ y .at
   pub low : x .it .low ≡ y .it .low
   pub status : x .it .status ≡ y .it .status
   pub name : name-of x ≡ name-of y
@@ -63,12 +65,14 @@ all-alike (x ∷ es) (y ∷ fs) t = go (stands false y) refl (all-alike es fs (t
   go true e ih = rw (all, stands-alike x y (t .0) false, e) ih
   go false e ih = rw (all, stands-alike x y (t .0) false, e)
 
-pub stand-alike : (es fs : List Entry) → Twins es fs → all-stand es ≡ all-stand fs
+pub stand-alike : (h : ℕ) (es fs : List Entry) → Twins es fs → all-stand h es ≡ all-stand h fs
 unfolding all-stand
-stand-alike [] [] t = refl
-stand-alike [] (y ∷ fs) t = absurd t
-stand-alike (x ∷ es) [] t = absurd t
-stand-alike (x ∷ es) (y ∷ fs) t = ap₂ (λ (a b : Bool). a && b) (stands-alike x y (t .0) true) (all-alike es fs (t .1))
+stand-alike h [] [] t = refl
+stand-alike h [] (y ∷ fs) t = absurd t
+stand-alike h (x ∷ es) [] t = absurd t
+stand-alike h (x ∷ es) (y ∷ fs) t =
+    ap (λ (a : ℕ). eqb a h && stands true x && all (stands false) es) (t .0 .at)
+    ∙ ap₂ (λ (a b : Bool). eqb (y .at) h && a && b) (stands-alike x y (t .0) true) (all-alike es fs (t .1))
 
 -- ---- the first of a name
 
