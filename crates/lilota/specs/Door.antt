@@ -1,18 +1,17 @@
 -- What the door's answers say: a reading comes with THE facts, a refusal with one of document 01's numbers.
 use Prim.Native.Nat.{ℕ}
-use mathlib.Core.Path.{_≡_, sym}
-use mathlib.Core.Bool.{true, _&&_, and-eq-true-iff}
+use mathlib.Core.Path.{_≡_, sym, ap, _∙_}
+use mathlib.Core.Bool.{Bool, true}
 use mathlib.Core.List.{List}
 use lib.ListN.{length}
-use lib.Dec.{leb}
-use borrow.Author.Tests.{leb-true}
+use lib.Dec.{eqb}
+use Rattle.spec.specs.declared.NameFault.{NameFault}
 use Rattle.spec.specs.Step.{Image}
-use Rattle.spec.specs.Basics.{all}
-use Rattle.spec.specs.Bytes.{is-printable}
-use Rattle.spec.specs.Record.{name-ok}
+use Rattle.spec.specs.Record.{name-fault, name-ok}
 use Rattle.spec.specs.Mount.{settled}
 use Rattle.spec.specs.Numbers.{is-refusal}
 use Rattle.spec.specs.Door.{accepted, admitted, admitted-named}
+use Rattle.laws.specs.Names.{good-name}
 use Rattle.laws.specs.Door.{settled-gives, accepted-gives, admitted-gives, named-gives}
 use Rattle.laws.specs.Refusing.{accepted-refusing, admitted-refusing, named-refusing}
 use Rattle.record.specs.Within.{Name-length}
@@ -33,14 +32,10 @@ abbrev pub Admits-named : Image → List ℕ → Read → Type 0
 Admits-named image name (Read.Good s) = Settled image s × Name-length (length name)
 Admits-named image name (Read.Refused x) = is-refusal (x .number) ≡ true
 
-name-short : (n : List ℕ) → name-ok n ≡ true → Name-length (length n)
+-- the reason says whether the name is good
+pub good-by : (n : List ℕ) {f : NameFault} {t : Bool} → f ≡ name-fault n → eqb (f .reason) 0 ≡ t → name-ok n ≡ t
 unfolding name-ok
-name-short n h =
-    let a = leb 1 (length n) in
-    let b = leb (length n) 63 in
-    let p = and-eq-true-iff (a && b && all is-printable n) _ .0 h .0 in
-    let q = and-eq-true-iff (a && b) (all is-printable n) .0 p .0 in
-    leb-true (length n) 63 (and-eq-true-iff a b .0 q .1)
+good-by n e q = ap (λ (x : NameFault). eqb (x .reason) 0) (sym e) ∙ q
 
 -- ---- from the equation with the definition, and what the reading told
 
@@ -62,6 +57,6 @@ module _ (image : Image) where
   admits-named name (Read.Good s) e t q =
       let p = named-gives image (reading-of image s) name (sym e) in (
         record { accepted = accepted-of image s (p .0) t (settled-gives image (reading-of image s) (p .2) .0); quiet = q },
-        name-short name (p .1),
+        good-name name (p .1) .short,
       )
   admits-named name (Read.Refused x) e t q = rw (← e) at (named-refusing image name)

@@ -5,11 +5,14 @@ use mathlib.Core.Path.{_≡_, refl, sym, ap, ap₂, _∙_}
 use mathlib.Core.Option.{Option, none, some}
 use mathlib.Core.List.{List}
 use lib.ListN.{take, drop, getElem?}
+use Rattle.spec.specs.declared.NameFault.{NameFault}
+use Rattle.spec.specs.declared.Refusal.{Refusal}
 use Rattle.spec.specs.Step.{Image}
-use Rattle.spec.specs.Basics.{give, numbered, keep, first-such}
+use Rattle.spec.specs.Basics.{refuse, give, no-fault, numbered, keep, first-such}
 use Rattle.spec.specs.Geometry.{up8}
 use Rattle.spec.specs.Record.{Entry}
 use Rattle.spec.specs.Files.{has-name, file-named, file-indexed}
+use Rattle.spec.specs.Door.{admitted}
 use Rattle.spec.specs.Numbers.{Numbers, Outcome, outcome-of, of-get, of-list, refusal, part-of}
 use Rattle.spec.specs.Answers.{Plan, carry-out, numbers-of, looking, found, file-of, getting, listing}
 use Rattle.reading.specs.declared.Spot.{Spot}
@@ -22,7 +25,8 @@ use Rattle.reading.specs.Seek.{found-in}
 use Rattle.reading.specs.NamesLaw.{files-are}
 use Rattle.reading.specs.Read.{reading-of, File-told}
 use Rattle.reading.specs.Accepted.{Settled}
-use Rattle.lilota.specs.Numbers.{extent}
+use Rattle.laws.specs.Refusing.{admitted-nameless}
+use Rattle.lilota.specs.Numbers.{extent, with-fault}
 
 -- ---- a call that only looks
 
@@ -57,6 +61,13 @@ module _ (image : List ℕ) (s : Survey) (w : Settled image s) (f : Found) where
   done-with k name g t = ap (carry-out image k) (plan-with name g t)
 
 -- ---- get and list
+
+-- list's door says nothing of a name
+pub unlisted-is : (image : Image) (x : Refusal) → refuse x ≡ admitted image
+    → outcome-of (of-list (x .number) (extent 0 0) 0) image ≡ outcome-of (refusal x) image
+unlisted-is image x e =
+    let h : x .name ≡ no-fault = rw (← e) at (admitted-nameless image) in
+    ap (λ (f : NameFault). outcome-of (with-fault f (of-list (x .number) (extent 0 0) 0)) image) (sym h)
 
 module _ (image : List ℕ) (o : Option Entry) where
   pub found-none : (g : Entry → Plan) → none ≡ o → outcome-of (refusal (numbered 2)) image ≡ carry-out image 0 (found g o)

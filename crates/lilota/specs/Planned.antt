@@ -5,11 +5,12 @@ use mathlib.Core.Path.{_≡_, refl, sym, ap, ap₂, _∙_}
 use mathlib.Core.List.{List, []}
 use lib.ListN.{length, take, drop}
 use lib.Seq.{take-nil, drop-nil}
+use Rattle.spec.specs.declared.NameFault.{NameFault}
 use Rattle.spec.specs.declared.Refusal.{Refusal}
 use Rattle.spec.specs.declared.Report.{Report}
 use Rattle.spec.specs.declared.Space.{Space}
 use Rattle.spec.specs.Step.{Image, Step}
-use Rattle.spec.specs.Basics.{Answer, refuse, give, onward}
+use Rattle.spec.specs.Basics.{Answer, refuse, give, no-fault, onward}
 use Rattle.spec.specs.Chain.{Reading}
 use Rattle.spec.specs.Numbers.{Numbers, of-write, of-put, of-mount, of-sweep, refusal}
 use Rattle.spec.specs.Door.{accepted, admitted, admitted-named}
@@ -24,7 +25,7 @@ use Rattle.lilota.specs.declared.Stored.{Stored}
 use Rattle.lilota.specs.declared.Mounted.{Mounted}
 use Rattle.lilota.specs.declared.Swept.{Swept}
 use Rattle.lilota.specs.Stored.{writing}
-use Rattle.lilota.specs.Numbers.{written, stored, mounted, swept}
+use Rattle.lilota.specs.Numbers.{with-fault, written, stored, mounted, swept}
 use Rattle.lilota.specs.Numbers.{written-numbers, stored-numbers, mounted-numbers, swept-numbers}
 
 abbrev pub handing : Numbers → ℕ → Slices → Handing
@@ -99,19 +100,26 @@ module _ (image : Image) (first : ℕ) (s : Slices) where
 
 -- ---- what C gets of an answer: its numbers, one by one
 
-pub written-handed : (w : Written) (n k h : ℕ) (s : Slices) (o : Handing) → n ≡ written w .answer → k ≡ written w .steps
-    → handing (written w) h s ≡ o
-    → handing (of-write n k) h s ≡ o
-written-handed w n k h s o p q e = ap (λ (x : Numbers). handing x h s) (written-numbers w n k p q) ∙ e
+-- a call that gives no fault back has none
+nameless : (n : Numbers) (h : ℕ) (s : Slices) (o : Handing) → handing n h s ≡ o → o .numbers .name ≡ no-fault → no-fault ≡ n .name
+nameless n h s o e z = sym (ap (λ (x : Handing). x .numbers .name) e ∙ z)
 
-pub stored-handed : (w : Stored) (n k : ℕ) (x : Space) (h : ℕ) (s : Slices) (o : Handing) → n ≡ stored w .answer → x ≡ stored w .space
-    → k ≡ stored w .steps → handing (stored w) h s ≡ o → handing (of-put n x k) h s ≡ o
-stored-handed w n k x h s o p q r e = ap (λ (y : Numbers). handing y h s) (stored-numbers w n k x p q r) ∙ e
+pub written-handed : (w : Written) (n k : ℕ) (f : NameFault) (h : ℕ) (s : Slices) (o : Handing) → n ≡ written w .answer
+    → f ≡ written w .name → k ≡ written w .steps → handing (written w) h s ≡ o → handing (with-fault f (of-write n k)) h s ≡ o
+written-handed w n k f h s o p u q e = ap (λ (x : Numbers). handing x h s) (written-numbers w n k f p u q) ∙ e
+
+pub stored-handed : (w : Stored) (n k : ℕ) (f : NameFault) (x : Space) (h : ℕ) (s : Slices) (o : Handing) → n ≡ stored w .answer
+    → f ≡ stored w .name → x ≡ stored w .space → k ≡ stored w .steps → handing (stored w) h s ≡ o
+    → handing (with-fault f (of-put n x k)) h s ≡ o
+stored-handed w n k f x h s o p u q r e = ap (λ (y : Numbers). handing y h s) (stored-numbers w n k f x p u q r) ∙ e
 
 pub mounted-handed : (w : Mounted) (a k : ℕ) (r : Report) (x : Space) (h : ℕ) (s : Slices) (o : Handing) → a ≡ mounted w .answer
-    → r ≡ mounted w .report → x ≡ mounted w .space → k ≡ mounted w .steps → handing (mounted w) h s ≡ o → handing (of-mount a r x k) h s ≡ o
-mounted-handed w a k r x h s o p q u t e = ap (λ (y : Numbers). handing y h s) (mounted-numbers w a k r x p q u t) ∙ e
+    → r ≡ mounted w .report → x ≡ mounted w .space → k ≡ mounted w .steps → handing (mounted w) h s ≡ o → o .numbers .name ≡ no-fault
+    → handing (of-mount a r x k) h s ≡ o
+mounted-handed w a k r x h s o p q u t e z =
+    ap (λ (y : Numbers). handing y h s) (mounted-numbers w a k r x p (nameless (mounted w) h s o e z) q u t) ∙ e
 
 pub swept-handed : (w : Swept) (n i k : ℕ) (x : Space) (h : ℕ) (s : Slices) (o : Handing) → n ≡ swept w .answer → i ≡ swept w .moves
-    → x ≡ swept w .space → k ≡ swept w .steps → handing (swept w) h s ≡ o → handing (of-sweep n i x k) h s ≡ o
-swept-handed w n i k x h s o p q u r e = ap (λ (y : Numbers). handing y h s) (swept-numbers w n i k x p q u r) ∙ e
+    → x ≡ swept w .space → k ≡ swept w .steps → handing (swept w) h s ≡ o → o .numbers .name ≡ no-fault → handing (of-sweep n i x k) h s ≡ o
+swept-handed w n i k x h s o p q u r e z =
+    ap (λ (y : Numbers). handing y h s) (swept-numbers w n i k x p (nameless (swept w) h s o e z) q u r) ∙ e

@@ -1,6 +1,8 @@
 // The answer of a call that writes: from its meter, and in the numbers that C gets.
 use crate::Written;
 use flash::Meter;
+use spec::NO_FAULT;
+use spec::NameFault;
 ghost use mathlib.Core.Path.{_≡_};
 ghost use Rattle.lilota.specs.Numbers.{written};
 ghost use Rattle.lilota.specs.Carry.{spent};
@@ -24,6 +26,17 @@ impl Written {
             Written::Done { steps: _ } => 0,
             Written::Cut { steps: _ } => 4,
             Written::Refused(x) => x.number,
+        }
+    }
+
+    // What is wrong with the name, where that is why the call is refused.
+    pub fn fault(self) -> NameFault
+        ensures { λ r. ⌜ r ≡ written self .name ⌝ }
+    {
+        match self {
+            Written::Done { steps: _ } => NO_FAULT,
+            Written::Cut { steps: _ } => NO_FAULT,
+            Written::Refused(x) => x.name,
         }
     }
 

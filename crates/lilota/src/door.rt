@@ -6,12 +6,16 @@ use reading::Read;
 use reading::image::judge;
 use reading::image::read_named;
 use reading::image::read_settled;
-use record::name::name_ok;
+use record::name::name_fault;
+use spec::NO_FAULT;
+use spec::NameFault;
 use spec::Refusal;
 use spec::SECTOR;
 ghost use mathlib.Core.Path.{_≡_};
 ghost use Rattle.spec.specs.Geometry.{good-length};
 ghost use Rattle.spec.specs.Door.{accepted, admitted, admitted-named};
+ghost use Rattle.reading.specs.declared.Read.{Read};
+ghost use Rattle.reading.specs.declared.Found.{Found};
 ghost use Rattle.reading.specs.Read.{answered, judged-as, Named-file};
 ghost use Rattle.lilota.specs.Door.{Accepts, Admits, Admits-named};
 
@@ -35,7 +39,10 @@ pub fn accepted(image: &[u8]) -> Judgement
     if good_length(image.len()) {
         return judge(image);
     }
-    Judgement::Refused(Refusal { number: 22 })
+    Judgement::Refused(Refusal {
+        number: 22,
+        name: NO_FAULT,
+    })
 }
 
 // The door of list and sweep: a settled image.
@@ -45,7 +52,23 @@ pub fn admitted(image: &[u8]) -> Read
     if good_length(image.len()) {
         return read_settled(image);
     }
-    Read::Refused(Refusal { number: 22 })
+    Read::Refused(Refusal {
+        number: 22,
+        name: NO_FAULT,
+    })
+}
+
+// 22, and what is wrong with the name.
+fn refused_named(fault: NameFault) -> NamedRead
+    ensures { λ r. ⌜ r ≡ record { read = Read.Refused (record { number = 22; name = fault }); file = Found.Nothing } ⌝ }
+{
+    NamedRead {
+        read: Read::Refused(Refusal {
+            number: 22,
+            name: fault,
+        }),
+        file: Found::Nothing,
+    }
 }
 
 // The door of put, get and remove: a settled image and a good name, and the file of that name.
@@ -55,12 +78,11 @@ pub fn admitted_named(image: &[u8], name: &[u8]) -> NamedRead
         × Named-file (now (image .entry)) (now (name .entry)) (r .read) (r .file) ⌝ }
 {
     if good_length(image.len()) {
-        if name_ok(name) {
+        let fault = name_fault(name);
+        if fault.reason == 0 {
             return read_named(image, name);
         }
+        return refused_named(fault);
     }
-    NamedRead {
-        read: Read::Refused(Refusal { number: 22 }),
-        file: Found::Nothing,
-    }
+    refused_named(NO_FAULT)
 }

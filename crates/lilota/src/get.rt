@@ -5,6 +5,8 @@ use reading::Found;
 use reading::Read;
 use record::up_8;
 use spec::Extent;
+use spec::NO_FAULT;
+use spec::Refusal;
 ghost use mathlib.Core.Path.{_≡_};
 ghost use lib.ListN.{length};
 ghost use Rattle.spec.specs.Numbers.{outcome-of, part-of};
@@ -14,11 +16,13 @@ ghost use Rattle.reading.specs.Seek.{found-in, Found-whole};
 ghost use Rattle.lilota.specs.Numbers.{located, Extent-inside, Lies-at};
 
 // No file, for this reason.
-fn nowhere(answer: u32) -> Located
-    ensures { λ r. ⌜ r ≡ record { answer = answer; extent = record { offset = 0; length = 0 } } ⌝ }
+fn nowhere(x: Refusal) -> Located
+    ensures { λ r. ⌜ r ≡ record { answer = x .number; name = x .name; extent = record { offset = 0; length = 0 } } ⌝ }
 {
+    let fault = x.name;
     Located {
-        answer: answer,
+        answer: x.number,
+        name: fault,
         extent: Extent {
             offset: 0,
             length: 0,
@@ -34,10 +38,14 @@ fn get_from(image: &[u8], f: Found) -> Located
         × Extent-inside (now (image .entry)) (r .extent) ⌝ }
 {
     let Found::At(e) = f else {
-        return nowhere(2);
+        return nowhere(Refusal {
+            number: 2,
+            name: NO_FAULT,
+        });
     };
     Located {
         answer: 0,
+        name: NO_FAULT,
         extent: Extent {
             offset: e.at + (8 + up_8(e.n + 1)),
             length: e.d,
@@ -55,7 +63,7 @@ pub fn get_place(image: &[u8], name: &[u8]) -> Located
     let f = d.file;
     match x {
         Read::Good(_) => get_from(image, f),
-        Read::Refused(y) => nowhere(y.number),
+        Read::Refused(y) => nowhere(y),
     }
 }
 

@@ -1,6 +1,7 @@
 // The public calls on an image of NOR flash: format, mount, put, get, list, remove and sweep, in the forms for C and for other callers.
 // Each asks nothing of its caller, and equates every outcome with the one that document 01 defines.
 mod c;
+mod c_plan;
 mod carry;
 mod door;
 pub mod get;
@@ -20,6 +21,8 @@ use door::good_length;
 use flash::Meter;
 use reading::Found;
 use spec::Extent;
+use spec::NO_FAULT;
+use spec::NameFault;
 use spec::Refusal;
 use spec::Report;
 use spec::Space;
@@ -100,9 +103,10 @@ pub struct PlannedSweep {
     pub handed: usize,
 }
 
-// Where a file's bytes stand. The answer is 0 for a file that is there.
+// Where a file's bytes stand. The answer is 0 for a file that is there; beside 22 stands what is wrong with the name.
 pub struct Located {
     pub answer: u32,
+    pub name: NameFault,
     pub extent: Extent,
 }
 
@@ -124,7 +128,10 @@ pub fn format(image: &mut [u8], allowance: usize) -> Written
         };
         return ended(format_image(image, m));
     }
-    Written::Refused(Refusal { number: 22 })
+    Written::Refused(Refusal {
+        number: 22,
+        name: NO_FAULT,
+    })
 }
 
 // The file that a put replaces, done or planned: the one that was found.

@@ -9,6 +9,7 @@ use reading::Found;
 use reading::Read;
 use reading::Survey;
 use reading::room::has_room;
+use spec::NO_FAULT;
 use spec::Refusal;
 use window::Window;
 use window::file::hand_file;
@@ -91,7 +92,10 @@ fn plan_put_from(
         );
         return planned_put(space, w, slots);
     }
-    refused_put(Refusal { number: 28 })
+    refused_put(Refusal {
+        number: 28,
+        name: NO_FAULT,
+    })
 }
 
 // Hands out the steps of a put, from the step `first` on; the image stays as it is.

@@ -5,6 +5,7 @@ use crate::planned::planned_write;
 use crate::planned::refused_write;
 use reading::Found;
 use reading::Read;
+use spec::NO_FAULT;
 use spec::Refusal;
 use spec::Status;
 use window::Window;
@@ -36,7 +37,10 @@ fn plan_remove_from(
         × Written-told (r .answer) ⌝ }
 {
     let Found::At(e) = f else {
-        return refused_write(Refusal { number: 2 });
+        return refused_write(Refusal {
+            number: 2,
+            name: NO_FAULT,
+        });
     };
     let slots = shortest(kinds.len(), addresses.len(), bytes.len());
     let w = hand_status(

@@ -8,6 +8,7 @@ use planner::sweep::hand_sweep;
 use reading::Read;
 use reading::Survey;
 use reading::image::first_cursor;
+use spec::NO_FAULT;
 use spec::Refusal;
 use sweeping::one_move::no_room;
 use sweeping::sweep::at_most;
@@ -42,7 +43,10 @@ fn plan_sweep_from(
     let place = s.place;
     let t = s.tally;
     if no_room(image, place) {
-        return refused_sweep(Refusal { number: 28 });
+        return refused_sweep(Refusal {
+            number: 28,
+            name: NO_FAULT,
+        });
     }
     let space = sweep_space(image, s, at_most(t.records));
     let slots = shortest(kinds.len(), addresses.len(), bytes.len());

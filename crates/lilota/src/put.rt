@@ -9,6 +9,8 @@ use reading::Found;
 use reading::Read;
 use reading::Survey;
 use reading::room::has_room;
+use spec::NO_FAULT;
+use spec::NameFault;
 use spec::Refusal;
 use spec::Space;
 use writing::write_file;
@@ -82,7 +84,10 @@ fn put_from(
         };
         return put_ended(replace(image, s, f, name, content, m), space);
     }
-    Stored::Refused(Refusal { number: 28 })
+    Stored::Refused(Refusal {
+        number: 28,
+        name: NO_FAULT,
+    })
 }
 
 // Puts a whole file, within this allowance of flash steps.
@@ -109,6 +114,17 @@ impl Stored {
             Stored::Done { space: _, steps: _ } => 0,
             Stored::Cut { steps: _ } => 4,
             Stored::Refused(x) => x.number,
+        }
+    }
+
+    // What is wrong with the name, where that is why the put is refused.
+    pub fn fault(self) -> NameFault
+        ensures { λ r. ⌜ r ≡ stored self .name ⌝ }
+    {
+        match self {
+            Stored::Done { space: _, steps: _ } => NO_FAULT,
+            Stored::Cut { steps: _ } => NO_FAULT,
+            Stored::Refused(x) => x.name,
         }
     }
 

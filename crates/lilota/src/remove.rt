@@ -5,6 +5,7 @@ use crate::door::admitted_named;
 use flash::Meter;
 use reading::Found;
 use reading::Read;
+use spec::NO_FAULT;
 use spec::Refusal;
 use spec::Status;
 use writing::build::set_status;
@@ -22,7 +23,10 @@ fn remove_from(image: &mut [u8], f: Found, allowance: usize) -> Written
         × Written-told r ⌝ }
 {
     let Found::At(e) = f else {
-        return Written::Refused(Refusal { number: 2 });
+        return Written::Refused(Refusal {
+            number: 2,
+            name: NO_FAULT,
+        });
     };
     let m = Meter {
         allowance: allowance,

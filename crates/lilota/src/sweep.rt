@@ -6,6 +6,7 @@ use flash::Meter;
 use planner::stride::sweep_space;
 use reading::Read;
 use reading::Survey;
+use spec::NO_FAULT;
 use spec::Refusal;
 use spec::Space;
 use sweeping::one_move::no_room;
@@ -30,7 +31,10 @@ fn sweep_from(image: &mut [u8], s: Survey, allowance: usize) -> Swept
     let place = s.place;
     let t = s.tally;
     if no_room(image, place) {
-        return Swept::Refused(Refusal { number: 28 });
+        return Swept::Refused(Refusal {
+            number: 28,
+            name: NO_FAULT,
+        });
     }
     let space = sweep_space(image, s, at_most(t.records));
     let m = Meter {

@@ -1,11 +1,14 @@
-// The cases of document 01 that it does not mark with *, run on the proved library and printed as a table.
+// The cases of document 01 that it does not mark with *, and names that K5 of document 02 allows or refuses, run on the proved library and
+// printed as tables.
 // The stored output, which the run is held to, was worked out by hand from document 01 and its changes in document 02.
 use lilota::format;
 use lilota::get::get;
 use lilota::get::get_place;
 use lilota::mount::mount;
 use lilota::put::put;
+use lilota::remove::remove;
 use lilota::sweep::sweep;
+use spec::NameFault;
 
 // More steps than any call here needs.
 const ENOUGH: usize = 1000000;
@@ -101,6 +104,76 @@ fn sweep_row(image: &mut [u8], name: &[u8], content: &[u8]) {
     first_bytes(get(image, name));
 }
 
+// What is wrong with a name: the reason, and the bad byte's place.
+fn fault(f: NameFault) {
+    number(f.reason as usize);
+    number(f.place);
+}
+
+// What put answers to a name, and what it says is wrong with it.
+fn put_named(image: &mut [u8], name: &[u8], content: &[u8]) {
+    let w = put(image, name, content, ENOUGH);
+    number(w.answer() as usize);
+    fault(w.fault());
+}
+
+// The same of get, with where it says that the bytes stand.
+fn get_named(image: &[u8], name: &[u8]) {
+    let h = get_place(image, name);
+    number(h.answer as usize);
+    fault(h.name);
+    let x = h.extent;
+    number(x.offset);
+    number(x.length);
+}
+
+// The same of remove.
+fn remove_named(image: &mut [u8], name: &[u8]) {
+    let w = remove(image, name, ENOUGH);
+    number(w.answer() as usize);
+    fault(w.fault());
+}
+
+// The three calls with one name, on this image.
+fn name_row(image: &mut [u8], name: &[u8], content: &[u8]) {
+    put_named(image, name, content);
+    get_named(image, name);
+    text(b"  ");
+    remove_named(image, name);
+    text(b"\n");
+}
+
+// The same on an image that was just formatted.
+fn first_name_row(image: &mut [u8], name: &[u8], content: &[u8]) {
+    format(image, ENOUGH);
+    name_row(image, name, content);
+}
+
+// Names that are allowed, and each reason for which one is refused.
+fn name_table(overlong: &[u8], content: &[u8]) {
+    let mut image = [0u8; 8192];
+    text(
+        b"\nname                      put   why place   get   why place    at bytes  remove   why place\n",
+    );
+    text(b"\"night basal\"          ");
+    first_name_row(&mut image, b"night basal", content);
+    text(b"empty                  ");
+    first_name_row(&mut image, b"", content);
+    text(b"64 bytes               ");
+    first_name_row(&mut image, overlong, content);
+    text(b"\" basal\"               ");
+    first_name_row(&mut image, b" basal", content);
+    text(b"\"night \"               ");
+    first_name_row(&mut image, b"night ", content);
+    text(b"\"b\", 1F, \"/\"           ");
+    first_name_row(&mut image, b"b\x1F/", content);
+    text(b"\"night basal/\"         ");
+    first_name_row(&mut image, b"night basal/", content);
+    text(b"\"a/\", N of 4,096       ");
+    let mut sector = [0xFFu8; 4096];
+    name_row(&mut sector, b"a/", content);
+}
+
 fn main() {
     let mut image = [0u8; 8192];
     let large = [7u8; 2024];
@@ -135,4 +208,5 @@ fn main() {
     sweep_row(&mut image, dose, b"\x00\x5A\x03");
     text(b"sweep, 2,024 bytes     ");
     sweep_row(&mut image, dose, &large);
+    name_table(overlong, old);
 }

@@ -1,5 +1,6 @@
 -- The numbers of format's answer, through pointers.
-use Rattle.lilota.specs.Numbers.{written-given}
+use Rattle.laws.specs.Nameless.{format-nameless}
+use Rattle.lilota.specs.Numbers.{formatted-given}
 use borrow.Author.Needs.{needs}
 use Rattle.lilota.proofs.c.lilota_format.Statement.{statement}
 use Rattle.lilota.proofs.c.lilota_format.Tie as tie
@@ -19,7 +20,7 @@ same-length c = search needs
 returns : tie.Need-returns
 returns c =
     let c4 = c .before .before .before .before in
-    written-given (c4 .format .result) _ _ _ _ (c .answer .ensures) (c .before .steps .ensures) (c4 .format .ensures .0)
+    formatted-given (c4 .format .result) _ _ _ _ (c .answer .ensures) (c .before .steps .ensures) (c4 .format .ensures .0) (format-nameless _ _)
 
 pub lilota-format-spec : {M : Type 1} → statement M
 lilota-format-spec = tie.close (tie.spec format-requires steps-requires answer-requires same-length returns)

@@ -1,4 +1,5 @@
 -- The numbers of mount's answer, through pointers.
+use Rattle.laws.specs.Nameless.{mount-nameless}
 use Rattle.lilota.specs.Numbers.{mounted-given}
 use borrow.Author.Needs.{needs}
 use Rattle.lilota.proofs.c.lilota_mount.Statement.{statement}
@@ -28,7 +29,7 @@ returns c =
     let c3 = c2 .before in
     let c6 = c3 .before .before .before in
     mounted-given (c6 .mount .result) _ _ _ _ _ _ (c .answer .ensures) (c3 .report .ensures) (c2 .space .ensures) (c .before .steps .ensures)
-    (c6 .mount .ensures .0)
+    (c6 .mount .ensures .0) (mount-nameless _ _)
 
 pub lilota-mount-spec : {M : Type 1} → statement M
 lilota-mount-spec =

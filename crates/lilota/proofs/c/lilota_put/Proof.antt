@@ -7,6 +7,9 @@ use Rattle.lilota.proofs.c.lilota_put.Tie as tie
 put-requires : tie.Need-put-requires
 put-requires c κs = search needs
 
+fault-requires : tie.Need-fault-requires
+fault-requires c κs = search needs
+
 space-requires : tie.Need-space-requires
 space-requires c κs = search needs
 
@@ -22,9 +25,11 @@ same-length c = search needs
 returns : tie.Need-returns
 returns c =
     let c2 = c .before .before in
-    let c5 = c2 .before .before .before in
-    stored-given (c5 .put .result) _ _ _ _ _ (c .answer .ensures) (c2 .space .ensures) (c .before .steps .ensures) (c5 .put .ensures .0)
+    let c3 = c2 .before in
+    let c6 = c3 .before .before .before in
+    stored-given (c6 .put .result) _ _ _ _ _ _ (c .answer .ensures) (c3 .fault .ensures) (c2 .space .ensures) (c .before .steps .ensures)
+    (c6 .put .ensures .0)
 
 pub lilota-put-spec : {M : Type 1} → statement M
 lilota-put-spec =
-    tie.close (tie.spec put-requires space-requires steps-requires answer-requires same-length returns)
+    tie.close (tie.spec put-requires fault-requires space-requires steps-requires answer-requires same-length returns)

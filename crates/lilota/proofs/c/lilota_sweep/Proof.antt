@@ -1,4 +1,5 @@
 -- The numbers of sweep's answer, through pointers.
+use Rattle.laws.specs.Nameless.{sweep-nameless}
 use Rattle.lilota.specs.Numbers.{swept-given}
 use borrow.Author.Needs.{needs}
 use Rattle.lilota.proofs.c.lilota_sweep.Statement.{statement}
@@ -28,7 +29,7 @@ returns c =
     let c3 = c2 .before in
     let c6 = c3 .before .before .before in
     swept-given (c6 .sweep .result) _ _ _ _ _ _ (c .answer .ensures) (c3 .moves .ensures) (c2 .space .ensures) (c .before .steps .ensures)
-    (c6 .sweep .ensures .0)
+    (c6 .sweep .ensures .0) (sweep-nameless _ _)
 
 pub lilota-sweep-spec : {M : Type 1} → statement M
 lilota-sweep-spec =

@@ -34,14 +34,14 @@ up-8-requires c κs =
     let w = rw (c .before .before .f .given .1) at (p .0) in
     omega (arith, w .fits, p .1)
 
-add-t6 : tie.Need-add-t6
-add-t6 c =
+add-t9 : tie.Need-add-t9
+add-t9 c =
     let p = c .before .before .before .before .before .before .pre in
     let w = rw (c .before .before .before .f .given .1) at (p .0) in
     omega (arith, w .fits, c .up-8 .ensures, p .1)
 
-add-t7 : tie.Need-add-t7
-add-t7 c =
+add-t10 : tie.Need-add-t10
+add-t10 c =
     let p = c .before .before .before .before .before .before .before .pre in
     let w = rw (c .before .before .before .before .f .given .1) at (p .0) in
     omega (arith, w .fits, c .before .up-8 .ensures, p .1)
@@ -66,6 +66,6 @@ get-from-spec =
     returns
     add-up-8
     up-8-requires
-    add-t6
-    add-t7
+    add-t9
+    add-t10
     returns-2)

@@ -5,6 +5,7 @@ use Rattle.spec.specs.Answers.{list-of}
 use Rattle.reading.specs.Read.{answered, reading-of}
 use Rattle.lilota.specs.Carry.{shut, let-in}
 use Rattle.lilota.specs.Calls.{list-is}
+use Rattle.lilota.specs.Look.{unlisted-is}
 use borrow.Author.Needs.{needs}
 use Rattle.lilota.proofs.list.list_place.Statement.{statement}
 use Rattle.lilota.proofs.list.list_place.Tie as tie
@@ -39,10 +40,8 @@ returns-2 : tie.Need-returns-2
 returns-2 c =
     let g = c .before .before .before .before .before .before .args in
     let s = g .image .now in
-    rw (c .unlisted .ensures) (
-      shut s 0 _ (list-of (g .index)) (sym (ap (answered s) (c .before .before .x2 .given .1)) ∙ c .before .before .before .before .admitted .ensures .0) ∙ list-is s (g .index),
-      omega arith,
-    )
+    let e = sym (ap (answered s) (c .before .before .x2 .given .1)) ∙ c .before .before .before .before .admitted .ensures .0 in
+    rw (c .unlisted .ensures) (unlisted-is s _ e ∙ shut s 0 _ (list-of (g .index)) e ∙ list-is s (g .index), omega arith)
 
 pub list-place-spec : {M : Type 1} → statement M
 list-place-spec =

@@ -1,9 +1,10 @@
 -- The numbers of the plan's answer, through pointers.
 use mathlib.Core.Path.{refl}
+use Rattle.laws.specs.Nameless.{sweep-planned-nameless}
 use Rattle.lilota.specs.Planned.{swept-handed}
 use borrow.Author.Needs.{needs}
-use Rattle.lilota.proofs.c.lilota_plan_sweep.Statement.{statement}
-use Rattle.lilota.proofs.c.lilota_plan_sweep.Tie as tie
+use Rattle.lilota.proofs.c_plan.lilota_plan_sweep.Statement.{statement}
+use Rattle.lilota.proofs.c_plan.lilota_plan_sweep.Tie as tie
 
 plan-sweep-requires : tie.Need-plan-sweep-requires
 plan-sweep-requires c κs = search needs
@@ -36,7 +37,7 @@ returns c =
     let c10 = c3 .before .before .before .before .before .before .before in
     let done = c10 .plan-sweep in (
       swept-handed (done .result .answer) _ _ _ _ _ _ _ (c .answer .ensures) (c3 .moves .ensures) (c2 .space .ensures) (c .before .steps .ensures)
-          (done .ensures .0),
+          (done .ensures .0) (sweep-planned-nameless _ _ _),
       refl,
     )
 

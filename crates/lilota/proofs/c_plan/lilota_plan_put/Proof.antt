@@ -2,11 +2,14 @@
 use mathlib.Core.Path.{refl}
 use Rattle.lilota.specs.Planned.{stored-handed}
 use borrow.Author.Needs.{needs}
-use Rattle.lilota.proofs.c.lilota_plan_put.Statement.{statement}
-use Rattle.lilota.proofs.c.lilota_plan_put.Tie as tie
+use Rattle.lilota.proofs.c_plan.lilota_plan_put.Statement.{statement}
+use Rattle.lilota.proofs.c_plan.lilota_plan_put.Tie as tie
 
 plan-put-requires : tie.Need-plan-put-requires
 plan-put-requires c κs = search needs
+
+fault-requires : tie.Need-fault-requires
+fault-requires c κs = search needs
 
 space-requires : tie.Need-space-requires
 space-requires c κs = search needs
@@ -30,8 +33,10 @@ returns : tie.Need-returns
 returns c =
     let c1 = c .before in
     let c2 = c1 .before in
-    let c9 = c2 .before .before .before .before .before .before .before in (
-      stored-handed (c9 .plan-put .result .answer) _ _ _ _ _ _ (c .answer .ensures) (c2 .space .ensures) (c1 .steps .ensures) (c9 .plan-put .ensures .0),
+    let c3 = c2 .before in
+    let done = c3 .before .before .before .before .before .before .before .plan-put in (
+      stored-handed (done .result .answer) _ _ _ _ _ _ _ (c .answer .ensures) (c3 .fault .ensures) (c2 .space .ensures) (c1 .steps .ensures)
+          (done .ensures .0),
       refl,
     )
 
@@ -40,6 +45,7 @@ lilota-plan-put-spec =
     tie.close
     (tie.spec
     plan-put-requires
+    fault-requires
     space-requires
     steps-requires
     answer-requires

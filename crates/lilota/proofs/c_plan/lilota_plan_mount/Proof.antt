@@ -1,9 +1,10 @@
 -- The numbers of the plan's answer, through pointers.
 use mathlib.Core.Path.{refl}
+use Rattle.laws.specs.Nameless.{mount-planned-nameless}
 use Rattle.lilota.specs.Planned.{mounted-handed}
 use borrow.Author.Needs.{needs}
-use Rattle.lilota.proofs.c.lilota_plan_mount.Statement.{statement}
-use Rattle.lilota.proofs.c.lilota_plan_mount.Tie as tie
+use Rattle.lilota.proofs.c_plan.lilota_plan_mount.Statement.{statement}
+use Rattle.lilota.proofs.c_plan.lilota_plan_mount.Tie as tie
 
 plan-mount-requires : tie.Need-plan-mount-requires
 plan-mount-requires c κs = search needs
@@ -35,7 +36,8 @@ returns c =
     let c3 = c2 .before in
     let c10 = c3 .before .before .before .before .before .before .before in
     let done = c10 .plan-mount in (
-      mounted-handed (done .result .answer) _ _ _ _ _ _ _ (c .answer .ensures) (c3 .report .ensures) (c2 .space .ensures) (c .before .steps .ensures) (done .ensures .0),
+      mounted-handed (done .result .answer) _ _ _ _ _ _ _ (c .answer .ensures) (c3 .report .ensures) (c2 .space .ensures) (c .before .steps .ensures)
+          (done .ensures .0) (mount-planned-nameless _ _ _),
       refl,
     )
 

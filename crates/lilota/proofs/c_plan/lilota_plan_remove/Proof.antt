@@ -2,11 +2,14 @@
 use mathlib.Core.Path.{refl}
 use Rattle.lilota.specs.Planned.{written-handed}
 use borrow.Author.Needs.{needs}
-use Rattle.lilota.proofs.c.lilota_plan_remove.Statement.{statement}
-use Rattle.lilota.proofs.c.lilota_plan_remove.Tie as tie
+use Rattle.lilota.proofs.c_plan.lilota_plan_remove.Statement.{statement}
+use Rattle.lilota.proofs.c_plan.lilota_plan_remove.Tie as tie
 
 plan-remove-requires : tie.Need-plan-remove-requires
 plan-remove-requires c κs = search needs
+
+fault-requires : tie.Need-fault-requires
+fault-requires c κs = search needs
 
 steps-requires : tie.Need-steps-requires
 steps-requires c κs = search needs
@@ -26,8 +29,9 @@ same-length-3 c = search needs
 returns : tie.Need-returns
 returns c =
     let c1 = c .before in
-    let c8 = c1 .before .before .before .before .before .before .before in (
-      written-handed (c8 .plan-remove .result .answer) _ _ _ _ _ (c .answer .ensures) (c1 .steps .ensures) (c8 .plan-remove .ensures .0),
+    let c2 = c1 .before in
+    let done = c2 .before .before .before .before .before .before .before .plan-remove in (
+      written-handed (done .result .answer) _ _ _ _ _ _ (c .answer .ensures) (c2 .fault .ensures) (c1 .steps .ensures) (done .ensures .0),
       refl,
     )
 
@@ -36,6 +40,7 @@ lilota-plan-remove-spec =
     tie.close
     (tie.spec
     plan-remove-requires
+    fault-requires
     steps-requires
     answer-requires
     same-length
