@@ -94,7 +94,7 @@ grown first x y c d t e (inr s) = inr (record { twins = (t, s .twins); last = s 
 
 -- ---- the first thing of each
 
-finished-there : (first : Bool) (e : Entry) → stands first e ≡ true → is-unfinished (e .it .status) ≡ false
+pub finished-there : (first : Bool) (e : Entry) → stands first e ≡ true → is-unfinished (e .it .status) ≡ false
 unfolding stands
 finished-there first e h =
     not-true (is-unfinished (e .it .status))

@@ -15,3 +15,7 @@ pub mod Agree
 pub mod Alike
 pub mod Seen
 pub mod Theorem
+-- ---- the code's walk
+pub mod Fore
+pub mod Sizes
+pub mod Walk
