@@ -1,5 +1,5 @@
 -- The code's walk is the definition's: each turn of the loop, and how it ends.
-use Prim.Native.Nat.{ℕ, _≤_, _<_}
+use Prim.Native.Nat.{ℕ, _%_, _≤_, _<_}
 use native.Mathlib.Omega.{arith}
 use mathlib.Core.Path.{_≡_, refl, sym, ap, ap₂, _∙_}
 use mathlib.Core.Bool.{Bool, true, false, _&&_}
@@ -7,12 +7,13 @@ use mathlib.Core.Option.{Option, none, some}
 use mathlib.Core.List.{List, [], _∷_}
 use lib.ListN.{length}
 use lib.Dec.{eqb}
-use borrow.Author.Tests.{eq-eqb, ne-eqb}
+use borrow.Author.Tests.{eq-eqb, ne-eqb, lt-ltb, le-ltb}
 use Rattle.spec.specs.Step.{Image}
 use Rattle.spec.specs.Basics.{Answer, refuse, give, numbered, checked, all, first-such}
 use Rattle.spec.specs.Record.{Entry, content-of}
 use Rattle.spec.specs.Chain.{Reading, reading-from}
-use Rattle.spec.specs.Length.{stands, all-stand, at-tail, of-name, or-else, length-in, walked}
+use Rattle.spec.specs.Length.{stands, all-stand, at-tail, of-name, or-else, length-in, walked, head-fits, length-from}
+use Rattle.laws.specs.Length.{In-range}
 use Rattle.reading.specs.declared.Cursor.{Cursor}
 use Rattle.reading.specs.declared.Spot.{Spot}
 use Rattle.reading.specs.declared.Item.{Item}
@@ -20,6 +21,7 @@ use Rattle.reading.specs.Cursor.{advance, Cursor-sound, Inside, unfinished-at}
 use Rattle.reading.specs.Rest.{Run, entry-of, ahead, done, rest}
 use Rattle.reading.specs.Fold.{Passes, passes, Not-record, rest-done, Folded, fold-start}
 use Rattle.reading.specs.Read.{first-cursor}
+use Rattle.reading.specs.Survey.{first-sound}
 use Rattle.reading.specs.Bridge.{shown, read-of, reading-is}
 use Rattle.headers.specs.declared.Size.{Size}
 use Rattle.headers.specs.declared.Sizes.{Sizes}
@@ -214,3 +216,50 @@ module _ (name : List ℕ) (h : ℕ) (image : Image) (l : h ≤ length image) wh
         → told name x r ≡ walked name h (reading-from image h)
     unfolding all-stand told
     head-stands x n a f = sym (by-run (ahead e r) q ∙ rw (all-stand, eq-eqb (e .at) h a, f, n, told))
+
+-- ---- as the code begins it
+
+module _ (image : Image) (h : ℕ) (l : h < length image) (small : In-range (length image)) (k : Cursor) (kq : k ≡ first-cursor image h) where
+  pub begin-sound : Cursor-sound image k
+  begin-sound = rw kq (first-sound image h (omega arith) small)
+
+  shut : k .pending ≡ false
+  shut = ap (λ (c : Cursor). c .pending) kq
+
+  module _ (r : Item) (p : (r ≡ fore image k) × Inside image k r) where
+    pub begun : {e : Spot} {next : Cursor} → r ≡ Item.Record e next → Passes image k e next
+    begun q = steps image k shut r p q
+
+    pub none-begun : (name : List ℕ) → Not-record r → refuse (numbered 5) ≡ walked name h (reading-from image h)
+    none-begun name z = head-none name h image (omega arith) (advance image k) (sym (ap (rest image) kq) ∙ halts image k shut r p z)
+
+    module _ (name : List ℕ) {e : Spot} {next : Cursor} (q : r ≡ Item.Record e next) where
+      split : rest image (first-cursor image h) ≡ ahead (entry-of image e) (rest image next)
+      split = sym (ap (rest image) kq) ∙ begun q .split
+
+      pub begun-elsewhere : (e .at ≡ h → ⊥) → refuse (numbered 5) ≡ walked name h (reading-from image h)
+      begun-elsewhere z = head-elsewhere name h image (omega arith) (entry-of image e) (rest image next) split z
+
+      pub begun-fails : e .at ≡ h → stands true (entry-of image e) ≡ false → refuse (numbered 5) ≡ walked name h (reading-from image h)
+      begun-fails a f = head-fails name h image (omega arith) (entry-of image e) (rest image next) split a f
+
+      pub begun-well : (x y : Sizes) → x ≡ noted name y (entry-of image e) → y ≡ no-sizes → e .at ≡ h → stands true (entry-of image e) ≡ true
+          → told name x (rest image next) ≡ walked name h (reading-from image h)
+      begun-well x y n m a f =
+          head-stands name h image (omega arith) (entry-of image e) (rest image next) split x
+          (n ∙ ap (λ (s : Sizes). noted name s (entry-of image e)) m) a f
+
+-- ---- the head's address
+
+module _ (name : List ℕ) (h : ℕ) (image : Image) where
+  pub odd-head : (h % 8 ≡ 0 → ⊥) → refuse (numbered 5) ≡ length-from name h image
+  unfolding length-from head-fits
+  odd-head z = rw (length-from, head-fits, ne-eqb (h % 8) 0 z)
+
+  pub far-head : h % 8 ≡ 0 → length image ≤ h → refuse (numbered 5) ≡ length-from name h image
+  unfolding length-from head-fits
+  far-head e l = rw (length-from, head-fits, eq-eqb (h % 8) 0 e, le-ltb h (length image) l)
+
+  pub near-head : h % 8 ≡ 0 → h < length image → walked name h (reading-from image h) ≡ length-from name h image
+  unfolding length-from head-fits
+  near-head e l = rw (length-from, head-fits, eq-eqb (h % 8) 0 e, lt-ltb h (length image) l)

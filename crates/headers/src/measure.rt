@@ -63,12 +63,13 @@ fn from_head(image: &[u8], h: usize, name: &[u8]) -> Measured
     let Item::Record { spot: e, next } = s else {
         return refused(5);
     };
-    if e.at == h {
-        if stands(image, true, e) {
-            return walk_on(image, next, name, noted(image, name, no_sizes(), e));
-        }
+    if e.at != h {
+        return refused(5);
     }
-    refused(5)
+    if !stands(image, true, e) {
+        return refused(5);
+    }
+    walk_on(image, next, name, noted(image, name, no_sizes(), e))
 }
 
 // The length of the file of this name, by the headers and names from the head h on.
@@ -76,10 +77,11 @@ pub fn measure(image: &[u8], h: usize, name: &[u8]) -> Measured
     requires { ⌜ In-range (length (now image)) ⌝ }
     ensures { λ r. ⌜ answered r ≡ length-from (now (name .entry)) h (now (image .entry)) ⌝ }
 {
-    if h % 8 == 0 {
-        if h < image.len() {
-            return from_head(image, h, name);
-        }
+    if h % 8 != 0 {
+        return refused(5);
     }
-    refused(5)
+    if image.len() <= h {
+        return refused(5);
+    }
+    from_head(image, h, name)
 }

@@ -1,3 +1,7 @@
+use mathlib.Core.Path.{_∙_}
+use Rattle.laws.specs.Flag.{flag-not}
+use Rattle.reading.proofs.Others.{other-step}
+use Rattle.headers.specs.Walk.{begin-sound, begun, none-begun, begun-elsewhere, begun-fails, begun-well, shut-past}
 use borrow.Author.Needs.{needs}
 use Rattle.headers.proofs.measure.from_head.Statement.{statement}
 use Rattle.headers.proofs.measure.from_head.Tie as tie
@@ -17,7 +21,7 @@ first-cursor-requires c κs = search needs
 
 -- src/measure.rt:62:9
 forward-requires : tie.Need-forward-requires
-forward-requires c κs = ?
+forward-requires c κs = begin-sound _ _ (c .before .before .before .pre .0) (c .before .before .before .pre .1) _ (c .first-cursor .ensures)
 
 -- src/measure.rt:63:30
 enum-known-s : tie.Need-enum-known-s
@@ -29,35 +33,57 @@ refused-requires c κs = search needs
 
 -- src/measure.rt:64:9
 returns : tie.Need-returns
-returns c = ?
+returns c =
+    c .refused .ensures
+    ∙ none-begun _ _ (c .before .before .before .before .before .before .pre .0) (c .before .before .before .before .before .before .pre .1) _ (c .before .before .before .first-cursor .ensures) _ (c .before .before .forward .ensures) _
+    (other-step (c .before .before .forward .result) (c .before .match .keys2))
 
--- src/measure.rt:67:12
-stands-requires : tie.Need-stands-requires
-stands-requires c κs = ?
-
--- src/measure.rt:68:66
-no-sizes-requires : tie.Need-no-sizes-requires
-no-sizes-requires c κs = search needs
-
--- src/measure.rt:68:47
-noted-requires : tie.Need-noted-requires
-noted-requires c κs = ?
-
--- src/measure.rt:68:13
-walk-on-requires : tie.Need-walk-on-requires
-walk-on-requires c κs = ?
-
--- src/measure.rt:68:13
-returns-2 : tie.Need-returns-2
-returns-2 c = ?
-
--- src/measure.rt:71:5
+-- src/measure.rt:67:9
 refused-requires-2 : tie.Need-refused-requires-2
 refused-requires-2 c κs = search needs
 
--- src/measure.rt:57:1
+-- src/measure.rt:67:9
+returns-2 : tie.Need-returns-2
+returns-2 c =
+    c .refused2 .ensures ∙ begun-elsewhere _ _ (c .before .before .before .before .before .before .before .before .before .before .pre .0) (c .before .before .before .before .before .before .before .before .before .before .pre .1) _ (c .before .before .before .before .before .before .before .first-cursor .ensures) _ (c .before .before .before .before .before .before .forward .ensures) _
+    (c .before .before .before .before .s .given .1) (c .before .if1 .taken)
+
+-- src/measure.rt:69:9
+stands-requires : tie.Need-stands-requires
+stands-requires c κs =
+    begun _ _ (c .before .before .before .before .before .before .before .before .before .pre .0) (c .before .before .before .before .before .before .before .before .before .pre .1) _ (c .before .before .before .before .before .before .first-cursor .ensures) _ (c .before .before .before .before .before .forward .ensures) (c .before .before .before .s .given .1) .whole
+
+-- src/measure.rt:70:9
+refused-requires-3 : tie.Need-refused-requires-3
+refused-requires-3 c κs = search needs
+
+-- src/measure.rt:70:9
 returns-3 : tie.Need-returns-3
-returns-3 c = ?
+returns-3 c =
+    c .refused3 .ensures ∙ begun-fails _ _ (c .before .before .before .before .before .before .before .before .before .before .before .before .pre .0) (c .before .before .before .before .before .before .before .before .before .before .before .before .pre .1) _ (c .before .before .before .before .before .before .before .before .before .first-cursor .ensures) _ (c .before .before .before .before .before .before .before .before .forward .ensures) _
+    (c .before .before .before .before .before .before .s .given .1) (c .before .before .before .if1 .left) (flag-not (c .before .before .stands .ensures) (c .before .if2 .taken))
+
+-- src/measure.rt:72:51
+no-sizes-requires : tie.Need-no-sizes-requires
+no-sizes-requires c κs = search needs
+
+-- src/measure.rt:72:32
+noted-requires : tie.Need-noted-requires
+noted-requires c κs =
+    begun _ _ (c .before .before .before .before .before .before .before .before .before .before .before .before .pre .0) (c .before .before .before .before .before .before .before .before .before .before .before .before .pre .1) _ (c .before .before .before .before .before .before .before .before .before .first-cursor .ensures) _ (c .before .before .before .before .before .before .before .before .forward .ensures) (c .before .before .before .before .before .before .s .given .1) .whole
+
+-- src/measure.rt:72:5
+walk-on-requires : tie.Need-walk-on-requires
+walk-on-requires c κs =
+    let t = begun _ _ (c .before .before .before .before .before .before .before .before .before .before .before .before .before .pre .0) (c .before .before .before .before .before .before .before .before .before .before .before .before .before .pre .1) _ (c .before .before .before .before .before .before .before .before .before .before .first-cursor .ensures) _ (c .before .before .before .before .before .before .before .before .before .forward .ensures) (c .before .before .before .before .before .before .before .s .given .1) in
+    (t .onward .sound, shut-past _ t (flag-not (c .before .before .before .stands .ensures) (c .before .before .if2 .left)))
+
+-- src/measure.rt:57:1
+returns-4 : tie.Need-returns-4
+returns-4 c =
+    c .walk-on .ensures ∙ begun-well _ _ (c .before .before .before .before .before .before .before .before .before .before .before .before .before .before .pre .0) (c .before .before .before .before .before .before .before .before .before .before .before .before .before .before .pre .1) _ (c .before .before .before .before .before .before .before .before .before .before .before .first-cursor .ensures) _ (c .before .before .before .before .before .before .before .before .before .before .forward .ensures) _
+    (c .before .before .before .before .before .before .before .before .s .given .1) _ _ (c .before .noted .ensures) (c .before .before .no-sizes .ensures) (c .before .before .before .before .before .if1 .left)
+    (flag-not (c .before .before .before .before .stands .ensures) (c .before .before .before .if2 .left))
 
 pub from-head-spec : {M : Type 1} → statement M
 from-head-spec =
@@ -68,10 +94,12 @@ from-head-spec =
     enum-known-s
     refused-requires
     returns
+    refused-requires-2
+    returns-2
     stands-requires
+    refused-requires-3
+    returns-3
     no-sizes-requires
     noted-requires
     walk-on-requires
-    returns-2
-    refused-requires-2
-    returns-3)
+    returns-4)
