@@ -133,6 +133,21 @@ uint32_t lilota_get(const uint8_t *image, size_t length,
                     size_t *offset, size_t *size);
 
 /*
+ * How long the file of this name is, from the head that mount gave back, by
+ * headers and names alone: no byte of a file's data is read, so it takes as long
+ * as there are records before the end of the chain, however large the image.
+ * Gives back what is wrong with the name, and the file's length. On a settled
+ * image with its own head the answer is get's. On any other image or head it is
+ * 5 if the head is not a multiple of 8 below the image's length, or if something
+ * is met that cannot stand there in a settled chain; else it goes by the first
+ * committed record of the name, else by the first migrating one, else it is 2.
+ * Answers: 22, 5, 2, 0.
+ */
+uint32_t lilota_length(const uint8_t *image, size_t length, size_t head,
+                       const uint8_t *name, size_t name_length,
+                       uint32_t *reason, size_t *place, size_t *size);
+
+/*
  * The file with this index, 0 the first: gives back where its name stands in
  * the image, the name's length, and the file's length. Answers: 22, 5, 6, 16,
  * 2, 0.

@@ -68,7 +68,8 @@ Agree (suc k) first at s t =
                 (take (length (name-read s)) (drop 8 s) ≡ take (length (name-read s)) (drop 8 t))
                 × elim (eqb (standing-size first at s) 0) as (λ b. Type 0) [
                   | true ↦ Unit {0}
-                  | false ↦ Agree k false (at + standing-size first at s) (drop (standing-size first at s) s) (drop (standing-size first at s) t)
+                  | false ↦ Agree k false (at + standing-size first at s) (drop (standing-size first at s) s)
+                      (drop (standing-size first at s) t)
                 ]
           ]
     ]
@@ -126,7 +127,8 @@ module _ (k : ℕ) (first : Bool) (at : ℕ) (s : List ℕ) where
   sized-fails w n d true false e f = rw (sized, e, f) tt
   sized-fails w n d false u e f = rw (sized, e) tt
 
-  pub torn-if : ((n d : ℕ) → stands first (record { at = at; it = rec-of s n d }) ≡ false) → (t : Bool) → long 16 s ≡ t → Fails-if (torn-at s)
+  pub torn-if : ((n d : ℕ) → stands first (record { at = at; it = rec-of s n d }) ≡ false) → (t : Bool) → long 16 s ≡ t
+      → Fails-if (torn-at s)
   unfolding torn-at
   torn-if w true e = rw (torn-at, e) (w 0 0)
   torn-if w false e = rw (torn-at, e) tt

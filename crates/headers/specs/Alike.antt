@@ -25,7 +25,8 @@ use Rattle.laws.specs.Chain.{chain-record, chain-stop}
 use Rattle.headers.specs.Kinds.{kind-of}
 use Rattle.headers.specs.Twins.{Twin, Twins, stands-alike}
 use Rattle.headers.specs.NameBytes.{One-name, one-name}
-use Rattle.headers.specs.Agree.{all-right, fine, Same, Alike, Agree, Fails-if, fails, marked-wrong, open-wrong, sized-fails, torn-if, torn-wrap-if}
+use Rattle.headers.specs.Agree.{all-right, fine, Same, Alike, Agree, Fails-if}
+use Rattle.headers.specs.Agree.{fails, marked-wrong, open-wrong, sized-fails, torn-if, torn-wrap-if}
 
 pub long-same : (j : ℕ) (s t : List ℕ) → length s ≡ length t → long j s ≡ long j t
 unfolding long
@@ -38,7 +39,8 @@ long-same (suc j) (x ∷ s) (y ∷ t) l = long-same j s t (omega arith)
 sized-same : (s t : List ℕ) (n d : ℕ) → length s ≡ length t → sized s n d ≡ sized t n d
 unfolding sized
 sized-same s t n d l =
-    ap (λ (b : Bool). elim (ltb n 64) as (λ c. Next) [ true ↦ elim b as (λ c. Next) [ true ↦ Next.Record n d | false ↦ Next.Bad ] | false ↦ Next.Bad ])
+    ap (λ (b : Bool). elim (ltb n 64) as
+    (λ c. Next) [ true ↦ elim b as (λ c. Next) [ true ↦ Next.Record n d | false ↦ Next.Bad ] | false ↦ Next.Bad ])
     (long-same (size-of n d) s t l)
 
 -- ---- a torn or reserved record, by its kind, has an unfinished status
@@ -55,7 +57,8 @@ Open Kind.Bad = ⊥
 kind-shut : (b c st m : ℕ) → is-erased st ≡ false → is-reserved st ≡ false → Open (kind b c st m) → ⊥
 unfolding kind
 kind-shut b c st m e f o =
-    go (is-spare m) (is-torn-marker b c st) (is-high c) (is-wrap b) (is-wrapped st) (is-record b || is-start b || is-clean b) refl refl refl refl refl refl
+    go (is-spare m) (is-torn-marker b c st) (is-high c) (is-wrap b) (is-wrapped st)
+    (is-record b || is-start b || is-clean b) refl refl refl refl refl refl
   where
     go : (t u v w x y : Bool) → is-spare m ≡ t → is-torn-marker b c st ≡ u → is-high c ≡ v → is-wrap b ≡ w → is-wrapped st ≡ x
         → (is-record b || is-start b || is-clean b) ≡ y → ⊥
@@ -232,14 +235,17 @@ module _ (k : ℕ) (first : Bool) (at : ℕ) (s t : List ℕ) (l : length s ≡ 
         abbrev Later : Type 0
         Later =
             next s ≡ Next.Record n d → stands first (record { at = at; it = rec-of s n d }) ≡ true
-            → Alike false (chain k false (at + size-of n d) (drop (size-of n d) s)) (chain k false (at + size-of n d) (drop (size-of n d) t))
+            → Alike false (chain k false (at + size-of n d) (drop (size-of n d) s))
+            (chain k false (at + size-of n d) (drop (size-of n d) t))
 
         stood-both : Later → next s ≡ Next.Record n d → next t ≡ Next.Record n d → size-of n d ≤ length s → Both
         stood-both later es et f = go (stands first x) refl where
           x : Entry
           x = record { at = at; it = rec-of s n d }
+
           y : Entry
           y = record { at = at; it = rec-of t n d }
+
           go : (b : Bool) → stands first x ≡ b → Both
           go true h =
               let z : ℕ = size-of n d in
@@ -302,13 +308,15 @@ module _ (k : ℕ) (first : Bool) (at : ℕ) (s t : List ℕ) (l : length s ≡ 
   behind n d e h w =
       let z : standing-size first at s ≡ size-of n d = size-there first at s n d e h in
       let b : eqb (size-of n d) 0 ≡ false = ne-eqb (size-of n d) 0 (λ q. omega arith) in
-      let v : Agree k false (at + size-of n d) (drop (size-of n d) s) (drop (size-of n d) t) = rw (Agree-past, b) at (subst (λ (i : ℕ). Agree-past k at s t i) z w) in
+      let v : Agree k false (at + size-of n d) (drop (size-of n d) s) (drop (size-of n d) t) = rw (Agree-past, b) at
+      (subst (λ (i : ℕ). Agree-past k at s t i) z w) in
       ih (at + size-of n d) (drop (size-of n d) s) (drop (size-of n d) t) (rw (length-drop, length-drop) (omega arith)) v
 
   module _ (p : long 1 s ≡ true) (q : long 8 s ≡ true) (e : take 8 s ≡ take 8 t) (g : Agree-named k first at s t) where
     by-mark : (b : Bool) → kind-of s ≡ Kind.Record → right-mark first (low-of s) ≡ b → Both k first at s t l
     by-mark true ks m =
-        let w : (take (length (name-read s)) (drop 8 s) ≡ take (length (name-read s)) (drop 8 t)) × Agree-behind k first at s t = rw (Agree-named, header-there first s ks m) at g in
+        let w : (take (length (name-read s)) (drop 8 s) ≡ take (length (name-read s)) (drop 8 t)) × Agree-behind k first at s t = rw
+        (Agree-named, header-there first s ks m) at g in
         record-both k first at s t l p q e ks (w .0) (λ es h. behind _ _ es h (w .1))
     by-mark false ks m = mark-fails k first at s t l p q e ks m
 
@@ -334,6 +342,7 @@ module _ (k : ℕ) (first : Bool) (at : ℕ) (s t : List ℕ) (l : length s ≡ 
     by-length true p = go (long 8 s) refl where
       w : (take 8 s ≡ take 8 t) × Agree-named k first at s t
       w = rw (Agree, p) at g
+
       go : (b : Bool) → long 8 s ≡ b → Both k first at s t l
       go false q = few k first at s t l p q
       go true q = by-kind p q (w .0) (w .1) (kind-of s) refl

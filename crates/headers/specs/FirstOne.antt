@@ -48,28 +48,29 @@ module _ (image : Image) (h : ℕ) (l : h < length image) (b : Low (getD image h
     pub low : first .it .low ≡ getD image h 0
 
   pub starts : at-tail (reading-from image h .ending) ≡ true → Starts
-  starts t = go (next (drop h image)) refl (low-next (drop h image) (long-le 1 (drop h image) (rw length-drop (omega arith))) (rw low-is b)) where
-    go : (x : Next) → next (drop h image) ≡ x → Record-or-bad x → Starts
-    go (Next.Record n d) e z =
-        let k : look image c ≡ Next.Record n d = looks ∙ e in
-        let x : Spot = record { at = h; n = n; d = d } in
-        let v : Cursor = past c (size-of n d) (unfinished-at image h) in
-        let a : advance image c ≡ Item.Record x v = advance-here image c (ap (goes-on (floor h)) k) ∙ ap (settle image c) k in
-        record {
-          first = entry-of image x;
-          others = rest image v .entries;
-          are = entries-from image h (omega arith) ∙ ap (λ (r : Run). r .entries) (rest-record image c x v a);
-          at = refl;
-          low = low-is;
-        }
-    go Next.Wrap e z = absurd z
-    go Next.TornWrap e z = absurd z
-    go Next.Clear e z = absurd z
-    go Next.Over e z = absurd z
-    go Next.Bad e z =
-        let k : look image c ≡ Next.Bad = looks ∙ e in
-        let a : advance image c ≡ Item.Broken h false = advance-here image c (ap (goes-on (floor h)) k) ∙ ap (settle image c) k in
-        let d = rest-done image c (Item.Broken h false) (sym a) tt in
-        let q : read-of image (length image) h (rest image c) ≡ reading-from image h = reading-is image h (omega arith) in
-        wrong (sym (ap (λ (r : Run). at-tail (read-of image (length image) h r .ending)) d)
-        ∙ ap (λ (r : Reading). at-tail (r .ending)) q ∙ t)
+  starts t = go (next (drop h image)) refl
+      (low-next (drop h image) (long-le 1 (drop h image) (rw length-drop (omega arith))) (rw low-is b)) where
+        go : (x : Next) → next (drop h image) ≡ x → Record-or-bad x → Starts
+        go (Next.Record n d) e z =
+            let k : look image c ≡ Next.Record n d = looks ∙ e in
+            let x : Spot = record { at = h; n = n; d = d } in
+            let v : Cursor = past c (size-of n d) (unfinished-at image h) in
+            let a : advance image c ≡ Item.Record x v = advance-here image c (ap (goes-on (floor h)) k) ∙ ap (settle image c) k in
+            record {
+              first = entry-of image x;
+              others = rest image v .entries;
+              are = entries-from image h (omega arith) ∙ ap (λ (r : Run). r .entries) (rest-record image c x v a);
+              at = refl;
+              low = low-is;
+            }
+        go Next.Wrap e z = absurd z
+        go Next.TornWrap e z = absurd z
+        go Next.Clear e z = absurd z
+        go Next.Over e z = absurd z
+        go Next.Bad e z =
+            let k : look image c ≡ Next.Bad = looks ∙ e in
+            let a : advance image c ≡ Item.Broken h false = advance-here image c (ap (goes-on (floor h)) k) ∙ ap (settle image c) k in
+            let d = rest-done image c (Item.Broken h false) (sym a) tt in
+            let q : read-of image (length image) h (rest image c) ≡ reading-from image h = reading-is image h (omega arith) in
+            wrong (sym (ap (λ (r : Run). at-tail (read-of image (length image) h r .ending)) d)
+            ∙ ap (λ (r : Reading). at-tail (r .ending)) q ∙ t)

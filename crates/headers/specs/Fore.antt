@@ -10,7 +10,8 @@ use Rattle.spec.specs.declared.Kind.{Kind}
 use Rattle.spec.specs.declared.Next.{Next}
 use Rattle.spec.specs.Step.{Image}
 use Rattle.spec.specs.Basics.{long, blank}
-use Rattle.spec.specs.Bytes.{is-record, is-start, is-clean, is-wrap, is-high, is-high-begun, is-erased, is-reserved, is-wrapped, is-spare, is-record-begun}
+use Rattle.spec.specs.Bytes.{is-record, is-start, is-clean, is-wrap, is-high}
+use Rattle.spec.specs.Bytes.{is-high-begun, is-erased, is-reserved, is-wrapped, is-spare, is-record-begun}
 use Rattle.spec.specs.Record.{low-of, high-of, status-of, spare-of, data-len-of, size-of, name-length}
 use Rattle.spec.specs.Next.{is-torn-marker, kind, sized, torn-at, torn-wrap-at, clear-at, next-at, next}
 use Rattle.spec.specs.Chain.{allowed}
@@ -103,20 +104,22 @@ module _ (s : List ℕ) where
 -- a kind told by a header that is no torn marker's
 kind-not-torn : (b c st m : ℕ) → is-torn-marker b c st ≡ false → Torn-wrap-kind (kind b c st m) → ⊥
 unfolding kind
-kind-not-torn b c st m e z = go (is-spare m) (is-erased st) (is-record-begun b && is-high-begun c) (eqb b 0xFF && eqb c 0xFF) (is-high c) (is-wrap b)
+kind-not-torn b c st m e z = go (is-spare m) (is-erased st) (is-record-begun b && is-high-begun c) (eqb b 0xFF && eqb c 0xFF)
+    (is-high c) (is-wrap b)
     (is-wrapped st) (is-record b || is-start b || is-clean b) (is-reserved st) refl refl refl refl refl refl refl refl refl where
-  go : (t u v w x y p q r : Bool) → is-spare m ≡ t → is-erased st ≡ u → (is-record-begun b && is-high-begun c) ≡ v → (eqb b 0xFF && eqb c 0xFF) ≡ w
-      → is-high c ≡ x → is-wrap b ≡ y → is-wrapped st ≡ p → (is-record b || is-start b || is-clean b) ≡ q → is-reserved st ≡ r → ⊥
-  go false u v w x y p q r e1 e2 e3 e4 e5 e6 e7 e8 e9 = rw (kind, e1) at z
-  go true true true w x y p q r e1 e2 e3 e4 e5 e6 e7 e8 e9 = rw (kind, e1, e, e2, e3) at z
-  go true true false true x y p q r e1 e2 e3 e4 e5 e6 e7 e8 e9 = rw (kind, e1, e, e2, e3, e4) at z
-  go true true false false x y p q r e1 e2 e3 e4 e5 e6 e7 e8 e9 = rw (kind, e1, e, e2, e3, e4) at z
-  go true false v w false y p q r e1 e2 e3 e4 e5 e6 e7 e8 e9 = rw (kind, e1, e, e2, e5) at z
-  go true false v w true true true q r e1 e2 e3 e4 e5 e6 e7 e8 e9 = rw (kind, e1, e, e2, e5, e6, e7) at z
-  go true false v w true true false q r e1 e2 e3 e4 e5 e6 e7 e8 e9 = rw (kind, e1, e, e2, e5, e6, e7) at z
-  go true false v w true false p true true e1 e2 e3 e4 e5 e6 e7 e8 e9 = rw (kind, e1, e, e2, e5, e6, e8, e9) at z
-  go true false v w true false p true false e1 e2 e3 e4 e5 e6 e7 e8 e9 = rw (kind, e1, e, e2, e5, e6, e8, e9) at z
-  go true false v w true false p false r e1 e2 e3 e4 e5 e6 e7 e8 e9 = rw (kind, e1, e, e2, e5, e6, e8) at z
+      go : (t u v w x y p q r : Bool) → is-spare m ≡ t → is-erased st ≡ u → (is-record-begun b && is-high-begun c) ≡ v
+          → (eqb b 0xFF && eqb c 0xFF) ≡ w
+          → is-high c ≡ x → is-wrap b ≡ y → is-wrapped st ≡ p → (is-record b || is-start b || is-clean b) ≡ q → is-reserved st ≡ r → ⊥
+      go false u v w x y p q r e1 e2 e3 e4 e5 e6 e7 e8 e9 = rw (kind, e1) at z
+      go true true true w x y p q r e1 e2 e3 e4 e5 e6 e7 e8 e9 = rw (kind, e1, e, e2, e3) at z
+      go true true false true x y p q r e1 e2 e3 e4 e5 e6 e7 e8 e9 = rw (kind, e1, e, e2, e3, e4) at z
+      go true true false false x y p q r e1 e2 e3 e4 e5 e6 e7 e8 e9 = rw (kind, e1, e, e2, e3, e4) at z
+      go true false v w false y p q r e1 e2 e3 e4 e5 e6 e7 e8 e9 = rw (kind, e1, e, e2, e5) at z
+      go true false v w true true true q r e1 e2 e3 e4 e5 e6 e7 e8 e9 = rw (kind, e1, e, e2, e5, e6, e7) at z
+      go true false v w true true false q r e1 e2 e3 e4 e5 e6 e7 e8 e9 = rw (kind, e1, e, e2, e5, e6, e7) at z
+      go true false v w true false p true true e1 e2 e3 e4 e5 e6 e7 e8 e9 = rw (kind, e1, e, e2, e5, e6, e8, e9) at z
+      go true false v w true false p true false e1 e2 e3 e4 e5 e6 e7 e8 e9 = rw (kind, e1, e, e2, e5, e6, e8, e9) at z
+      go true false v w true false p false r e1 e2 e3 e4 e5 e6 e7 e8 e9 = rw (kind, e1, e, e2, e5, e6, e8) at z
 
 module _ (s : List ℕ) where
   -- too few bytes for a header
@@ -174,7 +177,8 @@ module _ (image : Image) (c : Cursor) where
   fore-here h = rw (h, fore)
 
   module _ (x : Next) (b : Bool) (s : Cursor-sound image c) (ex : x ≡ fore-look image c) (eb : b ≡ goes-on (c .room) x) where
-    pub went-on : (t : Cursor) (y : Next) (r : Item) → b ≡ true → t ≡ turn (c .room) (c .pending) → y ≡ fore-look image t → r ≡ settle image t y
+    pub went-on : (t : Cursor) (y : Next) (r : Item) → b ≡ true → t ≡ turn (c .room) (c .pending) → y ≡ fore-look image t
+        → r ≡ settle image t y
         → Within y (t .end - t .at) → (r ≡ fore image c) × Inside image c r
     went-on t y r h et ey er w =
         let u : Cursor = turn (c .room) (c .pending) in
@@ -226,11 +230,14 @@ unfolding look
 fore-sorted image c p = go (goes-on (c .room) (look image c)) refl where
   looks : (d : Cursor) → d .pending ≡ false → fore-look image d ≡ untorn (look image d)
   looks d q = ap (λ (b : Bool). untorn (allowed b (next (window image d)))) (sym q)
+
   go : (t : Bool) → goes-on (c .room) (look image c) ≡ t → sorted (fore image c) ≡ sorted (advance image c)
   go true e =
       let u : Cursor = turn (c .room) (c .pending) in
-      ap sorted (fore-on image c (ap (goes-on (c .room)) (looks c p) ∙ untorn-goes (c .room) (look image c) ∙ e) ∙ ap (settle image u) (looks u p))
+      ap sorted (fore-on image c (ap (goes-on (c .room)) (looks c p) ∙ untorn-goes (c .room) (look image c) ∙ e)
+      ∙ ap (settle image u) (looks u p))
       ∙ untorn-settle image u (look image u) ∙ sym (ap sorted (advance-on image c e))
   go false e =
-      ap sorted (fore-here image c (ap (goes-on (c .room)) (looks c p) ∙ untorn-goes (c .room) (look image c) ∙ e) ∙ ap (settle image c) (looks c p))
+      ap sorted (fore-here image c (ap (goes-on (c .room)) (looks c p) ∙ untorn-goes (c .room) (look image c) ∙ e)
+      ∙ ap (settle image c) (looks c p))
       ∙ untorn-settle image c (look image c) ∙ sym (ap sorted (advance-here image c e))

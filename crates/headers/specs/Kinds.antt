@@ -10,7 +10,8 @@ use lib.Dec.{ltb, eqb}
 use Rattle.spec.specs.declared.Kind.{Kind}
 use Rattle.spec.specs.declared.Next.{Next}
 use Rattle.spec.specs.Basics.{long, blank}
-use Rattle.spec.specs.Bytes.{is-record, is-start, is-clean, is-wrap, is-high, is-high-begun, is-erased, is-reserved, is-unfinished, is-wrapped, is-spare}
+use Rattle.spec.specs.Bytes.{is-record, is-start, is-clean, is-wrap, is-high}
+use Rattle.spec.specs.Bytes.{is-high-begun, is-erased, is-reserved, is-unfinished, is-wrapped, is-spare}
 use Rattle.spec.specs.Bytes.{clears, on-way, under-way, is-record-begun, is-wrap-begun}
 use Rattle.spec.specs.Record.{low-of, high-of, status-of, spare-of, size-of, data-len-of, name-length}
 use Rattle.spec.specs.Next.{is-torn-marker, kind, sized, torn-at, torn-wrap-at, clear-at, next-at, next}
@@ -80,16 +81,16 @@ module _ (b c st m : ℕ) where
   unfolding kind is-unfinished
   low-known f r = go (is-spare m) (is-torn-marker b c st) (is-erased st) (is-high c) (is-wrap b) (is-wrapped st)
       (is-record b || is-start b || is-clean b) refl refl refl refl refl refl refl where
-    go : (t u v w x y z : Bool) → is-spare m ≡ t → is-torn-marker b c st ≡ u → is-erased st ≡ v → is-high c ≡ w → is-wrap b ≡ x
-        → is-wrapped st ≡ y → (is-record b || is-start b || is-clean b) ≡ z → (is-record b || is-start b || is-clean b) ≡ true
-    go t u v w x y true p1 p2 p3 p4 p5 p6 p7 = p7
-    go false u v w x y false p1 p2 p3 p4 p5 p6 p7 = absurd (rw (kind, p1) at r)
-    go true true v w x y false p1 p2 p3 p4 p5 p6 p7 = absurd (rw (kind, p1, p2) at r)
-    go true false true w x y false p1 p2 p3 p4 p5 p6 p7 = wrong (sym (rw p3 at f))
-    go true false false false x y false p1 p2 p3 p4 p5 p6 p7 = absurd (rw (kind, p1, p2, p3, p4) at r)
-    go true false false true true true false p1 p2 p3 p4 p5 p6 p7 = absurd (rw (kind, p1, p2, p3, p4, p5, p6) at r)
-    go true false false true true false false p1 p2 p3 p4 p5 p6 p7 = absurd (rw (kind, p1, p2, p3, p4, p5, p6) at r)
-    go true false false true false y false p1 p2 p3 p4 p5 p6 p7 = absurd (rw (kind, p1, p2, p3, p4, p5, p7) at r)
+        go : (t u v w x y z : Bool) → is-spare m ≡ t → is-torn-marker b c st ≡ u → is-erased st ≡ v → is-high c ≡ w → is-wrap b ≡ x
+            → is-wrapped st ≡ y → (is-record b || is-start b || is-clean b) ≡ z → (is-record b || is-start b || is-clean b) ≡ true
+        go t u v w x y true p1 p2 p3 p4 p5 p6 p7 = p7
+        go false u v w x y false p1 p2 p3 p4 p5 p6 p7 = absurd (rw (kind, p1) at r)
+        go true true v w x y false p1 p2 p3 p4 p5 p6 p7 = absurd (rw (kind, p1, p2) at r)
+        go true false true w x y false p1 p2 p3 p4 p5 p6 p7 = wrong (sym (rw p3 at f))
+        go true false false false x y false p1 p2 p3 p4 p5 p6 p7 = absurd (rw (kind, p1, p2, p3, p4) at r)
+        go true false false true true true false p1 p2 p3 p4 p5 p6 p7 = absurd (rw (kind, p1, p2, p3, p4, p5, p6) at r)
+        go true false false true true false false p1 p2 p3 p4 p5 p6 p7 = absurd (rw (kind, p1, p2, p3, p4, p5, p6) at r)
+        go true false false true false y false p1 p2 p3 p4 p5 p6 p7 = absurd (rw (kind, p1, p2, p3, p4, p5, p7) at r)
 
 pub record-low : (s : List ℕ) (n d : ℕ) → next s ≡ Next.Record n d → is-unfinished (status-of s) ≡ false
     → (is-record (low-of s) || is-start (low-of s) || is-clean (low-of s)) ≡ true
@@ -117,15 +118,16 @@ Marked Kind.Bad = Unit {0}
 module _ (b c st m : ℕ) (r : is-record-begun b ≡ false) (w : is-wrap-begun b ≡ false) (f : eqb b 0xFF ≡ false) (x : is-wrap b ≡ false) where
   kind-marked : Marked (kind b c st m)
   unfolding kind is-torn-marker
-  kind-marked = go (is-spare m) (is-erased st) (is-high c) (is-reserved st) (is-record b || is-start b || is-clean b) refl refl refl refl refl where
-    go : (t u v y z : Bool) → is-spare m ≡ t → is-erased st ≡ u → is-high c ≡ v → is-reserved st ≡ y
-        → (is-record b || is-start b || is-clean b) ≡ z → Marked (kind b c st m)
-    go false u v y z p1 p2 p3 p4 p5 = rw (kind, p1) tt
-    go true true v y z p1 p2 p3 p4 p5 = rw (kind, is-torn-marker, r, w, f, p1, p2) tt
-    go true false false y z p1 p2 p3 p4 p5 = rw (kind, is-torn-marker, w, p1, p2, p3) tt
-    go true false true true true p1 p2 p3 p4 p5 = rw (kind, is-torn-marker, w, x, p1, p2, p3, p4, p5) tt
-    go true false true false true p1 p2 p3 p4 p5 = rw (kind, is-torn-marker, w, x, p1, p2, p3, p4, p5) tt
-    go true false true y false p1 p2 p3 p4 p5 = rw (kind, is-torn-marker, w, x, p1, p2, p3, p5) tt
+  kind-marked = go (is-spare m) (is-erased st) (is-high c) (is-reserved st)
+      (is-record b || is-start b || is-clean b) refl refl refl refl refl where
+        go : (t u v y z : Bool) → is-spare m ≡ t → is-erased st ≡ u → is-high c ≡ v → is-reserved st ≡ y
+            → (is-record b || is-start b || is-clean b) ≡ z → Marked (kind b c st m)
+        go false u v y z p1 p2 p3 p4 p5 = rw (kind, p1) tt
+        go true true v y z p1 p2 p3 p4 p5 = rw (kind, is-torn-marker, r, w, f, p1, p2) tt
+        go true false false y z p1 p2 p3 p4 p5 = rw (kind, is-torn-marker, w, p1, p2, p3) tt
+        go true false true true true p1 p2 p3 p4 p5 = rw (kind, is-torn-marker, w, x, p1, p2, p3, p4, p5) tt
+        go true false true false true p1 p2 p3 p4 p5 = rw (kind, is-torn-marker, w, x, p1, p2, p3, p4, p5) tt
+        go true false true y false p1 p2 p3 p4 p5 = rw (kind, is-torn-marker, w, x, p1, p2, p3, p5) tt
 
 low-marked : (b c st m : ℕ) → Low b → Marked (kind b c st m)
 unfolding is-record-begun is-wrap-begun under-way on-way clears is-wrap

@@ -76,8 +76,10 @@ part-same : (a b : Image) (f p i : ℕ) → take i (drop p a) ≡ take i (drop p
 part-same a b f p i e = go (leb p f) refl where
   over : (c : Image) → f < p → drop p (take f c) ≡ []
   over c h = let q : length (take f c) ≤ p = rw length-take (omega arith) in drop-of-length-le (take f c) q
+
   cut : (c : Image) → p ≤ f → take i (drop p (take f c)) ≡ take (f - p) (take i (drop p c))
   cut c h = ap (take i) (sym (part-window p f c h)) ∙ take-turn i (f - p) (drop p c)
+
   go : (t : Bool) → leb p f ≡ t → take i (drop p (take f a)) ≡ take i (drop p (take f b))
   go true h = cut a (leb-true p f h) ∙ ap (take (f - p)) e ∙ sym (cut b (leb-true p f h))
   go false h = ap (take i) (over a (leb-false p f h) ∙ sym (over b (leb-false p f h)))

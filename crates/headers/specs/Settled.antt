@@ -27,7 +27,8 @@ use Rattle.spec.specs.Mount.{settled}
 use Rattle.spec.specs.Door.{settled-reading, admitted, misnamed, admitted-named}
 use Rattle.spec.specs.Numbers.{Numbers, Outcome}
 use Rattle.spec.specs.Answers.{Plan, carry-out, numbers-of, found, file-of, getting, file-plan, get-plan, get}
-use Rattle.spec.specs.Length.{own-name-ok, stands, all-stand, at-tail, of-name, or-else, length-in, walked, head-fits, length-from, length-asked, measured, file-length}
+use Rattle.spec.specs.Length.{own-name-ok, stands, all-stand, at-tail, of-name, or-else}
+use Rattle.spec.specs.Length.{length-in, walked, head-fits, length-from, length-asked, measured, file-length}
 use Rattle.laws.specs.Tests.{wrong, not-true, and-left, and-right, or-left, or-right}
 use Rattle.laws.specs.Lists.{any-none-each}
 use Rattle.laws.specs.Head.{Low, clean-two}
@@ -139,7 +140,8 @@ start-left b (inr (inl e)) f = wrong (sym (rw e at f))
 start-left b (inr (inr e)) f = wrong (sym (rw e at f))
 
 module _ (x : Entry) (es : List Entry) where
-  stand-by : (h : ℕ) → x .at ≡ h → is-start (x .it .low) ≡ true → Each Lowly (x ∷ es) → Each Finished (x ∷ es) → all name-fine (x ∷ es) ≡ true
+  stand-by : (h : ℕ) → x .at ≡ h → is-start (x .it .low) ≡ true → Each Lowly (x ∷ es) → Each Finished (x ∷ es)
+      → all name-fine (x ∷ es) ≡ true
       → second-marked (x ∷ es) ≡ false → marks-ok (x ∷ es) ≡ true → all-stand h (x ∷ es) ≡ true
   unfolding all-stand
   stand-by h a s l f n u m =
@@ -209,7 +211,8 @@ module _ (image : Image) (r : Reading) (name : List ℕ) (admit : admitted image
   stood : all-stand (r .place .head) (r .entries) ≡ true
   stood =
       let h : ℕ = r .place .head in
-      let f = starts image h (own .led .inside) (own .led .low) (sym (ap (λ (x : Reading). at-tail (x .ending)) (own .same)) ∙ quiet .tail) in
+      let f = starts image h (own .led .inside) (own .led .low)
+      (sym (ap (λ (x : Reading). at-tail (x .ending)) (own .same)) ∙ quiet .tail) in
       let o = orderly image (first-cursor image h) (first-sound image h (omega (arith, own .led .inside)) (own .led .small)) in
       let es = f .first ∷ f .others in
       let q : r .entries ≡ es = ap (λ (x : Reading). x .entries) (own .same) ∙ f .are in

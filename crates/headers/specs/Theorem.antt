@@ -19,10 +19,12 @@ use Rattle.spec.specs.Geometry.{floor, good-length}
 use Rattle.spec.specs.Record.{Entry, name-ok}
 use Rattle.spec.specs.Door.{misnamed}
 use Rattle.spec.specs.Next.{next}
-use Rattle.spec.specs.Chain.{Chain, Reading, allowed, chain, ended, read-straight, read-turned, turn-torn, joined, from-head, from-zero, read-on, reading-from}
+use Rattle.spec.specs.Chain.{Chain, Reading, allowed, chain, ended, read-straight}
+use Rattle.spec.specs.Chain.{read-turned, turn-torn, joined, from-head, from-zero, read-on, reading-from}
 use Rattle.spec.specs.Numbers.{Numbers, Outcome}
 use Rattle.spec.specs.Answers.{Plan, carry-out}
-use Rattle.spec.specs.Length.{stands, all-stand, at-tail, length-in, walked, head-fits, length-from, length-asked, measured, file-length, seen, goes-round, seen-from}
+use Rattle.spec.specs.Length.{stands, all-stand, at-tail, length-in, walked, head-fits}
+use Rattle.spec.specs.Length.{length-from, length-asked, measured, file-length, seen, goes-round, seen-from}
 use Rattle.laws.specs.Tests.{wrong}
 use Rattle.laws.specs.Lists.{each-left, each-right}
 use Rattle.headers.specs.Twins.{Twins, twins-append, stand-alike, length-alike}
@@ -45,7 +47,8 @@ module _ (name : List ℕ) (h : ℕ) where
     go false f = rw (walked, f)
 
   -- the same records, to the walk, and the same end
-  walked-alike : (r q : Reading) → Twins (r .entries) (q .entries) → at-tail (r .ending) ≡ at-tail (q .ending) → walked name h r ≡ walked name h q
+  walked-alike : (r q : Reading) → Twins (r .entries) (q .entries) → at-tail (r .ending) ≡ at-tail (q .ending)
+      → walked name h r ≡ walked name h q
   unfolding walked
   walked-alike r q t e =
       ap₂ (λ (b : Bool) (a : Answer ℕ). checked b (numbered 5) a)
@@ -138,6 +141,7 @@ module _ (name : List ℕ) (h : ℕ) where
     ill-standing f = go (eqb (floor h) 0) (c .last) refl refl where
       more : (ds : List Entry) → all-stand h (c .entries ++ ds) ≡ false
       more ds = right-more (c .entries) ds f
+
       go : (t : Bool) (x : Next) → eqb (floor h) 0 ≡ t → c .last ≡ x → all-stand h (read-on image h c .entries) ≡ false
       go true x e q = rw (read-on, e) (right-stand (c .entries) f)
       go false (Next.Record n d) e q = rw (read-on, e, joined, q) (right-stand (c .entries) f)
@@ -165,11 +169,13 @@ module _ (name : List ℕ) (h : ℕ) where
     unfolding read-on joined
     at-clear e q = rw (read-on, e, joined, q) (rw q)
 
-    at-marker : eqb (floor h) 0 ≡ false → c .last ≡ Next.Wrap → read-on image h c ≡ read-turned (length image) h c (from-zero image h (c .pending))
+    at-marker : eqb (floor h) 0 ≡ false → c .last ≡ Next.Wrap
+        → read-on image h c ≡ read-turned (length image) h c (from-zero image h (c .pending))
     unfolding read-on joined
     at-marker e q = rw (read-on, e, joined, q)
 
-    at-end : eqb (floor h) 0 ≡ false → c .last ≡ Next.Over → read-on image h c ≡ read-turned (length image) h c (from-zero image h (c .pending))
+    at-end : eqb (floor h) 0 ≡ false → c .last ≡ Next.Over
+        → read-on image h c ≡ read-turned (length image) h c (from-zero image h (c .pending))
     unfolding read-on joined
     at-end e q = rw (read-on, e, joined, q)
 
@@ -190,7 +196,8 @@ module _ (name : List ℕ) (h : ℕ) where
     straight : Same c d → read-on a h c ≡ read-straight (length a) h c → read-on b h d ≡ read-straight (length b) h d → One-answer
     straight w p q =
         ap (walked name h) p
-        ∙ walked-alike (read-straight (length a) h c) (read-straight (length b) h d) (w .twins) (ap (λ (x : Next). at-tail (ended x)) (w .last))
+        ∙ walked-alike (read-straight (length a) h c) (read-straight (length b) h d) (w .twins)
+        (ap (λ (x : Next). at-tail (ended x)) (w .last))
         ∙ sym (ap (walked name h) q)
 
     -- the chain goes on at 0
@@ -248,7 +255,8 @@ module _ (name : List ℕ) (h : ℕ) where
           by (inr k) =
               ap (walked name h) p
               ∙ walked-alike (read-turned (length a) h c u) (read-turned (length b) h d v)
-              (twins-append (c .entries) (d .entries) (u .entries) (v .entries) (w .twins) (k .twins)) (ap (λ (x : Next). at-tail (ended x)) (k .last))
+              (twins-append (c .entries) (d .entries) (u .entries) (v .entries) (w .twins) (k .twins))
+              (ap (λ (x : Next). at-tail (ended x)) (k .last))
               ∙ sym (ap (walked name h) q)
 
     one-answer : Alike true c d
@@ -305,9 +313,11 @@ module _ (a b : Image) (h : ℕ) (l : length a ≡ length b) (e : Each (Same-byt
       let t : rounds ≡ true = rw (z, s, g) in
       let x : Each (Same-bytes a b) second-seen = each-right (Same-bytes a b) (seen K true h (drop h a)) second-seen both-seen in
       let y : Each (Same-bytes a b) (seen K false 0 (take (floor h) a)) =
-      subst (λ (i : Bool). Each (Same-bytes a b) (elim i as (λ j. List Extent) [ true ↦ seen K false 0 (take (floor h) a) | false ↦ [] ])) t x in
+      subst (λ (i : Bool). Each (Same-bytes a b)
+      (elim i as (λ j. List Extent) [ true ↦ seen K false 0 (take (floor h) a) | false ↦ [] ])) t x in
       let f : Agree K false 0 (take (floor h) a) (take (floor h) b) = agreed a b (floor h) K false 0 y in
-      let v : Alike false (chain K false 0 (take (floor h) a)) (chain K false 0 (take (floor h) b)) = alike K false 0 (take (floor h) a) (take (floor h) b)
+      let v : Alike false (chain K false 0 (take (floor h) a)) (chain K false 0 (take (floor h) b)) = alike K false 0 (take (floor h) a)
+      (take (floor h) b)
       (rw (length-take, length-take) (omega arith)) f in
       subst (λ (p : Bool). Alike false (chain K p 0 (take (floor h) a)) (from-zero b h (from-head b h .pending))) (sym (w .shut .0))
       (subst (λ (p : Bool). Alike false (chain K false 0 (take (floor h) a)) (from-zero b h p)) (sym (w .shut .1))

@@ -61,7 +61,8 @@ all-alike [] [] t = refl
 all-alike [] (y ∷ fs) t = absurd t
 all-alike (x ∷ es) [] t = absurd t
 all-alike (x ∷ es) (y ∷ fs) t = go (stands false y) refl (all-alike es fs (t .1)) where
-  go : (b : Bool) → stands false y ≡ b → all (stands false) es ≡ all (stands false) fs → all (stands false) (x ∷ es) ≡ all (stands false) (y ∷ fs)
+  go : (b : Bool) → stands false y ≡ b → all (stands false) es ≡ all (stands false) fs
+      → all (stands false) (x ∷ es) ≡ all (stands false) (y ∷ fs)
   go true e ih = rw (all, stands-alike x y (t .0) false, e) ih
   go false e ih = rw (all, stands-alike x y (t .0) false, e)
 

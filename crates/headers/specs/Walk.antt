@@ -122,7 +122,8 @@ found-or Size.Unknown none = Size.Unknown
 found-or Size.Unknown (some e) = Size.Of (length (content-of e))
 
 module _ (name : List ℕ) where
-  committed-all : (x : Sizes) (es : List Entry) → noted-all name x es .committed ≡ found-or (x .committed) (first-such (of-name 0xFC name) es)
+  committed-all : (x : Sizes) (es : List Entry)
+      → noted-all name x es .committed ≡ found-or (x .committed) (first-such (of-name 0xFC name) es)
   unfolding found-or
   committed-all x [] = go (x .committed) where
     go : (k : Size) → k ≡ found-or k none
@@ -136,7 +137,8 @@ module _ (name : List ℕ) where
     go Size.Unknown true q = rw (q, first-such)
     go Size.Unknown false q = rw (q, first-such)
 
-  migrating-all : (x : Sizes) (es : List Entry) → noted-all name x es .migrating ≡ found-or (x .migrating) (first-such (of-name 0xF8 name) es)
+  migrating-all : (x : Sizes) (es : List Entry)
+      → noted-all name x es .migrating ≡ found-or (x .migrating) (first-such (of-name 0xF8 name) es)
   unfolding found-or
   migrating-all x [] = go (x .migrating) where
     go : (k : Size) → k ≡ found-or k none
@@ -185,7 +187,8 @@ both-checked false false x = refl
 module _ (name : List ℕ) (h : ℕ) (image : Image) (l : h ≤ length image) where
   -- the answer by what the cursor finds
   by-run : (r : Run) → rest image (first-cursor image h) ≡ r
-      → walked name h (reading-from image h) ≡ checked (all-stand h (r .entries)) (numbered 5) (stopped (r .ending) (noted-all name no-sizes (r .entries)))
+      → walked name h (reading-from image h) ≡ checked (all-stand h (r .entries)) (numbered 5)
+      (stopped (r .ending) (noted-all name no-sizes (r .entries)))
   unfolding walked
   by-run r q =
       let N : ℕ = length image in
@@ -243,7 +246,8 @@ module _ (image : Image) (h : ℕ) (l : h < length image) (small : In-range (len
       pub begun-fails : e .at ≡ h → stands true (entry-of image e) ≡ false → refuse (numbered 5) ≡ walked name h (reading-from image h)
       begun-fails a f = head-fails name h image (omega arith) (entry-of image e) (rest image next) split a f
 
-      pub begun-well : (x y : Sizes) → x ≡ noted name y (entry-of image e) → y ≡ no-sizes → e .at ≡ h → stands true (entry-of image e) ≡ true
+      pub begun-well : (x y : Sizes) → x ≡ noted name y (entry-of image e) → y ≡ no-sizes → e .at ≡ h
+          → stands true (entry-of image e) ≡ true
           → told name x (rest image next) ≡ walked name h (reading-from image h)
       begun-well x y n m a f =
           head-stands name h image (omega arith) (entry-of image e) (rest image next) split x

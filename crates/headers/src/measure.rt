@@ -1,11 +1,11 @@
 // The walk: from the head over headers and names to the end that stops it.
 use crate::Measured;
 use crate::Sizes;
-use crate::front::forward;
 use crate::first::best;
 use crate::first::no_sizes;
 use crate::first::noted;
 use crate::first::refused;
+use crate::front::forward;
 use crate::stands::stands;
 use reading::Cursor;
 use reading::Item;

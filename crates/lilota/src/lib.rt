@@ -1,10 +1,12 @@
 // The public calls on an image of NOR flash: format, mount, put, get, list, remove and sweep, in the forms for C and for other callers.
 // Each asks nothing of its caller, and equates every outcome with the one that document 01 defines.
 mod c;
+mod c_length;
 mod c_plan;
 mod carry;
 mod door;
 pub mod get;
+pub mod length;
 pub mod list;
 pub mod mount;
 pub mod plan_mount;
@@ -108,6 +110,13 @@ pub struct Located {
     pub answer: u32,
     pub name: NameFault,
     pub extent: Extent,
+}
+
+// A file's length, by headers and names alone. The answer is 0 for a file that is there; name is what is wrong with the name.
+pub struct FileLength {
+    pub answer: u32,
+    pub name: NameFault,
+    pub size: usize,
 }
 
 // A file in the list: where its name stands, and its length. The answer is 0 for a file that is there.

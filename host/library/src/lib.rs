@@ -1,6 +1,8 @@
 //! The calls of liblilota.a.
+mod length;
 mod plans;
 
+pub use length::{length, length_alone};
 pub use plans::Plans;
 use std::path::Path;
 

@@ -17,7 +17,7 @@ fn fault() -> Option<Fault> {
     static FAULT: OnceLock<Option<Fault>> = OnceLock::new();
     *FAULT.get_or_init(|| {
         let name = std::env::var("STANDIN_FAULT").ok()?;
-        let mut all = Fault::ALL.into_iter().chain(Fault::NAMES).chain(Fault::PLANNER);
+        let mut all = Fault::ALL.into_iter().chain(Fault::NAMES).chain(Fault::LENGTHS).chain(Fault::PLANNER);
         let found = all.find(|f| format!("{f:?}") == name);
         Some(found.unwrap_or_else(|| panic!("no fault {name}")))
     })
@@ -144,6 +144,25 @@ pub unsafe extern "C" fn lilota_get(
     give_name(reply.name, reason, place);
     *offset = reply.extent.offset as usize;
     *size = reply.extent.length as usize;
+    reply.answer
+}
+
+/// # Safety
+/// As include/lilota.h says.
+#[no_mangle]
+pub unsafe extern "C" fn lilota_length(
+    image: *const u8,
+    length: usize,
+    head: usize,
+    name: *const u8,
+    name_length: usize,
+    reason: *mut u32,
+    place: *mut usize,
+    size: *mut usize,
+) -> u32 {
+    let reply = run(|| model::length(slice(image, length), head as u64, slice(name, name_length)).0);
+    give_name(reply.name, reason, place);
+    *size = reply.size as usize;
     reply.answer
 }
 

@@ -30,11 +30,11 @@ first-of-requires-2 c κs = search needs
 
 -- src/first.rt:68:1
 returns : tie.Need-returns
-returns c = 
-    let a = c .before .before .before .before .before .before .args in
-    let d = sym (content-length-is (a .image .now) (a .e) (c .before .before .before .before .before .before .pre)) in
+returns c =
+    let c3 = c .before .before .before in let c6 = c3 .before .before .before in let a = c6 .args in
+    let d = sym (content-length-is (a .image .now) (a .e) (c6 .pre)) in
     ap₂ (λ (p q : Size). record { committed = p; migrating = q })
-    (c .before .first-of .ensures ∙ ap₂ (λ (t : Bool) (n : ℕ). first-of (a .x .committed) t n) (c .before .before .before .of-name .ensures) d)
+    (c .before .first-of .ensures ∙ ap₂ (λ (t : Bool) (n : ℕ). first-of (a .x .committed) t n) (c3 .of-name .ensures) d)
     (c .first-of2 .ensures ∙ ap₂ (λ (t : Bool) (n : ℕ). first-of (a .x .migrating) t n) (c .before .before .of-name2 .ensures) d)
 
 pub noted-spec : {M : Type 1} → statement M

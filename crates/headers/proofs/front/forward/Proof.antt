@@ -28,11 +28,13 @@ look-requires-2 c κs = rw (c .turn .ensures) (sound-turn _ _ (c .before .before
 
 -- src/front.rt:49:9
 settle-requires : tie.Need-settle-requires
-settle-requires c κs = (rw (c .before .turn .ensures) (sound-turn _ _ (c .before .before .before .before .before .before .pre)), c .look2 .ensures .1)
+settle-requires c κs =
+    let c6 = c .before .before .before .before .before .before in
+    (rw (c .before .turn .ensures) (sound-turn _ _ (c6 .pre)), c .look2 .ensures .1)
 
 -- src/front.rt:49:9
 returns : tie.Need-returns
-returns c = 
+returns c =
     let c2 = c .before .before in let c4 = c2 .before .before in let c5 = c4 .before in let c7 = c5 .before .before in
     went-on _ _ (c5 .look .result) (c4 .goes-on .result) (c7 .pre) (c5 .look .ensures .0) (c4 .goes-on .ensures) (c2 .turn .result)
     (c .before .look2 .result) (c .settle .result) (c2 .before .if1 .taken) (c2 .turn .ensures)
@@ -44,7 +46,7 @@ settle-requires-2 c κs = search needs
 
 -- src/front.rt:41:1
 returns-2 : tie.Need-returns-2
-returns-2 c = 
+returns-2 c =
     let c2 = c .before .before in let c3 = c2 .before in let c5 = c3 .before .before in
     went-here _ _ (c3 .look .result) (c2 .goes-on .result) (c5 .pre) (c3 .look .ensures .0) (c2 .goes-on .ensures) (c .settle2 .result)
     (c .before .if1 .left) (c .settle2 .ensures) (c3 .look .ensures .1)

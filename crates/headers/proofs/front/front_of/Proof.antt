@@ -20,7 +20,9 @@ next-of-requires c κs = search needs
 
 -- src/front.rt:23:9
 returns : tie.Need-returns
-returns c = (c .next-of .ensures .0 ∙ few-untorn (c .before .before .before .args .part .now) (c .before .if1 .taken), c .next-of .ensures .1)
+returns c =
+    let s = c .before .before .before .args .part .now in
+    (c .next-of .ensures .0 ∙ few-untorn s (c .before .if1 .taken), c .next-of .ensures .1)
 
 -- src/front.rt:25:23
 shared-slice-read-is-torn-marker : tie.Need-shared-slice-read-is-torn-marker
@@ -44,12 +46,10 @@ is-torn-marker-requires c κs = search needs
 
 -- src/front.rt:26:9
 returns-2 : tie.Need-returns-2
-returns-2 c = (
-      torn-untorn (c .before .before .before .before .before .before .before .before .args .part .now) (omega arith)
-          (flag (c .before .is-torn-marker .ensures
-          ∙ ap (λ (st : ℕ). is-torn-marker (low-of (c .before .before .before .before .before .before .before .before .args .part .now)) (high-of (c .before .before .before .before .before .before .before .before .args .part .now)) st) (c .before .before .from-byte .ensures)) (c .if2 .taken)),
-      tt,
-    )
+returns-2 c =
+    let c2 = c .before .before in let s = c2 .before .before .before .before .before .before .args .part .now in
+    let e = c .before .is-torn-marker .ensures ∙ ap (λ (st : ℕ). is-torn-marker (low-of s) (high-of s) st) (c2 .from-byte .ensures) in
+    (torn-untorn s (omega arith) (flag e (c .if2 .taken)), tt)
 
 -- src/front.rt:28:5
 next-of-requires-2 : tie.Need-next-of-requires-2
@@ -57,13 +57,11 @@ next-of-requires-2 c κs = search needs
 
 -- src/front.rt:19:1
 returns-3 : tie.Need-returns-3
-returns-3 c = (
-      c .next-of2 .ensures .0
-          ∙ next-untorn (c .before .before .before .before .before .before .before .before .before .args .part .now) (omega arith)
-          (flag (c .before .before .is-torn-marker .ensures
-          ∙ ap (λ (st : ℕ). is-torn-marker (low-of (c .before .before .before .before .before .before .before .before .before .args .part .now)) (high-of (c .before .before .before .before .before .before .before .before .before .args .part .now)) st) (c .before .before .before .from-byte .ensures)) (c .before .if2 .left)),
-      c .next-of2 .ensures .1,
-    )
+returns-3 c =
+    let c3 = c .before .before .before in let s = c3 .before .before .before .before .before .before .args .part .now in
+    let e = c .before .before .is-torn-marker .ensures
+    ∙ ap (λ (st : ℕ). is-torn-marker (low-of s) (high-of s) st) (c3 .from-byte .ensures) in
+    (c .next-of2 .ensures .0 ∙ next-untorn s (omega arith) (flag e (c .before .if2 .left)), c .next-of2 .ensures .1)
 
 pub front-of-spec : {M : Type 1} → statement M
 front-of-spec =

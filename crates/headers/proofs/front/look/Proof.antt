@@ -28,10 +28,9 @@ front-of-requires c κs = search needs
 
 -- src/front.rt:31:1
 returns : tie.Need-returns
-returns c = 
+returns c =
     let p = c .before .before .before .pre in
-    let a = c .before .before .before .args in
-    (
+    let a = c .before .before .before .args in (
       fore-look-is (a .image .now) (a .c) (c .front-of .result) (p .ordered) (c .front-of .ensures .0),
       subst (λ (l : ℕ). Within (c .front-of .result) l) (sym (part-count (a .image .now) (a .c .at) (a .c .end) (p .ordered, p .inside)))
           (c .front-of .ensures .1),

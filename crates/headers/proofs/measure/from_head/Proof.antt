@@ -34,9 +34,10 @@ refused-requires c κs = search needs
 -- src/measure.rt:64:9
 returns : tie.Need-returns
 returns c =
-    c .refused .ensures
-    ∙ none-begun _ _ (c .before .before .before .before .before .before .pre .0) (c .before .before .before .before .before .before .pre .1) _ (c .before .before .before .first-cursor .ensures) _ (c .before .before .forward .ensures) _
-    (other-step (c .before .before .forward .result) (c .before .match .keys2))
+    let cf = c .before .before in
+    let cc = cf .before in let p = cc .before .before .before .pre in
+    c .refused .ensures ∙ none-begun _ _ (p .0) (p .1) _ (cc .first-cursor .ensures) _ (cf .forward .ensures) _
+    (other-step (cf .forward .result) (c .before .match .keys2))
 
 -- src/measure.rt:67:9
 refused-requires-2 : tie.Need-refused-requires-2
@@ -45,13 +46,18 @@ refused-requires-2 c κs = search needs
 -- src/measure.rt:67:9
 returns-2 : tie.Need-returns-2
 returns-2 c =
-    c .refused2 .ensures ∙ begun-elsewhere _ _ (c .before .before .before .before .before .before .before .before .before .before .pre .0) (c .before .before .before .before .before .before .before .before .before .before .pre .1) _ (c .before .before .before .before .before .before .before .first-cursor .ensures) _ (c .before .before .before .before .before .before .forward .ensures) _
-    (c .before .before .before .before .s .given .1) (c .before .if1 .taken)
+    let cs = c .before .before .before .before in let cf = cs .before .before in
+    let cc = cf .before in let p = cc .before .before .before .pre in
+    c .refused2 .ensures
+    ∙ begun-elsewhere _ _ (p .0) (p .1) _ (cc .first-cursor .ensures) _ (cf .forward .ensures) _ (cs .s .given .1)
+    (c .before .if1 .taken)
 
 -- src/measure.rt:69:9
 stands-requires : tie.Need-stands-requires
 stands-requires c κs =
-    begun _ _ (c .before .before .before .before .before .before .before .before .before .pre .0) (c .before .before .before .before .before .before .before .before .before .pre .1) _ (c .before .before .before .before .before .before .first-cursor .ensures) _ (c .before .before .before .before .before .forward .ensures) (c .before .before .before .s .given .1) .whole
+    let cs = c .before .before .before in let cf = cs .before .before in
+    let cc = cf .before in let p = cc .before .before .before .pre in
+    begun _ _ (p .0) (p .1) _ (cc .first-cursor .ensures) _ (cf .forward .ensures) (cs .s .given .1) .whole
 
 -- src/measure.rt:70:9
 refused-requires-3 : tie.Need-refused-requires-3
@@ -60,8 +66,11 @@ refused-requires-3 c κs = search needs
 -- src/measure.rt:70:9
 returns-3 : tie.Need-returns-3
 returns-3 c =
-    c .refused3 .ensures ∙ begun-fails _ _ (c .before .before .before .before .before .before .before .before .before .before .before .before .pre .0) (c .before .before .before .before .before .before .before .before .before .before .before .before .pre .1) _ (c .before .before .before .before .before .before .before .before .before .first-cursor .ensures) _ (c .before .before .before .before .before .before .before .before .forward .ensures) _
-    (c .before .before .before .before .before .before .s .given .1) (c .before .before .before .if1 .left) (flag-not (c .before .before .stands .ensures) (c .before .if2 .taken))
+    let c3 = c .before .before .before in let cs = c3 .before .before .before in let cf = cs .before .before in
+    let cc = cf .before in let p = cc .before .before .before .pre in
+    c .refused3 .ensures
+    ∙ begun-fails _ _ (p .0) (p .1) _ (cc .first-cursor .ensures) _ (cf .forward .ensures) _ (cs .s .given .1) (c3 .if1 .left)
+    (flag-not (c .before .before .stands .ensures) (c .before .if2 .taken))
 
 -- src/measure.rt:72:51
 no-sizes-requires : tie.Need-no-sizes-requires
@@ -70,20 +79,29 @@ no-sizes-requires c κs = search needs
 -- src/measure.rt:72:32
 noted-requires : tie.Need-noted-requires
 noted-requires c κs =
-    begun _ _ (c .before .before .before .before .before .before .before .before .before .before .before .before .pre .0) (c .before .before .before .before .before .before .before .before .before .before .before .before .pre .1) _ (c .before .before .before .before .before .before .before .before .before .first-cursor .ensures) _ (c .before .before .before .before .before .before .before .before .forward .ensures) (c .before .before .before .before .before .before .s .given .1) .whole
+    let cs = c .before .before .before .before .before .before in let cf = cs .before .before in
+    let cc = cf .before in let p = cc .before .before .before .pre in
+    begun _ _ (p .0) (p .1) _ (cc .first-cursor .ensures) _ (cf .forward .ensures) (cs .s .given .1) .whole
 
 -- src/measure.rt:72:5
 walk-on-requires : tie.Need-walk-on-requires
 walk-on-requires c κs =
-    let t = begun _ _ (c .before .before .before .before .before .before .before .before .before .before .before .before .before .pre .0) (c .before .before .before .before .before .before .before .before .before .before .before .before .before .pre .1) _ (c .before .before .before .before .before .before .before .before .before .before .first-cursor .ensures) _ (c .before .before .before .before .before .before .before .before .before .forward .ensures) (c .before .before .before .before .before .before .before .s .given .1) in
-    (t .onward .sound, shut-past _ t (flag-not (c .before .before .before .stands .ensures) (c .before .before .if2 .left)))
+    let c3 = c .before .before .before in let cs = c3 .before .before .before .before in let cf = cs .before .before in
+    let cc = cf .before in let p = cc .before .before .before .pre in
+    let t = begun _ _ (p .0) (p .1) _ (cc .first-cursor .ensures) _ (cf .forward .ensures) (cs .s .given .1) in
+    (t .onward .sound, shut-past _ t (flag-not (c3 .stands .ensures) (c .before .before .if2 .left)))
 
 -- src/measure.rt:57:1
 returns-4 : tie.Need-returns-4
 returns-4 c =
-    c .walk-on .ensures ∙ begun-well _ _ (c .before .before .before .before .before .before .before .before .before .before .before .before .before .before .pre .0) (c .before .before .before .before .before .before .before .before .before .before .before .before .before .before .pre .1) _ (c .before .before .before .before .before .before .before .before .before .before .before .first-cursor .ensures) _ (c .before .before .before .before .before .before .before .before .before .before .forward .ensures) _
-    (c .before .before .before .before .before .before .before .before .s .given .1) _ _ (c .before .noted .ensures) (c .before .before .no-sizes .ensures) (c .before .before .before .before .before .if1 .left)
-    (flag-not (c .before .before .before .before .stands .ensures) (c .before .before .before .if2 .left))
+    let c4 = c .before .before .before .before in let c5 = c4 .before in
+    let cs = c5 .before .before .before in let cf = cs .before .before in
+    let cc = cf .before in
+    let p = cc .before .before .before .pre in
+    c .walk-on .ensures
+    ∙ begun-well _ _ (p .0) (p .1) _ (cc .first-cursor .ensures) _ (cf .forward .ensures) _ (cs .s .given .1) _ _
+    (c .before .noted .ensures)
+    (c .before .before .no-sizes .ensures) (c5 .if1 .left) (flag-not (c4 .stands .ensures) (c .before .before .before .if2 .left))
 
 pub from-head-spec : {M : Type 1} → statement M
 from-head-spec =

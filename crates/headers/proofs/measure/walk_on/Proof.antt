@@ -38,12 +38,14 @@ ended-requires c κs = tt
 -- src/measure.rt:46:13
 returns : tie.Need-returns Inv-loop μ-loop
 returns c =
-    let c2 = c .before .before in
-    c .ended .ensures ∙ walk-end (c .before .before .before .loop .inv) (c2 .forward .ensures) (other-step (c2 .forward .result) (c .before .match .keys2))
+    let cf = c .before .before in let cl = cf .before in
+    c .ended .ensures ∙ walk-end (cl .loop .inv) (cf .forward .ensures) (other-step (cf .forward .result) (c .before .match .keys2))
 
 -- src/measure.rt:48:13
 stands-requires : tie.Need-stands-requires Inv-loop μ-loop
-stands-requires c κs = steps _ _ (c .before .before .before .before .loop .inv .shut) _ (c .before .before .before .forward .ensures) (c .before .s .given .1) .whole
+stands-requires c κs =
+    let cs = c .before in let cf = cs .before .before in let cl = cf .before in
+    steps _ _ (cl .loop .inv .shut) _ (cf .forward .ensures) (cs .s .given .1) .whole
 
 -- src/measure.rt:49:13
 refused-requires : tie.Need-refused-requires Inv-loop μ-loop
@@ -52,24 +54,29 @@ refused-requires c κs = tt
 -- src/measure.rt:49:13
 returns-2 : tie.Need-returns-2 Inv-loop μ-loop
 returns-2 c =
-    let c4 = c .before .before .before .before in let c6 = c4 .before .before in let c7 = c6 .before in
-    let t = steps _ _ (c7 .loop .inv .shut) _ (c6 .forward .ensures) (c4 .s .given .1) in
-    c .refused .ensures ∙ walk-fails (c7 .loop .inv) t (flag-not (c .before .before .stands .ensures) (c .before .if1 .taken))
+    let cs = c .before .before .before .before in let cf = cs .before .before in let cl = cf .before in
+    c .refused .ensures
+    ∙ walk-fails (cl .loop .inv) (steps _ _ (cl .loop .inv .shut) _ (cf .forward .ensures) (cs .s .given .1))
+    (flag-not (c .before .before .stands .ensures) (c .before .if1 .taken))
 
 -- src/measure.rt:51:9
 noted-requires : tie.Need-noted-requires Inv-loop μ-loop
-noted-requires c κs = steps _ _ (c .before .before .before .before .before .before .loop .inv .shut) _ (c .before .before .before .before .before .forward .ensures) (c .before .before .before .s .given .1) .whole
+noted-requires c κs =
+    let cs = c .before .before .before in let cf = cs .before .before in let cl = cf .before in
+    steps _ _ (cl .loop .inv .shut) _ (cf .forward .ensures) (cs .s .given .1) .whole
 
 -- src/measure.rt:43:5
 loop-less : tie.Need-loop-less Inv-loop μ-loop
-loop-less c = steps _ _ (c .before .before .before .before .before .before .before .loop .inv .shut) _ (c .before .before .before .before .before .before .forward .ensures) (c .before .before .before .before .s .given .1) .onward .less
+loop-less c =
+    let cs = c .before .before .before .before in let cf = cs .before .before in let cl = cf .before in
+    steps _ _ (cl .loop .inv .shut) _ (cf .forward .ensures) (cs .s .given .1) .onward .less
 
 -- src/measure.rt:43:5
 loop-again : tie.Need-loop-again Inv-loop μ-loop
 loop-again c =
-    let c4 = c .before .before .before .before in let c6 = c4 .before .before in let c7 = c6 .before in
-    let t = steps _ _ (c7 .loop .inv .shut) _ (c6 .forward .ensures) (c4 .s .given .1) in
-    walk-step (c7 .loop .inv) t (c .noted .ensures) (flag-not (c .before .before .stands .ensures) (c .before .if1 .left))
+    let cs = c .before .before .before .before in let cf = cs .before .before in let cl = cf .before in
+    walk-step (cl .loop .inv) (steps _ _ (cl .loop .inv .shut) _ (cf .forward .ensures) (cs .s .given .1)) (c .noted .ensures)
+    (flag-not (c .before .before .stands .ensures) (c .before .if1 .left))
 
 pub walk-on-spec : {M : Type 1} → statement M
 walk-on-spec =

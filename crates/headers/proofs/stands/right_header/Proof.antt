@@ -26,8 +26,12 @@ unfinished-requires c κs = search needs
 
 -- src/stands.rt:33:9
 returns : tie.Need-returns
-returns c = let a = c .before .before .before .before .before .args in
-    rw (flag (c .before .before .right-mark .ensures ∙ ap (right-mark (a .first)) (c .before .before .before .low-of .ensures)) (c .before .if1 .taken), c .unfinished .ensures)
+returns c =
+    let c2 = c .before .before in let c3 = c2 .before in let a = c3 .before .before .args in
+    rw (
+      flag (c2 .right-mark .ensures ∙ ap (right-mark (a .first)) (c3 .low-of .ensures)) (c .before .if1 .taken),
+      c .unfinished .ensures,
+    )
 
 -- src/stands.rt:26:1
 returns-2 : tie.Need-returns-2
