@@ -22,22 +22,24 @@ name-fault-requires c κs = search needs
 
 -- src/length.rt:22:13
 measure-requires : tie.Need-measure-requires
-measure-requires c κs = good _ (flag (c .before .before .before .good-length .ensures) (c .before .before .if1 .taken)) .most
+measure-requires c κs =
+    let c3 = c .before .before .before in
+    good _ (flag (c3 .before .good-length .ensures) (c3 .if1 .taken)) .most
 
 -- src/length.rt:22:13
 returns : tie.Need-returns
 returns c =
-    let c4 = c .before .before .before .before in let a = c4 .before .before .before .args in
+    let c3 = c .before .before .before in let c4 = c3 .before in let c5 = c4 .before in let a = c5 .before .before .before .args in
     c .measure .ensures
-    ∙ good-asked (a .image .now) (a .head) (a .name .now) _ (flag (c4 .good-length .ensures) (c .before .before .before .if1 .taken))
-    (c .before .before .name-fault .ensures) (c .before .if2 .taken)
+    ∙ good-asked (a .image .now) (a .head) (a .name .now) (c3 .name-fault .result) (flag (c5 .good-length .ensures) (c4 .if1 .taken))
+    (c3 .name-fault .ensures) (c .before .if2 .taken)
 
 -- src/length.rt:24:9
 returns-2 : tie.Need-returns-2
 returns-2 c =
-    let c3 = c .before .before .before in let a = c3 .before .before .before .args in
-    bad-name (a .image .now) (a .head) (a .name .now) _ (flag (c3 .good-length .ensures) (c .before .before .if1 .taken))
-    (c .before .name-fault .ensures) (c .if2 .left)
+    let c2 = c .before .before in let c3 = c2 .before in let c4 = c3 .before in let a = c4 .before .before .before .args in
+    bad-name (a .image .now) (a .head) (a .name .now) (c2 .name-fault .result) (flag (c4 .good-length .ensures) (c3 .if1 .taken))
+    (c2 .name-fault .ensures) (c .if2 .left)
 
 -- src/length.rt:16:1
 returns-3 : tie.Need-returns-3

@@ -20,7 +20,7 @@ told-requires c κs = search needs
 returns : tie.Need-returns
 returns c =
     let c1 = c .before in let a = c1 .before .before .before .args in
-    length-told (a .image .now) (a .head) (a .name .now) _ _ (c1 .asked .ensures) (c .told .ensures)
+    length-told (a .image .now) (a .head) (a .name .now) (c1 .asked .result) (c .told .result) (c1 .asked .ensures) (c .told .ensures)
 
 pub file-length-spec : {M : Type 1} → statement M
 file-length-spec = tie.close (tie.spec asked-requires told-requires returns)
