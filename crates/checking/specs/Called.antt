@@ -140,7 +140,7 @@ module _ (es : List Entry) (q : Entry) where
       let l : live (es ++ q ∷ []) q ≡ not (called 0xFC es (name-of q)) = rw (live, a, b, all-last a, has-is 0xFC) in
       let r : repeated es q ≡ called 0xF8 es (name-of q) = rw (repeated, a, b, has-is 0xF8) in
       let g : name-legal (es ++ q ∷ []) q ≡ elim (not (called 0xFC es (name-of q))) as (λ b. Bool) [ true ↦ name-ok (name-of q) | false ↦ true ] =
-          rw (name-legal, l) in
+      rw (name-legal, l) in
       ap₂ (λ (x y : Bool). x || not y) r g
       ∙ ap (λ (y : Bool). called 0xF8 es (name-of q) || y) (turned (called 0xFC es (name-of q)) (name-ok (name-of q)))
     where

@@ -124,7 +124,7 @@ module _ (image : Image) (start : Cursor) (x : Ending) (all : List Entry) where
       going-on f q n =
           let r : record-fault x all (front image start k) (entry-of image e) ≡ Fault.Nothing = sym q ∙ n in
           let s : chain-fault x all (front image start k) (entry-of image e ∷ rest image next .entries)
-              ≡ chain-fault x all (front-and image start k e) (rest image next .entries) = rw (chain-fault, r) in
+          ≡ chain-fault x all (front-and image start k e) (rest image next .entries) = rw (chain-fault, r) in
           record {
             gone = gone-more (w .gone) t;
             same =

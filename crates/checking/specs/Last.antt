@@ -209,7 +209,7 @@ module _ (image : Image) where
       let g : give r ≡ give (reading-from image h) = q ∙ rw (reading, e, judged, l) in
       let same : r ≡ reading-from image h = given g in
       let f : first-fault image (reading-from image h) ≡ Fault.Nothing =
-          clear-none (first-fault image (reading-from image h)) (clear-legal image (reading-from image h) ∙ l) in
+      clear-none (first-fault image (reading-from image h)) (clear-legal image (reading-from image h) ∙ l) in
       rw (same, verdict, e, verdict-of, f)
     where
       given : {x y : Reading} → _≡_ {A = Answer Reading} (give x) (give y) → x ≡ y

@@ -73,7 +73,7 @@ module _ (image : Image) (cut : CutOff) (t : cut .there ≡ true) where
     unfolding named it
     cut-same i r h z q =
         let f : empty (take (cut .n) (drop 8 (drop (cut .at) image))) ≡ false =
-            filled (cut .n) (drop 8 (drop (cut .at) image)) z (rw (length-drop, length-drop) (omega (arith, i))) in
+        filled (cut .n) (drop 8 (drop (cut .at) image)) z (rw (length-drop, length-drop) (omega (arith, i))) in
         q ∙ ap (λ (l : List ℕ). same (name-of e) l) (name-part image (cut .at) (cut .n))
         ∙ sym (one-is st e ∙ rw (named, getD-drop (cut .at) image 2 0, eq-eqb (getD image (cut .at + 2) 0) st h, f))
 

@@ -78,12 +78,12 @@ module _ (image : Image) (r : Reading) where
   by-tests false false false true p q s t =
       let two : repair-2-on (repair-1 w) ≡ w = ap repair-2-on (repair-1-idle w p) ∙ repair-2-idle w (r .entries) q in
       let three : repair-3 (repair-2-on (repair-1 w)) ≡ w =
-          ap repair-3 two ∙ repair-3-idle w (neither (last-open (r .entries)) (wrap-torn (r .ending)) false s) in
+      ap repair-3 two ∙ repair-3-idle w (neither (last-open (r .entries)) (wrap-torn (r .ending)) false s) in
       rw (first-repair, p, q, s, t) (no-steps three refl, some-steps (ap repair-4 three) (ends-4 w true t refl))
   by-tests false false false false p q s t =
       let two : repair-2-on (repair-1 w) ≡ w = ap repair-2-on (repair-1-idle w p) ∙ repair-2-idle w (r .entries) q in
       let three : repair-3 (repair-2-on (repair-1 w)) ≡ w =
-          ap repair-3 two ∙ repair-3-idle w (neither (last-open (r .entries)) (wrap-torn (r .ending)) false s) in
+      ap repair-3 two ∙ repair-3-idle w (neither (last-open (r .entries)) (wrap-torn (r .ending)) false s) in
       rw (first-repair, p, q, s, t) (no-steps (ap repair-4 three ∙ repair-4-idle w t) refl)
 
   pub first-step : First-step (first-repair r) image r
@@ -104,16 +104,23 @@ module _ (image : Image) (r : Reading) where
   number-by false false true d p q s t =
       let one : repair-1 w ≡ w = repair-1-idle w p in
       let two : repair-2-on (repair-1 w) ≡ w = ap repair-2-on one ∙ repair-2-idle w (r .entries) q in
-      rw
-      (first-repair, p, q, s, first-with-step, idle one, idle two,
-      some-steps (ap repair-3 two) (busy-3 w (neither (last-open (r .entries)) (wrap-torn (r .ending)) true s)))
+      rw (
+        first-repair,
+        p,
+        q,
+        s,
+        first-with-step,
+        idle one,
+        idle two,
+        some-steps (ap repair-3 two) (busy-3 w (neither (last-open (r .entries)) (wrap-torn (r .ending)) true s)),
+      )
   number-by false false false d p q s t =
       let one : repair-1 w ≡ w = repair-1-idle w p in
       let two : repair-2-on (repair-1 w) ≡ w = ap repair-2-on one ∙ repair-2-idle w (r .entries) q in
       let three : repair-3 (repair-2-on (repair-1 w)) ≡ w =
-          ap repair-3 two ∙ repair-3-idle w (neither (last-open (r .entries)) (wrap-torn (r .ending)) false s) in
+      ap repair-3 two ∙ repair-3-idle w (neither (last-open (r .entries)) (wrap-torn (r .ending)) false s) in
       let four : empty (repair-4 (repair-3 (repair-2-on (repair-1 w))) .steps) ≡ not d =
-          ap (λ (v : Work). empty (repair-4 v .steps)) three ∙ ends-4 w d t refl in
+      ap (λ (v : Work). empty (repair-4 v .steps)) three ∙ ends-4 w d t refl in
       last d t (idle one) (idle two) (idle three) four
     where
       last : (d : Bool) → any (superseded (r .entries)) (r .entries) ≡ d → empty (repair-1 w .steps) ≡ true

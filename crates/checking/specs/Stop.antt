@@ -54,11 +54,11 @@ pub here-is : (image : Image) (at : ℕ) (reserved : Bool) (r : ℕ)
     → r ≡ name-length 64 reserved (take (length image - (at + 8)) (drop (at + 8) image))
     → (r ≡ name-here reserved (drop at image)) × Ends-inside image at r
 here-is image at reserved r d =
-  let e : r ≡ name-length 64 reserved (drop (at + 8) image) = d ∙ ap (name-length 64 reserved) (lent image (at + 8)) in (
-  e ∙ ap (name-length 64 reserved) (sym (drop-drop 8 at image)),
-  λ l. let q : r < length (drop (at + 8) image) = rw e (name-inside 64 reserved (drop (at + 8) image) (rw e at l)) in
-  let m : length (drop (at + 8) image) ≡ length image - (at + 8) = length-drop (at + 8) image in omega arith,
-)
+    let e : r ≡ name-length 64 reserved (drop (at + 8) image) = d ∙ ap (name-length 64 reserved) (lent image (at + 8)) in (
+      e ∙ ap (name-length 64 reserved) (sym (drop-drop 8 at image)),
+      λ l. let q : r < length (drop (at + 8) image) = rw e (name-inside 64 reserved (drop (at + 8) image) (rw e at l)) in
+          let m : length (drop (at + 8) image) ≡ length image - (at + 8) = length-drop (at + 8) image in omega arith,
+    )
 
 -- none of it is there
 pub here-none : (image : Image) (at : ℕ) (reserved : Bool) → length image ≤ at + 8 → 64 ≡ name-here reserved (drop at image)
@@ -182,7 +182,7 @@ module _ (image : Image) (p : Place) (size l : ℕ) (e : l ≡ limit p) (w : In-
   unfolding stands-behind
   behind-there b h q =
       let long-is : long 1 (drop size (part (p .tail) (limit p) image)) ≡ true =
-          ap (long 1) rest-is ∙ long-le 1 (part (p .tail + size) l image) (rw rest-length (omega arith)) in
+      ap (long 1) rest-is ∙ long-le 1 (part (p .tail + size) l image) (rw rest-length (omega arith)) in
       rw (stands-behind, long-is)
       (q ∙ ap stands (part-window (p .tail + size) l image (omega arith) ∙ sym rest-is))
 

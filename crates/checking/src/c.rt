@@ -44,7 +44,12 @@ fn checked_told(c: Checked) -> Told
 }
 
 #[no_mangle]
-pub extern "C" fn lilota_check(image: &[u8], verdict: &mut u32, number: &mut u32, address: &mut usize) -> u32
+pub extern "C" fn lilota_check(
+    image: &[u8],
+    verdict: &mut u32,
+    number: &mut u32,
+    address: &mut usize,
+) -> u32
     ensures { λ r. ⌜ numbers r (now (verdict .exit)) (now (number .exit)) (now (address .exit)) ≡ verdict-numbers (check (now (image .entry))) ⌝ }
 {
     let t = checked_told(check(image));

@@ -176,7 +176,14 @@ fn unfinished_wrong(image: &[u8], ending: Ending, e: Spot) -> bool
 }
 
 // The first rule that e breaks.
-fn record_fault(image: &[u8], start: Cursor, cut: CutOff, ending: Ending, count: usize, e: Spot) -> Fault
+fn record_fault(
+    image: &[u8],
+    start: Cursor,
+    cut: CutOff,
+    ending: Ending,
+    count: usize,
+    e: Spot,
+) -> Fault
     requires { ⌜ Cursor-sound (now image) start × Whole (now image) e × Cut-inside (now image) cut
         × (length (front (now image) start count) ≡ count) ⌝ }
     ensures { λ r. ⌜ r ≡ record-fault ending (all-of (now (image .entry)) start cut) (front (now (image .entry)) start count)
