@@ -82,6 +82,20 @@ extern "C" {
 /* The last byte is '/'. */
 #define LILOTA_NAME_FINAL_SLASH 4u
 
+/* What lilota_check says. */
+#define LILOTA_CHECK_SETTLED 0u  /* mount has nothing to do */
+#define LILOTA_CHECK_RECOVERY 1u /* it has; number: the first repair's */
+#define LILOTA_CHECK_BROKEN 2u   /* mount refuses; number: the rule's */
+
+/* The rules, in the order in which they are tested at one address. */
+#define LILOTA_RULE_HEAD 1u       /* no head is found (address 0) */
+#define LILOTA_RULE_UNFINISHED 2u /* an unfinished thing that is not last */
+#define LILOTA_RULE_HEADER 3u     /* magic, status or reserved byte */
+#define LILOTA_RULE_NAME 4u       /* a name without end, bad or repeated */
+#define LILOTA_RULE_END 5u        /* a record past its end */
+#define LILOTA_RULE_MARK 6u       /* CLEAN, START or marker out of place */
+#define LILOTA_RULE_FREE 7u       /* a byte of the free run that is not FF */
+
 /*
  * Erases all and leaves an empty store. Gives back the steps done.
  * Steps: length/4,096 + 8, of which 8 program a byte.
@@ -131,6 +145,21 @@ uint32_t lilota_get(const uint8_t *image, size_t length,
                     const uint8_t *name, size_t name_length,
                     uint32_t *reason, size_t *place,
                     size_t *offset, size_t *size);
+
+/*
+ * How long the file of this name is, from the head that mount gave back, by
+ * headers and names alone: no byte of a file's data is read, so it takes as long
+ * as there are records before the end of the chain, however large the image.
+ * Gives back what is wrong with the name, and the file's length. On a settled
+ * image with its own head the answer is get's. On any other image or head it is
+ * 5 if the head is not a multiple of 8 below the image's length, or if something
+ * is met that cannot stand there in a settled chain; else it goes by the first
+ * committed record of the name, else by the first migrating one, else it is 2.
+ * Answers: 22, 5, 2, 0.
+ */
+uint32_t lilota_length(const uint8_t *image, size_t length, size_t head,
+                       const uint8_t *name, size_t name_length,
+                       uint32_t *reason, size_t *place, size_t *size);
 
 /*
  * The file with this index, 0 the first: gives back where its name stands in
@@ -246,6 +275,14 @@ uint32_t lilota_plan_mount(const uint8_t *image, size_t length, size_t first,
                            size_t *live_bytes, size_t *dead_bytes,
                            size_t *free_bytes, size_t *lost_bytes,
                            size_t *steps);
+
+/*
+ * Checks an image of this length: the first broken rule in reading order, or
+ * what mount would begin with. Answers: 22 (a bad length; the numbers are then
+ * 0), 0.
+ */
+uint32_t lilota_check(const uint8_t *image, size_t length, uint32_t *verdict,
+                      uint32_t *number, size_t *address);
 
 #ifdef __cplusplus
 }

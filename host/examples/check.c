@@ -1,7 +1,7 @@
 /*
  * Checks image files and shows the place of a broken rule: check FILE..., with one image in each file. The files stay as they are.
  */
-#include "lilota_check.h"
+#include "lilota.h"
 
 #include <stdio.h>
 #include <stdlib.h>
@@ -64,9 +64,9 @@ static void name_there(const uint8_t *image, size_t length, size_t at)
 
 static void show(const uint8_t *image, size_t length, uint32_t verdict, uint32_t number, size_t address)
 {
-    if (verdict == LILOTA_SETTLED) {
+    if (verdict == LILOTA_CHECK_SETTLED) {
         printf("settled\n");
-    } else if (verdict == LILOTA_RECOVERY) {
+    } else if (verdict == LILOTA_CHECK_RECOVERY) {
         printf("recovery %lu\n  %s\n", (unsigned long)number, REPAIRS[number]);
     } else {
         printf("broken %s %lu\n  %s\n", WORDS[number], (unsigned long)address, ASKS[number]);
@@ -78,7 +78,7 @@ static void show(const uint8_t *image, size_t length, uint32_t verdict, uint32_t
 
 int main(int count, char **paths)
 {
-    uint8_t *image = malloc(MOST + 1);
+    uint8_t *image = (uint8_t *)malloc(MOST + 1);
     int i, worst = 0;
     if (!image)
         return 2;
@@ -90,7 +90,7 @@ int main(int count, char **paths)
             printf("%lu, a bad length\n", (unsigned long)answer);
         else
             show(image, length, verdict, number, address);
-        if (answer != 0 || verdict == LILOTA_BROKEN)
+        if (answer != 0 || verdict == LILOTA_CHECK_BROKEN)
             worst = 1;
     }
     free(image);

@@ -5,6 +5,7 @@ pub mod Stored
 pub mod Calls
 pub mod Format
 pub mod Look
+pub mod Length
 pub mod Put
 pub mod Mount
 pub mod Sweep

@@ -2,6 +2,7 @@
 // every outcome with the one that document 01 defines.
 mod carry;
 pub mod get;
+pub mod length;
 pub mod list;
 pub mod mount;
 pub mod put;
@@ -70,6 +71,13 @@ pub struct Located {
     pub answer: u32,
     pub name: NameFault,
     pub extent: Extent,
+}
+
+// A file's length, by headers and names alone. The answer is 0 for a file that is there; name is what is wrong with the name.
+pub struct FileLength {
+    pub answer: u32,
+    pub name: NameFault,
+    pub size: usize,
 }
 
 // A file in the list: where its name stands, and its length. The answer is 0 for a file that is there.

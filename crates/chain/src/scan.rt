@@ -24,7 +24,7 @@ ghost use Rattle.chain.specs.Tally.{name-fine, count-with, sums-with, Ad
 ghost use Rattle.chain.specs.Tally.{passed, Spots, End-inside};
 
 // An FC or F8 record with a name has a good one.
-fn name_fine(image: &[u8], e: Spot) -> bool
+pub fn name_fine(image: &[u8], e: Spot) -> bool
     requires { ⌜ Whole (now image) e ⌝ }
     ensures { λ r. ⌜ r ≡ name-fine (entry-of (now (image .entry)) e) ⌝ }
 {

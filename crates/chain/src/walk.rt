@@ -55,7 +55,7 @@ fn look(image: &[u8], c: Cursor) -> Next
 }
 
 // After a marker, or at the end, the chain goes on at 0 if there is room.
-fn goes_on(room: usize, x: Next) -> bool
+pub fn goes_on(room: usize, x: Next) -> bool
     ensures { λ r. ⌜ r ≡ goes-on room x ⌝ }
 {
     match x {
@@ -68,7 +68,7 @@ fn goes_on(room: usize, x: Next) -> bool
     }
 }
 
-fn turn(c: Cursor) -> Cursor
+pub fn turn(c: Cursor) -> Cursor
     ensures { λ r. ⌜ r ≡ turn (c .room) (c .pending) ⌝ }
 {
     Cursor {
@@ -128,7 +128,7 @@ fn record_at(image: &[u8], c: Cursor, n: usize, d: usize) -> Item
     }
 }
 
-fn settle(image: &[u8], c: Cursor, x: Next) -> Item
+pub fn settle(image: &[u8], c: Cursor, x: Next) -> Item
     requires { ⌜ Cursor-sound (now image) c × Within x (c .end - c .at) ⌝ }
     ensures { λ r. ⌜ r ≡ settle (now (image .entry)) c x ⌝ }
 {

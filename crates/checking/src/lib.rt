@@ -1,6 +1,6 @@
 // The check of an image (document 02, K13): the first broken rule with its address, or settled, or the repair that comes first.
 // Everything here only looks. A good image is read once; only one that is refused is gone over again for the rule that it breaks.
-mod c;
+pub mod answer;
 mod called;
 pub mod check;
 mod dirt;

@@ -1,3 +1,5 @@
 // The C interface: each function of include/lilota.h over the call of its name.
 mod c;
+mod c_check;
+mod c_length;
 mod c_plan;

@@ -1,6 +1,6 @@
--- K13: "the first broken rule in reading order with its address (the later of two)". Reading order is the chain's, then the free run's as 01
--- writes it, [T, N) before [0, floor(h)). "The rules, at one address in this order: head (address 0), unfinished .., header .., name .., end, mark
--- .., free".
+-- K13: "the first broken rule in reading order with its address (the later of two)". Reading order is the chain's, then the free run's as
+-- 01 writes it, [T, N) before [0, floor(h)). "The rules, at one address in this order: head (address 0), unfinished .., header .., name ..,
+-- end, mark .., free".
 use Rattle.spec.specs.Prelude.{ℕ, _+_, min, Bool, true, false, _&&_, _||_, not, List, [], _∷_, _++_, take, drop, ltb, eqb}
 use Rattle.spec.specs.declared.Kind.{Kind}
 use Rattle.spec.specs.declared.Ending.{Ending}
@@ -72,8 +72,8 @@ stands-behind image p size =
       | false ↦ elim (p .turned || eqb (floor (p .head)) 0) [ true ↦ false | false ↦ stands image ]
     ]
 
--- an unfinished record of this size whose reserved byte is not FF: "unfinished" if it is not the last thing, else "header"; one that does not
--- end where it may has nothing behind it
+-- an unfinished record of this size whose reserved byte is not FF: "unfinished" if it is not the last thing, else "header"; one that does
+-- not end where it may has nothing behind it
 unfoldable pub spare-fault : Image → Place → ℕ → Rule
 spare-fault image p size =
     elim (long size (part (p .tail) (limit p) image) && stands-behind image p size) [ true ↦ Rule.Unfinished | false ↦ Rule.Header ]
@@ -102,8 +102,8 @@ shape w = kind (low-of w) (high-of w) (status-of w) 0xFF
 abbrev pub name-here : Bool → List ℕ → ℕ
 name-here reserved w = name-length 64 reserved (drop 8 w)
 
--- of the shape k, where w stands from the tail up to N; a torn wrap that is out of place, or not FF behind, is "unfinished", a marker that is
--- out of place is a "mark"
+-- of the shape k, where w stands from the tail up to N; a torn wrap that is out of place, or not FF behind, is "unfinished", a marker that
+-- is out of place is a "mark"
 unfoldable pub shape-fault : Image → Place → List ℕ → Kind → Rule
 shape-fault image p w Kind.Record = finished-fault (is-spare (spare-of w)) (name-here false w)
 shape-fault image p w Kind.Reserved = reserved-fault image p (is-spare (spare-of w)) (name-here true w)
@@ -142,7 +142,10 @@ cut-off-at a w = record { at = a; it = rec-of w (name-here false w) (data-len-of
 unfoldable pub cut-off : Image → Reading → List Entry
 cut-off image r =
     let w = drop (r .place .tail) image in
-    elim (not (whole (r .ending)) && not (last-open (r .entries)) && is-cut-off w) [ true ↦ cut-off-at (r .place .tail) w ∷ [] | false ↦ [] ]
+    elim (not (whole (r .ending)) && not (last-open (r .entries)) && is-cut-off w) [
+      | true ↦ cut-off-at (r .place .tail) w ∷ []
+      | false ↦ []
+    ]
 
 -- the rule that is broken there: of a record read as far as its name first the name, then the end
 unfoldable pub stop-rule : Image → Reading → List Entry → Rule

@@ -1,5 +1,5 @@
--- K13: "Check an image against 01's reading and report the first broken rule .., or settled, or needing recovery with 01's number of the repair
--- that comes first."
+-- K13: "Check an image against 01's reading and report the first broken rule .., or settled, or needing recovery with 01's number of the
+-- repair that comes first."
 use Rattle.spec.specs.Prelude.{ℕ, zero, suc, Bool, true, false, _||_, List, [], _∷_, length}
 use Rattle.spec.specs.declared.Ending.{Ending}
 use Rattle.spec.specs.declared.Rule.{Rule}
@@ -29,7 +29,8 @@ wrap-torn Ending.Tail = false
 wrap-torn (Ending.TornWrap a) = true
 wrap-torn Ending.Broken = false
 
--- 1 "Head CLEAN", 2 "next record CLEAN", "Next START", 3 "Torn", "Torn wrap", "Reserved", 4 "Each F8 record with an FC record of its name"; 0: none
+-- 1 "Head CLEAN", 2 "next record CLEAN", "Next START", 3 "Torn", "Torn wrap", "Reserved", 4 "Each F8 record with an FC record of its name";
+-- 0: none
 unfoldable pub first-repair : Reading → ℕ
 first-repair r =
     elim (head-clean (r .entries)) [

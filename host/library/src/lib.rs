@@ -1,6 +1,10 @@
 //! The calls of liblilota.a.
+mod check;
+mod length;
 mod plans;
 
+pub use check::check;
+pub use length::{length, length_alone};
 pub use plans::Plans;
 use std::path::Path;
 

@@ -1,8 +1,8 @@
 //! Wrong models, one error at a time, to show that the testers notice them: those of
 //! document 01's "Errors that look right", K14's clauses, each left out or turned, K6's
 //! room rule with a part left out, names told apart by K2's table alone, a name check
-//! (K5) that takes another name or gives another reason, and a planner (K1) that is not the
-//! direct call's.
+//! (K5) that takes another name or gives another reason, a walk for a length (K8) that takes
+//! what it must not, and a planner (K1) that is not the direct call's.
 //! None is seeded by default.
 use std::cell::Cell;
 
@@ -80,6 +80,12 @@ pub enum Fault {
     SlashFirst,
     /// K5: the name's reason is given where N is bad too.
     ReasonWhereNBad,
+    /// K8: any record may stand at the head.
+    HeadNotStart,
+    /// K8: the first F8 record of the name goes before the first FC.
+    MigratingFirst,
+    /// K8: the walk ends at the first record of the name.
+    StopsAtName,
     /// K14: a cut reaches inside the program step behind an undone erase. No fault of a
     /// library: the other reading of "its next program step".
     CutPastErase,

@@ -6,7 +6,7 @@
 mod plans;
 
 use model::faults::{self, Fault};
-use model::{NameFault, Reply, Space};
+use model::{NameFault, Reply, Space, Verdict};
 use std::panic::{catch_unwind, AssertUnwindSafe};
 use std::sync::OnceLock;
 
@@ -17,7 +17,7 @@ fn fault() -> Option<Fault> {
     static FAULT: OnceLock<Option<Fault>> = OnceLock::new();
     *FAULT.get_or_init(|| {
         let name = std::env::var("STANDIN_FAULT").ok()?;
-        let mut all = Fault::ALL.into_iter().chain(Fault::NAMES).chain(Fault::PLANNER);
+        let mut all = Fault::ALL.into_iter().chain(Fault::NAMES).chain(Fault::LENGTHS).chain(Fault::PLANNER);
         let found = all.find(|f| format!("{f:?}") == name);
         Some(found.unwrap_or_else(|| panic!("no fault {name}")))
     })
@@ -145,6 +145,45 @@ pub unsafe extern "C" fn lilota_get(
     *offset = reply.extent.offset as usize;
     *size = reply.extent.length as usize;
     reply.answer
+}
+
+/// # Safety
+/// As include/lilota.h says.
+#[no_mangle]
+pub unsafe extern "C" fn lilota_length(
+    image: *const u8,
+    length: usize,
+    head: usize,
+    name: *const u8,
+    name_length: usize,
+    reason: *mut u32,
+    place: *mut usize,
+    size: *mut usize,
+) -> u32 {
+    let reply = run(|| model::length(slice(image, length), head as u64, slice(name, name_length)).0);
+    give_name(reply.name, reason, place);
+    *size = reply.size as usize;
+    reply.answer
+}
+
+/// # Safety
+/// As include/lilota.h says.
+#[no_mangle]
+pub unsafe extern "C" fn lilota_check(
+    image: *const u8,
+    length: usize,
+    verdict: *mut u32,
+    number: *mut u32,
+    address: *mut usize,
+) -> u32 {
+    let (answer, told) = match model::check(slice(image, length)) {
+        Err(answer) => (answer, (0, 0, 0)),
+        Ok(Verdict::Settled) => (0, (0, 0, 0)),
+        Ok(Verdict::Recovery(repair)) => (0, (1, repair, 0)),
+        Ok(Verdict::Broken(rule, at)) => (0, (2, rule as u32 + 1, at as usize)),
+    };
+    (*verdict, *number, *address) = told;
+    answer
 }
 
 /// # Safety

@@ -1,13 +1,13 @@
 //! The header, and the C examples with the stand-in. (With the proved library:
 //! package compare.)
 use std::path::{Path, PathBuf};
-use testing::cc::{accepted_by_both, expected, host, run_example, run_report, EXAMPLES};
+use testing::cc::{accepted_by_both, expected, host, images_to_check, run_check, run_example, run_report, EXAMPLES};
 use testing::ALL;
 
 #[test]
 fn header_is_c_and_cpp() {
     accepted_by_both(&host().join("../include/lilota.h"));
-    for example in EXAMPLES.into_iter().chain(["report"]) {
+    for example in EXAMPLES.into_iter().chain(["report", "check"]) {
         accepted_by_both(&host().join(format!("examples/{example}.c")));
     }
 }
@@ -40,4 +40,10 @@ fn service_screen() {
     assert_eq!(model::sweep(&mut img, ALL).answer, 0);
     let printed = run_report(&archive(), Path::new(env!("CARGO_TARGET_TMPDIR")), &img);
     assert_eq!(printed, expected("report"));
+}
+
+#[test]
+fn check_of_files() {
+    let printed = run_check(&archive(), Path::new(env!("CARGO_TARGET_TMPDIR")), &images_to_check());
+    assert_eq!(printed, expected("check"));
 }

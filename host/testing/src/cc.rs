@@ -1,4 +1,5 @@
 //! The C compiler, for tests of the header and of the C examples.
+use crate::faulty::three;
 use std::path::{Path, PathBuf};
 use std::process::Command;
 
@@ -57,6 +58,30 @@ pub fn run_report(library: &Path, folder: &Path, image: &[u8]) -> String {
     let printed = succeed(Command::new(compiled("report", library, folder)).arg(&path));
     assert_eq!(std::fs::read(&path).expect("the file"), image);
     printed.strip_prefix(&format!("{}: ", path.display())).expect("the file's name").to_string()
+}
+
+/// What the check of image files prints of these, each by its file's name; it fails, for
+/// one of them is broken. The files stay as they are.
+pub fn run_check(library: &Path, folder: &Path, images: &[(&str, Vec<u8>)]) -> String {
+    let paths: Vec<PathBuf> = images.iter().map(|(name, _)| folder.join(name)).collect();
+    for (path, (_, image)) in paths.iter().zip(images) {
+        std::fs::write(path, image).expect("a file");
+    }
+    let out = Command::new(compiled("check", library, folder)).args(&paths).output().expect("the program runs");
+    assert_eq!(out.status.code(), Some(1), "a broken image");
+    for (path, (_, image)) in paths.iter().zip(images) {
+        assert_eq!(&std::fs::read(path).expect("the file"), image);
+    }
+    String::from_utf8(out.stdout).expect("plain text").replace(&format!("{}/", folder.display()), "")
+}
+
+/// Three images for it: with nothing to do, with a torn record at the tail, and with a
+/// record at 64 of 9,000 data bytes.
+pub fn images_to_check() -> Vec<(&'static str, Vec<u8>)> {
+    let (good, mut torn, mut long) = (three(), three(), three());
+    torn[88] = 0xA5;
+    long[68..72].copy_from_slice(&[0x28, 0x23, 0x00, 0x00]);
+    vec![("good.image", good), ("torn.image", torn), ("long.image", long)]
 }
 
 /// What an example has to print, worked out by hand.

@@ -92,3 +92,14 @@ fn cut_off(r: &mut Rng, img: &mut [u8]) {
         img[at + 8..at + 10].copy_from_slice(r.of(&[b"a\0", b"b\0", b"/\0"]));
     }
 }
+
+/// A head at 0, and files "a", "b" and "c" of three bytes at 16, 40 and 64; the tail is 88.
+pub fn three() -> Vec<u8> {
+    let mut img = vec![0xFF; 8192];
+    let mut at = write_record(&mut img, 0, [0x00, 0x5A, 0x00], b"", b"");
+    for name in [b"a", b"b", b"c"] {
+        at = write_record(&mut img, at, [0xA5, 0x5A, COMMITTED], name, b"xyz");
+    }
+    assert_eq!(at, 88);
+    img
+}

@@ -15,6 +15,7 @@ pub mod faulty;
 pub mod history;
 pub mod images;
 pub mod ledger;
+pub mod lengths;
 pub mod maker;
 pub mod names;
 pub mod odd;

@@ -1,8 +1,7 @@
 //! K13's check by the model: against its mount on images with one fault and with many, and on images worked out by hand.
 use model::*;
 use std::collections::BTreeMap;
-use testing::aimed::write_record;
-use testing::faulty::{faulty, kind_of, VERDICTS};
+use testing::faulty::{faulty, kind_of, three, VERDICTS};
 use testing::rng::Rng;
 use testing::ALL;
 
@@ -27,17 +26,6 @@ fn as_mount_does() {
     for kind in &VERDICTS[1..] {
         assert!(seen.get(kind).is_some_and(|&n| n >= 50), "{kind}: {:?}", seen.get(kind));
     }
-}
-
-/// A head at 0, and files "a", "b" and "c" of three bytes at 16, 40 and 64; the tail is 88.
-fn three() -> Vec<u8> {
-    let mut img = vec![0xFF; 8192];
-    let mut at = write_record(&mut img, 0, [0x00, 0x5A, 0x00], b"", b"");
-    for name in [b"a", b"b", b"c"] {
-        at = write_record(&mut img, at, [0xA5, 0x5A, COMMITTED], name, b"xyz");
-    }
-    assert_eq!(at, 88);
-    img
 }
 
 fn line(edits: &[(usize, &[u8])]) -> String {

@@ -2,6 +2,7 @@
 use crate::emit::{equation, Vector};
 use crate::held::{plain, told, Told};
 use crate::histories;
+use crate::lengths;
 use crate::names;
 use crate::orders::{self, ORDERS};
 use crate::plans;
@@ -98,8 +99,8 @@ impl Collection {
         let tags = tags.map(|t| format!("tag {t}"));
         let sources = SOURCES.iter().map(|s| format!("source {s}"));
         let lacking = answers.chain(tags).chain(sources).filter(|w| self.count(w) < EACH);
-        let requests = plans::lacking(self).into_iter().chain(spaces::lacking(self)).chain(names::lacking(self)).chain(verdicts::lacking(self));
-        lacking.chain(requests).collect()
+        let requests = [plans::lacking, spaces::lacking, names::lacking, lengths::lacking, verdicts::lacking];
+        lacking.chain(requests.iter().flat_map(|lacking| lacking(self))).collect()
     }
 
     /// The coverage: calls by answers, then tags, sources and histories.
@@ -291,6 +292,7 @@ pub fn collect() -> Collection {
     orders::add(&mut c);
     plans::add(&mut c);
     spaces::add(&mut c);
+    lengths::add(&mut c);
     names::add(&mut c);
     verdicts::add(&mut c);
     c

@@ -2,6 +2,7 @@
 use crate::computed::{check_edited, shared, Edit};
 use crate::emit::Vector;
 use crate::inside_faults::INSIDE_FAULTS;
+use crate::length_faults::LENGTH_FAULTS;
 use crate::name_faults::NAME_FAULTS;
 use crate::plan_faults::PLAN_FAULTS;
 use crate::room_faults::ROOM_FAULTS;
@@ -245,6 +246,7 @@ pub fn run(spec: &Path, vectors: &[Vector], jobs: usize, only: Option<&str>) -> 
         .chain(ROOM_FAULTS)
         .chain(PLAN_FAULTS)
         .chain(SPACE_FAULTS)
+        .chain(LENGTH_FAULTS)
         .chain(NAME_FAULTS)
         .chain(VERDICT_FAULTS)
         .filter(|f| only.is_none_or(|what| f.what.starts_with(what)))

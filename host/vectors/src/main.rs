@@ -12,6 +12,8 @@ mod held;
 mod helper;
 mod histories;
 mod inside_faults;
+mod length_faults;
+mod lengths;
 mod name_faults;
 mod names;
 mod orders;

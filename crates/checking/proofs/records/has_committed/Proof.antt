@@ -13,7 +13,8 @@ cut-named-requires : tie.Need-cut-named-requires
 cut-named-requires c κs = (c .before .before .before .before .pre .1, c .if2 .taken, c .before .before .before .before .pre .2 .name (c .if2 .taken) .1)
 
 returns-2 : tie.Need-returns-2
-returns-2 c = search (has-before, has-cut, has-none, needs)
+returns-2 c =
+    has-cut _ _ _ 0xFC _ _ _ (c .before .before .before .has-named .ensures) (c .before .before .if1 .left) (c .cut-named .ensures)
 
 returns-3 : tie.Need-returns-3
 returns-3 c = search (has-before, has-cut, has-none, needs)

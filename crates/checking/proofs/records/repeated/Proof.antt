@@ -10,7 +10,7 @@ named-requires : tie.Need-named-requires
 named-requires c κs = search needs
 
 returns : tie.Need-returns
-returns c = search (repeated-fc, repeated-f8, repeated-none, needs)
+returns c = repeated-fc _ _ _ (c .before .before .earlier .ensures) _ (c .before .named .ensures) (c .if1 .taken)
 
 named-requires-2 : tie.Need-named-requires-2
 named-requires-2 c κs = search needs

@@ -14,7 +14,10 @@ second-marked-requires : tie.Need-second-marked-requires
 second-marked-requires c κs = search needs
 
 returns-2 : tie.Need-returns-2
-returns-2 c = search (repair-one, repair-two, repair-open, repair-wrap, repair-four, open-is, needs)
+returns-2 c =
+    let image = c .before .before .before .before .before .args .image .now in
+    repair-two image _ _ (c .before .before .before .head-clean .ensures) (c .before .before .if1 .left) _
+    (c .before .second-marked .ensures) (c .if2 .taken)
 
 returns-3 : tie.Need-returns-3
 returns-3 c = search (repair-one, repair-two, repair-open, repair-wrap, repair-four, open-is, needs)

@@ -1,8 +1,9 @@
+-- The answer of the check, as numbers.
 use Rattle.spec.specs.Verdict.{verdict-numbers}
 use mathlib.Core.Path.{ap, _∙_}
 use borrow.Author.Needs.{needs}
-use Rattle.checking.proofs.c.lilota_check.Statement.{statement}
-use Rattle.checking.proofs.c.lilota_check.Tie as tie
+use Rattle.lilota.proofs.c_check.lilota_check.Statement.{statement}
+use Rattle.lilota.proofs.c_check.lilota_check.Tie as tie
 
 check-requires : tie.Need-check-requires
 check-requires c κs = search needs

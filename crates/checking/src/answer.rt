@@ -1,11 +1,10 @@
-// The C form of the check: it gives the answer back, and its other numbers through lent ones.
+// The answer of the check as numbers.
 use crate::Checked;
 use crate::Told;
-use crate::check::check;
 use crate::check::rule_number;
 use spec::Verdict;
 ghost use mathlib.Core.Path.{_≡_};
-ghost use Rattle.spec.specs.Verdict.{verdict-told, verdict-numbers, check};
+ghost use Rattle.spec.specs.Verdict.{verdict-told, verdict-numbers};
 ghost use Rattle.checking.specs.Checked.{checked-as, numbers, told-as};
 
 fn told(verdict: u32, number: u32, address: usize) -> Told
@@ -29,7 +28,7 @@ fn verdict_told(v: Verdict) -> Told
     }
 }
 
-fn checked_told(c: Checked) -> Told
+pub fn checked_told(c: Checked) -> Told
     ensures { λ r. ⌜ told-as r ≡ verdict-numbers (checked-as c) ⌝ }
 {
     match c {
@@ -41,20 +40,4 @@ fn checked_told(c: Checked) -> Told
             address: 0,
         },
     }
-}
-
-#[no_mangle]
-pub extern "C" fn lilota_check(
-    image: &[u8],
-    verdict: &mut u32,
-    number: &mut u32,
-    address: &mut usize,
-) -> u32
-    ensures { λ r. ⌜ numbers r (now (verdict .exit)) (now (number .exit)) (now (address .exit)) ≡ verdict-numbers (check (now (image .entry))) ⌝ }
-{
-    let t = checked_told(check(image));
-    *verdict = t.verdict;
-    *number = t.number;
-    *address = t.address;
-    t.answer
 }

@@ -1,7 +1,7 @@
 use Rattle.checking.specs.Checked.{told-done, told-refused}
 use borrow.Author.Needs.{needs}
-use Rattle.checking.proofs.c.checked_told.Statement.{statement}
-use Rattle.checking.proofs.c.checked_told.Tie as tie
+use Rattle.checking.proofs.answer.checked_told.Statement.{statement}
+use Rattle.checking.proofs.answer.checked_told.Tie as tie
 
 enum-known-c : tie.Need-enum-known-c
 enum-known-c c = search needs

@@ -1,7 +1,7 @@
 use Rattle.checking.specs.Checked.{told-settled, told-recovery, told-broken}
 use borrow.Author.Needs.{needs}
-use Rattle.checking.proofs.c.verdict_told.Statement.{statement}
-use Rattle.checking.proofs.c.verdict_told.Tie as tie
+use Rattle.checking.proofs.answer.verdict_told.Statement.{statement}
+use Rattle.checking.proofs.answer.verdict_told.Tie as tie
 
 enum-told : tie.Need-enum-told
 enum-told c = search needs
