@@ -1,26 +1,12 @@
 // The check of any image, and its answer as numbers.
 use crate::Checked;
 use crate::verdict::verdict;
+use door::good_length;
 use spec::Rule;
-use spec::SECTOR;
 use spec::Verdict;
 ghost use mathlib.Core.Path.{_≡_};
-ghost use Rattle.spec.specs.Geometry.{good-length};
 ghost use Rattle.spec.specs.Verdict.{rule-number, verdict-numbers, check};
 ghost use Rattle.checking.specs.Checked.{checked-as};
-
-// An image's length: whole sectors, two at least, 16 MiB at most.
-fn good_length(n: usize) -> bool
-    ensures { λ r. ⌜ r ≡ good-length n ⌝ }
-{
-    if n % SECTOR == 0 {
-        if n < 8192 {
-            return false;
-        }
-        return n <= 16777216;
-    }
-    false
-}
 
 // Any image may be handed in.
 pub fn check(image: &[u8]) -> Checked

@@ -164,7 +164,7 @@ fn marker_fault(spare: bool) -> Rule
 // The rule that is broken at the tail.
 pub fn shape_fault(image: &[u8], p: Place) -> Rule
     requires { ⌜ In-image (now image) p ⌝ }
-    ensures { λ r. ⌜ r ≡ shape-fault (now (image .entry)) p (drop (p .tail) (now (image .entry))) (shape (drop (p .tail) (now (image .entry)))) ⌝ }
+    ensures { λ r. ⌜ (let w = drop (p .tail) (now (image .entry)) in r ≡ shape-fault (now (image .entry)) p w (shape w)) ⌝ }
 {
     let at = p.tail;
     let spare = is_spare(image, at);
