@@ -1,3 +1,7 @@
 pub mod Within
 pub mod Flags
 pub mod NameLaws
+pub mod Digits
+pub mod Readable
+pub mod Filled
+pub mod NameWords

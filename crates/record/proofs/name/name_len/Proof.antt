@@ -1,78 +1,54 @@
--- name_len: the name has the bytes passed and those up to its end from here on.
-use Prim.Native.Nat.{_+_, _-_, _≤_}
-use mathlib.Core.Path.{_≡_}
-use lib.ListN.{drop}
-use Rattle.spec.specs.Record.{name-length}
-use Rattle.laws.specs.Flag.{flag}
-use Rattle.record.specs.NameLaws.{name-end, name-hit, name-miss, name-out}
-use borrow.Author.Needs.{needs}
+-- name_len: the end is in the word behind those that can be read, or is looked for from there on.
 use native.Mathlib.Omega.{arith}
+use borrow.Author.Tests.{ltb-false}
+use Rattle.record.specs.NameWords.{passed-end}
+use borrow.Author.Needs.{needs}
 use Rattle.record.proofs.name.name_len.Statement.{statement}
 use Rattle.record.proofs.name.name_len.Tie as tie
 
-abbrev Inv-loop : tie.InvT-loop
-Inv-loop part reserved i₀ i = (i ≤ 64) × (name-length 64 reserved part ≡ i + name-length (64 - i) reserved (drop i part))
+readable-words-requires : tie.Need-readable-words-requires
+readable-words-requires c κs = search needs
 
-abbrev μ-loop : tie.MeasureT-loop
-μ-loop part reserved i₀ i = 64 - i
+sub-if2 : tie.Need-sub-if2
+sub-if2 c = search needs
 
-loop-holds : tie.Need-loop-holds Inv-loop μ-loop
-loop-holds c = search needs
+name-len-from-requires : tie.Need-name-len-from-requires
+name-len-from-requires c κs = c .before .readable-words .ensures .1 (c .before .before .before .args .reserved)
 
-returns : tie.Need-returns Inv-loop μ-loop
-returns c =
-    let a = c .before .before .before .before .args in
-    omega (arith, name-end (64 - c .before .before .loop .i) (a .reserved) (a .part .now) (c .before .before .loop .i) (c .if1 .taken))
+returns : tie.Need-returns
+returns c = search needs
 
-shared-slice-read-ends : tie.Need-shared-slice-read-ends Inv-loop μ-loop
-shared-slice-read-ends c = search needs
+end-in-word-requires : tie.Need-end-in-word-requires
+end-in-word-requires c κs = omega (arith, c .before .before .readable-words .ensures .0, ltb-false)
 
-ends-requires : tie.Need-ends-requires Inv-loop μ-loop
-ends-requires c κs = search needs
+add-result : tie.Need-add-result
+add-result c = search needs
 
-returns-2 : tie.Need-returns-2 Inv-loop μ-loop
-returns-2 c =
-    let i = c .before .before .before .before .before .loop .i in
-    let a = c .before .before .before .before .before .before .before .args in
-    omega (
-      arith,
-      name-hit (64 - i) (64 - (i + 1)) (a .reserved) (a .part .now) i (omega arith) (omega arith)
-          (flag (c .before .ends .ensures) (c .if2 .taken)),
-    )
+returns-2 : tie.Need-returns-2
+returns-2 c = 
+    let start = c .before .before .before .before .before .before in
+    let q =
+        passed-end (start .args .reserved) (start .args .part .now) (c .before .before .before .before .readable-words .result)
+          (c .before .end-in-word .result) (c .before .before .before .before .readable-words .ensures .1 (start .args .reserved)) (omega arith)
+          (c .before .end-in-word .ensures) (c .if3 .taken) in
+    (q, omega arith)
 
-add-i : tie.Need-add-i Inv-loop μ-loop
-add-i c = search needs
+name-len-from-requires-2 : tie.Need-name-len-from-requires-2
+name-len-from-requires-2 c κs = c .before .before .before .before .readable-words .ensures .1 (c .before .before .before .before .before .before .args .reserved)
 
-loop-less : tie.Need-loop-less Inv-loop μ-loop
-loop-less c = search needs
-
-loop-again : tie.Need-loop-again Inv-loop μ-loop
-loop-again c =
-    let i = c .before .before .before .before .before .loop .i in
-    let a = c .before .before .before .before .before .before .before .args in
-    omega (
-      arith,
-      name-miss (64 - i) (64 - (i + 1)) (a .reserved) (a .part .now) i (omega arith) (omega arith)
-          (flag (c .before .ends .ensures) (c .if2 .left)),
-    )
-
-returns-3 : tie.Need-returns-3 Inv-loop μ-loop
-returns-3 c =
-    let a = c .before .before .before .args in
-    omega (arith, name-out (64 - c .before .loop .i) (a .reserved) (drop (c .before .loop .i) (a .part .now)) (omega arith))
+returns-3 : tie.Need-returns-3
+returns-3 c = search needs
 
 pub name-len-spec : {M : Type 1} → statement M
 name-len-spec =
     tie.close
     (tie.spec
-    Inv-loop
-    μ-loop
-    loop-holds
+    readable-words-requires
+    sub-if2
+    name-len-from-requires
     returns
-    shared-slice-read-ends
-    ends-requires
+    end-in-word-requires
+    add-result
     returns-2
-    add-i
-    loop-less
-    loop-again
+    name-len-from-requires-2
     returns-3)
