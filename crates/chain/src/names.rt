@@ -4,14 +4,14 @@ use crate::Cursor;
 use crate::Earlier;
 use crate::Item;
 use crate::Repeats;
-use crate::Signature;
+use filter::Signature;
 use crate::Spot;
 use crate::files::is_file;
 use crate::files::named;
 use crate::files::named_as;
-use crate::filter::WORDS;
-use crate::filter::add;
-use crate::filter::signature;
+use filter::table::WORDS;
+use filter::table::add;
+use filter::table::signature;
 use crate::skip::skip_other_names;
 use crate::walk::advance;
 use spec::Status;
@@ -25,7 +25,7 @@ ghost use Rattle.chain.specs.Rest.{entry-of};
 ghost use Rattle.chain.specs.Fold.{Whole};
 ghost use Rattle.chain.specs.Repeats.{earlier-of, repeats-with};
 ghost use Rattle.chain.specs.Prefix.{front, front-and, earlier-with};
-ghost use Rattle.chain.specs.Filter.{In-table};
+ghost use Rattle.filter.specs.Table.{In-table};
 ghost use Rattle.chain.specs.Held.{signed, Carried, File-signed};
 
 fn either(a: bool, b: bool) -> bool

@@ -2,8 +2,8 @@
 // by themselves, so that the compiler keeps most of what is carried along in registers.
 use crate::FullPass;
 use crate::Gathered;
-use crate::NameMarks;
-use crate::marks::both;
+use filter::NameMarks;
+use filter::marks::both;
 use crate::marks::marks_of;
 use crate::sought::found_of;
 use crate::sought::not_seen;
@@ -15,7 +15,7 @@ use chain::Pass;
 use chain::Repeats;
 use chain::Spot;
 use chain::files::is_file;
-use chain::filter::WORDS;
+use filter::table::WORDS;
 use chain::names::repeats_and;
 use chain::names::repeats_signed;
 use chain::plain::near;
@@ -31,7 +31,7 @@ ghost use Rattle.chain.specs.Cursor.{Cursor-sound, left};
 ghost use Rattle.spec.specs.Record.{name-of};
 ghost use Rattle.chain.specs.Rest.{rest, entry-of};
 ghost use Rattle.chain.specs.Tally.{none-yet, passed, Spots, End-inside};
-ghost use Rattle.reading.specs.Marks.{Marked-as};
+ghost use Rattle.filter.specs.Marks.{Marked-as};
 ghost use Rattle.chain.specs.Repeats.{repeats-of};
 ghost use Rattle.reading.specs.Sought.{has-hash, Sought};
 ghost use Rattle.reading.specs.Gather.{nothing-yet, Gathering, Noting, Plain-file};

@@ -1,13 +1,13 @@
 // The file of a name, found in the pass of a judgement: the pass keeps the first file whose name has the same hash.
 use crate::Sight;
-use crate::marks::both;
+use filter::marks::both;
 use chain::Cursor;
 use chain::Found;
 use chain::Spot;
 use chain::files::file_named;
 use chain::files::has_name;
 use chain::files::is_file;
-use chain::filter::hash;
+use filter::hash::hash;
 ghost use mathlib.Core.Path.{_≡_};
 ghost use mathlib.Core.Bool.{_&&_};
 ghost use Rattle.spec.specs.Basics.{keep, first-such};
@@ -17,7 +17,7 @@ ghost use Rattle.chain.specs.Rest.{rest, entry-of};
 ghost use Rattle.chain.specs.Fold.{Whole};
 ghost use Rattle.chain.specs.FileLaws.{is-file};
 ghost use Rattle.chain.specs.Seek.{found-in, Found-whole};
-ghost use Rattle.chain.specs.Filter.{hash-from};
+ghost use Rattle.filter.specs.Hash.{name-hash};
 ghost use Rattle.reading.specs.Sought.{hash-of, has-hash, not-seen, found-of, seen-or, Sought};
 
 pub fn not_seen() -> Sight
@@ -97,7 +97,7 @@ pub fn seen_with(image: &[u8], wanted: u64, f: Sight, e: Spot) -> Sight
 // The file of this name: f, which has the name's hash, unless the two names only share it.
 pub fn file_of(image: &[u8], start: Cursor, name: &[u8], f: Found) -> Found
     requires { ⌜ Cursor-sound (now image) start
-        × Sought (now image) (hash-from 0 (now name)) (rest (now image) start .entries) f ⌝ }
+        × Sought (now image) (name-hash (now name)) (rest (now image) start .entries) f ⌝ }
     ensures { λ r. ⌜ (found-in (now (image .entry)) r
         ≡ first-such (has-name (now (name .entry))) (keep is-file (rest (now (image .entry)) start .entries)))
         × Found-whole (now (image .entry)) r ⌝ }

@@ -1,14 +1,14 @@
 -- A word of fewer than eight bytes, filled up with letters, is readable where its bytes are.
-use Prim.Native.Nat.{ℕ, zero, suc, _+_, _-_, _*_, _/_, _%_, _≤_, _<_, _^_}
+use Prim.Native.Nat.{ℕ, zero, suc, _+_, _-_, _*_, _/_, _%_, _≤_, _<_, _^_, min}
 use native.Mathlib.Omega.{arith}
 use mathlib.Core.Path.{_≡_, refl, sym, ap, subst, _∙_}
 use mathlib.Core.Bool.{Bool, true, false, _&&_}
 use mathlib.Core.List.{List, [], _∷_, _++_}
-use lib.ListN.{length, take, replicate, length-append, length-replicate}
+use lib.ListN.{length, take, replicate, length-append, length-replicate, length-take}
 use Rattle.spec.specs.Basics.{all, Each}
 use Rattle.laws.specs.Lists.{each-append}
 use Rattle.laws.specs.Spaces.{is-readable}
-use Rattle.record.specs.Digits.{number, digits, number-append, digits-number}
+use Rattle.record.specs.Digits.{number, digits, number-append, digits-number, length-digits}
 
 -- the k bytes of w, and letters above them
 abbrev pub filled : ℕ → ℕ → ℕ
@@ -75,3 +75,18 @@ filled-readable s b h =
         ap (λ (x : ℕ). digits x (number (s ++ t))) (sym l) ∙ digits-number (s ++ t) (each-append (λ x. x < 256) s t b (bytes-letters (8 - k))) in
     ap (λ (x : ℕ). all is-readable (digits 8 x)) e ∙ ap (all is-readable) d ∙ all-append is-readable s t
     ∙ ap (λ (x : Bool). all is-readable s && x) (all-letters (8 - k)) ∙ and-true (all is-readable s)
+
+bytes-digits : (j k w : ℕ) → Each (λ b. b < 256) (take j (digits k w))
+unfolding digits
+bytes-digits zero k w = tt
+bytes-digits (suc j) zero w = tt
+bytes-digits (suc j) (suc k) w = (omega arith, bytes-digits j k (w / 256))
+
+-- the k lowest bytes of a word
+pub low-readable : (k w : ℕ) → k < 8 → all is-readable (digits 8 (filled (number (take k (digits 8 w))) k)) ≡ all is-readable (take k (digits 8 w))
+low-readable k w h =
+    let s : List ℕ = take k (digits 8 w) in
+    let l : length s ≡ k = length-take k (digits 8 w) ∙ ap (min k) (length-digits 8 w) ∙ least in
+    ap (λ (j : ℕ). all is-readable (digits 8 (filled (number s) j))) (sym l) ∙ filled-readable s (bytes-digits k 8 w) (omega (arith, l)) where
+      least : min k 8 ≡ k
+      least = omega arith

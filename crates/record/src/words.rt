@@ -27,7 +27,7 @@ fn word(a: u8, b: u8, c: u8, d: u8, e: u8, f: u8, g: u8, h: u8) -> u64
 // The eight bytes from i on.
 pub fn word_at(part: &[u8], i: usize) -> u64
     requires { ⌜ i + 8 ≤ length (now part) ⌝ }
-    ensures { λ r. ⌜ digits 8 r ≡ take 8 (drop i (now (part .entry))) ⌝ }
+    ensures { λ r. ⌜ (digits 8 r ≡ take 8 (drop i (now (part .entry)))) × (r ≡ number (take 8 (drop i (now (part .entry))))) ⌝ }
 {
     word(
         part[i],

@@ -1,7 +1,7 @@
 -- signed: the bytes behind the header are the record's name.
 use mathlib.Core.Path.{ap, _∙_}
 use Rattle.chain.specs.FileLaws.{name-part}
-use Rattle.chain.specs.Filter.{signature-of}
+use Rattle.filter.specs.Table.{signature-of}
 use borrow.Author.Needs.{needs}
 use Rattle.chain.proofs.names.signed.Statement.{statement}
 use Rattle.chain.proofs.names.signed.Tie as tie

@@ -3,7 +3,7 @@ use mathlib.Core.Path.{subst}
 use mathlib.Core.List.{List}
 use Prim.Native.Nat.{ℕ}
 use Rattle.chain.specs.FileLaws.{name-part}
-use Rattle.reading.specs.Marks.{Marked-as}
+use Rattle.filter.specs.Marks.{Marked-as}
 use borrow.Author.Needs.{needs}
 use Rattle.reading.proofs.marks.marks_of.Statement.{statement}
 use Rattle.reading.proofs.marks.marks_of.Tie as tie

@@ -1,7 +1,7 @@
 -- hash_of: the part that is lent is the record's name.
 use mathlib.Core.Path.{ap, _∙_}
 use Rattle.chain.specs.FileLaws.{name-part}
-use Rattle.chain.specs.Filter.{hash-from}
+use Rattle.filter.specs.Hash.{name-hash}
 use borrow.Author.Needs.{needs}
 use Rattle.reading.proofs.sought.hash_of.Statement.{statement}
 use Rattle.reading.proofs.sought.hash_of.Tie as tie
@@ -27,7 +27,7 @@ hash-requires c κs = search needs
 returns : tie.Need-returns
 returns c =
     let a = c .before .before .before .before .before .args in
-    c .hash .ensures .0 ∙ ap (hash-from 0) (name-part (a .image .now) (a .e .at) (a .e .n))
+    c .hash .ensures .0 ∙ ap (name-hash) (name-part (a .image .now) (a .e .at) (a .e .n))
 
 pub hash-of-spec : {M : Type 1} → statement M
 hash-of-spec =

@@ -44,7 +44,7 @@ loop-again c =
     let c5 = c .before .before .before .before .before in
     let s = c5 .before .before .args .part .now in
     let l = c5 .loop in
-    let readable = flag (c .before .all-readable .ensures ∙ ap (all is-readable) (c .before .before .word-at .ensures)) (c .if2 .taken) in
+    let readable = flag (c .before .all-readable .ensures ∙ ap (all is-readable) (c .before .before .word-at .ensures .0)) (c .if2 .taken) in
     (omega arith, λ reserved. passed-word s (l .i) (omega arith) (omega arith) readable reserved (l .inv .1 reserved))
 
 returns-2 : tie.Need-returns-2 Inv-loop μ-loop

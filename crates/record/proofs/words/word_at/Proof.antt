@@ -1,5 +1,7 @@
 -- word_at: eight neighbours are the eight bytes from i on.
-use mathlib.Core.Path.{sym, _∙_}
+use mathlib.Core.Path.{sym, ap, _∙_}
+use native.Mathlib.Omega.{arith}
+use Rattle.record.specs.Digits.{number, number-digits}
 use Rattle.flash.specs.Words.{eight-is}
 use borrow.Author.Needs.{needs}
 use Rattle.record.proofs.words.word_at.Statement.{statement}
@@ -56,7 +58,8 @@ word-requires c κs = search needs
 returns : tie.Need-returns
 returns c =
     let a = c .before .before .before .before .before .before .before .before .before .before in
-    c .word .ensures ∙ sym (eight-is (a .args .part .now) (a .args .i) (a .pre))
+    let e = c .word .ensures ∙ sym (eight-is (a .args .part .now) (a .args .i) (a .pre)) in
+    (e, sym (number-digits 8 (c .word .result) (omega arith)) ∙ ap number e)
 
 pub word-at-spec : {M : Type 1} → statement M
 word-at-spec =
