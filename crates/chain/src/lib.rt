@@ -109,3 +109,9 @@ pub struct Pass {
     pub tally: Tally,
     pub end: Item,
 }
+
+// The tally of the records before a cursor.
+pub struct Going {
+    pub cursor: Cursor,
+    pub tally: Tally,
+}

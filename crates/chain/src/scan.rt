@@ -1,12 +1,16 @@
 // One pass over the chain: the tally of its records.
 use crate::Cursor;
+use crate::Going;
 use crate::Item;
+use crate::Nearby;
 use crate::Pass;
 use crate::Spot;
 use crate::Sums;
 use crate::Tally;
 use crate::files::is_file;
+use crate::plain::near;
 use crate::walk::advance;
+use filter::marks::good_name;
 use record::bytes::is_clean;
 use record::size;
 use spec::START;
@@ -17,11 +21,11 @@ ghost use lib.ListN.{length};
 ghost use lib.Dec.{ltb};
 ghost use Rattle.spec.specs.Reading.{marked};
 ghost use Rattle.laws.specs.Length.{Addable};
-ghost use Rattle.chain.specs.Cursor.{Cursor-sound, unfinished-at};
+ghost use Rattle.chain.specs.Cursor.{Cursor-sound, left, unfinished-at};
 ghost use Rattle.chain.specs.Rest.{rest, entry-of};
 ghost use Rattle.chain.specs.Fold.{Whole};
 ghost use Rattle.chain.specs.Tally.{name-fine, count-with, sums-with, Addable-size, noted, noted-plain, none-yet};
-ghost use Rattle.chain.specs.Tally.{passed, Spots, End-inside};
+ghost use Rattle.chain.specs.Tally.{passed, Passing, Spots, End-inside};
 
 // An FC or F8 record with a name has a good one.
 pub fn name_fine(image: &[u8], e: Spot) -> bool
@@ -30,8 +34,7 @@ pub fn name_fine(image: &[u8], e: Spot) -> bool
 {
     if is_file(image, e) {
         let at = e.at + 8;
-        let end = at + e.n;
-        return record::name::name_ok(&image[at..end]);
+        return good_name(&image[at..], e.n);
     }
     true
 }
@@ -198,20 +201,54 @@ pub fn none_yet() -> Tally
     }
 }
 
-// The one pass over the chain.
+// With the plain records from the cursor on, behind the second record.
+fn pass_plain(image: &[u8], start: Cursor, first: Going) -> Going
+    requires { ⌜ Cursor-sound (now image) start × Passing (now image) start (first .cursor) (first .tally)
+        × (2 ≤ first .tally .records) ⌝ }
+    ensures { λ r. ⌜ Passing (now (image .entry)) start (r .cursor) (r .tally) × (left (r .cursor) ≤ left (first .cursor)) ⌝ }
+{
+    let mut g = first;
+    loop {
+        let c = g.cursor;
+        let s = near(image, c);
+        let Nearby::Record { spot: e, next } = s else {
+            return g;
+        };
+        let t = g.tally;
+        let file = is_file(image, e);
+        let fine = fine_with(image, t.fine, e);
+        let u = noted_plain(t, e, file, fine, next.pending);
+        g = Going {
+            cursor: next,
+            tally: u,
+        };
+    }
+}
+
+// The one pass over the chain; plain records are gone over by themselves.
 pub fn pass(image: &[u8], start: Cursor) -> Pass
     requires { ⌜ Cursor-sound (now image) start × (16 ≤ length (now image)) ⌝ }
     ensures { λ r. ⌜ (r ≡ passed none-yet (rest (now (image .entry)) start)) × Spots (now (image .entry)) (r .tally)
         × End-inside (now (image .entry)) (r .end) ⌝ }
 {
-    let mut c = start;
-    let mut t = none_yet();
+    let mut g = Going {
+        cursor: start,
+        tally: none_yet(),
+    };
     loop {
+        let c = g.cursor;
+        let t = g.tally;
         let s = advance(image, c);
         let Item::Record { spot: e, next } = s else {
             return Pass { tally: t, end: s };
         };
-        t = noted(image, t, e, next.pending);
-        c = next;
+        let u = noted(image, t, e, next.pending);
+        g = Going {
+            cursor: next,
+            tally: u,
+        };
+        if 2 <= u.records {
+            g = pass_plain(image, start, g);
+        }
     }
 }

@@ -103,7 +103,7 @@ digits-sum c (suc k) w m h =
 
 -- ---- the top bits
 
-top-of : (b : ℕ) → b < 256 → bitAnd b 128 ≡ b / 128 * 128
+pub top-of : (b : ℕ) → b < 256 → bitAnd b 128 ≡ b / 128 * 128
 top-of b h =
     let e : b / 128 * 2 ^ 7 + b % 128 ≡ b = omega arith in
     let low : b % 128 < 2 ^ 7 = omega arith in

@@ -5,3 +5,4 @@ pub mod Digits
 pub mod Readable
 pub mod Filled
 pub mod NameWords
+pub mod FirstZero

@@ -1,16 +1,19 @@
 // Eight bytes at a time: a word is eight neighbours as one number, the first the lowest.
 use flash::joined;
 ghost use mathlib.Core.Path.{_≡_};
+ghost use mathlib.Core.Bool.{false};
 ghost use mathlib.Core.List.{[], _∷_};
 ghost use Prim.Native.Nat.{_+_, _*_, _≤_, _<_, _^_};
 ghost use lib.ListN.{length, take, drop};
 ghost use Rattle.spec.specs.Basics.{all};
+ghost use Rattle.spec.specs.Record.{name-length};
 ghost use Rattle.laws.specs.Spaces.{is-readable};
 ghost use Rattle.record.specs.Digits.{number, digits};
 ghost use Rattle.record.specs.Filled.{filled};
 
-// The top bit of each byte; a sum of each byte and 1, which has it from 7F on, and of each byte and 60, which has it from 20 on.
+// The top bit of each byte, and the others. A sum of each byte and 1 has the top bit from 7F on, and one of each byte and 60 from 20 on.
 const TOPS: u64 = 0x8080_8080_8080_8080;
+const LOWS: u64 = 0x7F7F_7F7F_7F7F_7F7F;
 const ONES: u64 = 0x0101_0101_0101_0101;
 const SIXTIES: u64 = 0x6060_6060_6060_6060;
 
@@ -52,6 +55,14 @@ pub fn all_readable(w: u64) -> bool
         return false;
     }
     (w + SIXTIES) & TOPS == TOPS
+}
+
+// Which byte is the first 00, from 0 on; 8 if none is. The lower bits of a byte and 7F make its top bit, unless they are all 0.
+pub fn first_zero(w: u64) -> usize
+    ensures { λ r. ⌜ r ≡ name-length 8 false (digits 8 w) ⌝ }
+{
+    let written = ((w & LOWS) + LOWS) | w;
+    (u64::trailing_zeros(TOPS - (written & TOPS)) / 8) as usize
 }
 
 // 256 to the k.
