@@ -100,7 +100,7 @@ joined-next s k i j w b p l e q h =
     let f : j + 1 ≡ i = omega arith in
     let d : drop j s ≡ getD s j 0 ∷ drop i s = drop-next s j (omega (arith, v)) ∙ ap (λ (x : ℕ). getD s j 0 ∷ drop x s) f in
     let r : number (take (k - j) (drop j s)) ≡ getD s j 0 + 256 * number (take (k - i) (drop i s)) =
-        ap (λ (x : ℕ). number (take x (drop j s))) n ∙ ap (λ (t : List ℕ). number (take (suc (k - i)) t)) d in
+    ap (λ (x : ℕ). number (take x (drop j s))) n ∙ ap (λ (t : List ℕ). number (take (suc (k - i)) t)) d in
     record { inside = omega (arith, v); value = omega (arith, r, p .value, q); small = rw (n, m) (omega (arith, p .small)) }
 
 -- it fits

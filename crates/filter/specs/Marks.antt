@@ -68,7 +68,7 @@ module _ (part : List ℕ) (n : ℕ) (l : n ≤ length part) where
 
   pub looked-next : (i : ℕ) (x y : Looked) → Looked-at (take n part) i x → i < n
       → (y .hash ≡ mixed (x .hash) (number (take 8 (drop i part)))) × (y .hash < 2 ^ 33)
-          × (y .readable ≡ (x .readable && all is-readable (take 8 (drop i part))))
+      × (y .readable ≡ (x .readable && all is-readable (take 8 (drop i part))))
       → Looked-at (take n part) (i + 8) y
   looked-next i x y p m h =
       let t : take 8 (drop i name) ≡ take 8 (drop i part) = part-first i 8 n part (looked-inside i x p m) in

@@ -2,8 +2,6 @@
 // by themselves, so that the compiler keeps most of what is carried along in registers.
 use crate::FullPass;
 use crate::Gathered;
-use filter::NameMarks;
-use filter::marks::both;
 use crate::marks::marks_of;
 use crate::sought::found_of;
 use crate::sought::not_seen;
@@ -15,7 +13,6 @@ use chain::Pass;
 use chain::Repeats;
 use chain::Spot;
 use chain::files::is_file;
-use filter::table::WORDS;
 use chain::names::repeats_and;
 use chain::names::repeats_signed;
 use chain::plain::near;
@@ -23,6 +20,9 @@ use chain::scan::none_yet;
 use chain::scan::noted;
 use chain::scan::noted_plain;
 use chain::walk::advance;
+use filter::NameMarks;
+use filter::marks::both;
+use filter::table::WORDS;
 ghost use mathlib.Core.Path.{_≡_};
 ghost use mathlib.Core.Bool.{false};
 ghost use Prim.Native.Nat.{_≤_};

@@ -1,6 +1,5 @@
 // The file of a name, found in the pass of a judgement: the pass keeps the first file whose name has the same hash.
 use crate::Sight;
-use filter::marks::both;
 use chain::Cursor;
 use chain::Found;
 use chain::Spot;
@@ -8,6 +7,7 @@ use chain::files::file_named;
 use chain::files::has_name;
 use chain::files::is_file;
 use filter::hash::hash;
+use filter::marks::both;
 ghost use mathlib.Core.Path.{_≡_};
 ghost use mathlib.Core.Bool.{_&&_};
 ghost use Rattle.spec.specs.Basics.{keep, first-such};

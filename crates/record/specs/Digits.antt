@@ -109,7 +109,7 @@ top-of b h =
     let low : b % 128 < 2 ^ 7 = omega arith in
     let z : bitAnd (b % 128) 0 ≡ 0 = and-zero-r (b % 128) in
     let step : bitAnd (b / 128 * 2 ^ 7 + b % 128) (1 * 2 ^ 7 + 0) ≡ bitAnd (b / 128) 1 * 2 ^ 7 + bitAnd (b % 128) 0 =
-        and-block 7 (b / 128) 1 (b % 128) 0 low (omega arith) in
+    and-block 7 (b / 128) 1 (b % 128) 0 low (omega arith) in
     sym (ap (λ (x : ℕ). bitAnd x 128) e) ∙ step ∙ ap₂ (λ (x y : ℕ). x * 2 ^ 7 + y) (bit (b / 128) (omega arith)) z ∙ omega arith where
       bit : (x : ℕ) → x < 2 → bitAnd x 1 ≡ x
       bit zero l = refl

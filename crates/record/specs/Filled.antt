@@ -31,15 +31,15 @@ pub shifted : (k : ℕ) → k < 8
     → ((1 * 2 ^ (8 * k)) % 2 ^ 64 ≡ 256 ^ k) × (0 < (1 * 2 ^ (8 * k)) % 2 ^ 64) × ((1 * 2 ^ (8 * k)) % 2 ^ 64 ≤ 2 ^ 56)
 shifted =
     below-8
-      (λ k. ((1 * 2 ^ (8 * k)) % 2 ^ 64 ≡ 256 ^ k) × (0 < (1 * 2 ^ (8 * k)) % 2 ^ 64) × ((1 * 2 ^ (8 * k)) % 2 ^ 64 ≤ 2 ^ 56))
-      (refl, omega arith, omega arith) (refl, omega arith, omega arith) (refl, omega arith, omega arith) (refl, omega arith, omega arith)
-      (refl, omega arith, omega arith) (refl, omega arith, omega arith) (refl, omega arith, omega arith) (refl, omega arith, omega arith)
+    (λ k. ((1 * 2 ^ (8 * k)) % 2 ^ 64 ≡ 256 ^ k) × (0 < (1 * 2 ^ (8 * k)) % 2 ^ 64) × ((1 * 2 ^ (8 * k)) % 2 ^ 64 ≤ 2 ^ 56))
+    (refl, omega arith, omega arith) (refl, omega arith, omega arith) (refl, omega arith, omega arith) (refl, omega arith, omega arith)
+    (refl, omega arith, omega arith) (refl, omega arith, omega arith) (refl, omega arith, omega arith) (refl, omega arith, omega arith)
 
 letters : (k : ℕ) → k < 8 → 0x6161_6161_6161_6161 - 0x6161_6161_6161_6161 % 256 ^ k ≡ 256 ^ k * number (replicate (8 - k) 0x61)
 unfolding number
 letters =
     below-8 (λ k. 0x6161_6161_6161_6161 - 0x6161_6161_6161_6161 % 256 ^ k ≡ 256 ^ k * number (replicate {A = ℕ} (8 - k) 0x61))
-      refl refl refl refl refl refl refl refl
+    refl refl refl refl refl refl refl refl
 
 -- all of two lists, one after the other
 pub all-append : (p : ℕ → Bool) (s t : List ℕ) → all p (s ++ t) ≡ (all p s && all p t)
@@ -72,7 +72,7 @@ filled-readable s b h =
     let e : filled (number s) k ≡ number (s ++ t) = ap (λ (x : ℕ). number s + x) (letters k h) ∙ sym (number-append s t) in
     let l : length (s ++ t) ≡ 8 = length-append s t ∙ ap (λ (x : ℕ). k + x) (length-replicate {A = ℕ} (8 - k) 0x61) ∙ omega arith in
     let d : digits 8 (number (s ++ t)) ≡ s ++ t =
-        ap (λ (x : ℕ). digits x (number (s ++ t))) (sym l) ∙ digits-number (s ++ t) (each-append (λ x. x < 256) s t b (bytes-letters (8 - k))) in
+    ap (λ (x : ℕ). digits x (number (s ++ t))) (sym l) ∙ digits-number (s ++ t) (each-append (λ x. x < 256) s t b (bytes-letters (8 - k))) in
     ap (λ (x : ℕ). all is-readable (digits 8 x)) e ∙ ap (all is-readable) d ∙ all-append is-readable s t
     ∙ ap (λ (x : Bool). all is-readable s && x) (all-letters (8 - k)) ∙ and-true (all is-readable s)
 

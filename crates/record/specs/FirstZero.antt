@@ -46,7 +46,7 @@ top-bit (suc c) h =
     let eb : b / 128 * 2 ^ 7 + b % 128 ≡ b = omega arith in
     let low : bitOr (x % 128) (b % 128) < 2 ^ 7 = or-lt 7 (x % 128) (b % 128) (omega arith) (omega arith) in
     let q : bitOr (x / 128 * 2 ^ 7 + x % 128) (b / 128 * 2 ^ 7 + b % 128) ≡ bitOr (x / 128) (b / 128) * 2 ^ 7 + bitOr (x % 128) (b % 128) =
-        or-block 7 (x / 128) (b / 128) (x % 128) (b % 128) (omega arith) (omega arith) in
+    or-block 7 (x / 128) (b / 128) (x % 128) (b % 128) (omega arith) (omega arith) in
     let one : bitOr (x / 128) (b / 128) ≡ 1 = either-bit (x / 128) (b / 128) (omega arith) (omega arith) (omega arith) in
     let whole : r ≡ bitOr (x / 128) (b / 128) * 2 ^ 7 + bitOr (x % 128) (b % 128) = ap₂ bitOr (sym ex) (sym eb) ∙ q in
     top-of r small ∙ omega (arith, whole, one, low)
@@ -64,10 +64,10 @@ tops-step k w =
     let et : 128 + 256 * each-byte 128 k ≡ each-byte 128 k * 2 ^ 8 + 128 = omega arith in
     let small : b < 2 ^ 8 = omega arith in
     let e1 : bitAnd w (127 + 256 * E) ≡ A * 2 ^ 8 + b % 128 =
-        ap₂ bitAnd (sym ew) em ∙ and-block 8 v E b 127 small (omega arith) ∙ ap (λ (x : ℕ). A * 2 ^ 8 + x) (and-mask b 7) in
+    ap₂ bitAnd (sym ew) em ∙ and-block 8 v E b 127 small (omega arith) ∙ ap (λ (x : ℕ). A * 2 ^ 8 + x) (and-mask b 7) in
     let e2 : bitAnd w (127 + 256 * E) + (127 + 256 * E) ≡ (A + E) * 2 ^ 8 + (b % 128 + 127) = omega (arith, e1) in
     let e3 : bitOr ((A + E) * 2 ^ 8 + (b % 128 + 127)) (v * 2 ^ 8 + b) ≡ bitOr (A + E) v * 2 ^ 8 + bitOr (b % 128 + 127) b =
-        or-block 8 (A + E) v (b % 128 + 127) b (omega arith) small in
+    or-block 8 (A + E) v (b % 128 + 127) b (omega arith) small in
     ap₂ (λ (x y : ℕ). bitAnd (bitOr x y) (128 + 256 * each-byte 128 k)) e2 (sym ew)
     ∙ ap₂ bitAnd e3 et
     ∙ and-block 8 (bitOr (A + E) v) (each-byte 128 k) (bitOr (b % 128 + 127) b) 128 (or-lt 8 (b % 128 + 127) b (omega arith) small) (omega arith)
@@ -159,7 +159,7 @@ first-zero (suc k) w =
           → z ≡ 128 + 256 * each-byte 128 k - (written-tops k (w / 256) * 256 + high-bit b)
           → written-tops k (w / 256) ≤ each-byte 128 k
           → trailingZeros (8 * k) (zero-tops k (w / 256)) / 8 ≡ name-length k false (digits k (w / 256))
-          → trailingZeros (suc (suc (suc (suc (suc (suc (suc (suc (8 * k)))))))) ) z / 8
+          → trailingZeros (suc (suc (suc (suc (suc (suc (suc (suc (8 * k))))))))) z / 8
           ≡ name-length (suc k) false (w % 256 ∷ digits k (w / 256))
       go true e b eb z ez m ih =
           let zero : w % 256 ≡ 0 = eqb-true (w % 256) 0 e in

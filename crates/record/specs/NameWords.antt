@@ -89,7 +89,7 @@ module _ (s : List ℕ) (i k w : ℕ) (p : Passed false s i) (l : i ≤ 56) (m :
   pub passed-end : k < 8 → i + k ≡ name-length 64 false s
   passed-end h =
       let r : name-length (8 + (56 - i)) false (drop i s) ≡ name-length 8 false (drop i s) =
-          ends-within 8 (56 - i) false (drop i s) (omega (arith, here)) in
+      ends-within 8 (56 - i) false (drop i s) (omega (arith, here)) in
       let n : 8 + (56 - i) ≡ 64 - i = omega arith in
       let r2 : name-length (64 - i) false (drop i s) ≡ name-length 8 false (drop i s) = rw n at r in
       omega (arith, p .whole, r2, here)
@@ -100,7 +100,7 @@ module _ (s : List ℕ) (i k w : ℕ) (p : Passed false s i) (l : i ≤ 56) (m :
       let d : drop 8 (drop i s) ≡ drop (i + 8) s = drop-drop 8 i s in
       let long : 8 ≤ length (drop i s) = rw (length-drop i s) (omega arith) in
       let r : name-length (8 + (64 - (i + 8))) false (drop i s) ≡ 8 + name-length (64 - (i + 8)) false (drop 8 (drop i s)) =
-          past-whole 8 (64 - (i + 8)) false (drop i s) long (omega (arith, here)) in
+      past-whole 8 (64 - (i + 8)) false (drop i s) long (omega (arith, here)) in
       let r2 : name-length (64 - i) false (drop i s) ≡ 8 + name-length (64 - (i + 8)) false (drop (i + 8) s) = rw (n, d) at r in
       record { within = omega arith; whole = omega (arith, p .whole, r2) }
 

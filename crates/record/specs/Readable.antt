@@ -82,8 +82,7 @@ module _ (k w : ℕ) where
   pub readable-sums : all is-readable (digits k w) ≡ true → Sums
   readable-sums h =
       let b : Each Between (digits k w) = readable-each (digits k w) h in
-      let l : Low (digits k w) = low-of (digits k w) b in
-      (
+      let l : Low (digits k w) = low-of (digits k w) b in (
         none-masked k w l,
         none-masked k (w + each-byte 1 k) (subst Low (sym (digits-sum 1 k w (omega arith) l)) (one-more (digits k w) b)),
         all-masked k (w + each-byte 0x60 k) (subst High (sym (digits-sum 0x60 k w (omega arith) l)) (high-of (digits k w) b)),

@@ -13,8 +13,11 @@ ghost use Rattle.record.specs.Filled.{filled};
 
 // The top bit of each byte, and the others. A sum of each byte and 1 has the top bit from 7F on, and one of each byte and 60 from 20 on.
 const TOPS: u64 = 0x8080_8080_8080_8080;
+
 const LOWS: u64 = 0x7F7F_7F7F_7F7F_7F7F;
+
 const ONES: u64 = 0x0101_0101_0101_0101;
+
 const SIXTIES: u64 = 0x6060_6060_6060_6060;
 
 // A byte that can be read, eight times.

@@ -45,7 +45,7 @@ loop-again c =
     let l = c .before .before .before .loop in
     let a = c .before .before .before .before .before .args in
     joined-next (a .name .now) (a .k) (l .i) (l .i - 1) (l .w) (c .wide .result) (l .inv) (omega arith) (omega arith) (c .wide .ensures .0)
-      (c .wide .ensures .1)
+    (c .wide .ensures .1)
 
 returns : tie.Need-returns Inv-loop μ-loop
 returns c = joined-all (c .before .before .before .args .name .now) (c .before .before .before .args .k) (c .before .loop .i) (c .before .loop .w) (c .before .loop .inv) (omega arith)

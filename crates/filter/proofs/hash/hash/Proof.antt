@@ -42,7 +42,7 @@ loop-again c =
     let l = c .before .before .before .loop in
     let s = c .before .before .before .before .before .before .before .args .name .now in
     hashed-next s (l .i) (l .h) (c .mixed2 .result) (l .inv) (omega arith)
-      (c .mixed2 .ensures .0 ∙ ap (mixed (l .h)) (c .before .word-at .ensures .1)) (c .mixed2 .ensures .1)
+    (c .mixed2 .ensures .0 ∙ ap (mixed (l .h)) (c .before .word-at .ensures .1)) (c .mixed2 .ensures .1)
 
 returns : tie.Need-returns Inv-loop μ-loop
 returns c =

@@ -36,12 +36,11 @@ returns c =
     let k = a .k in
     let t = ap (take k) (w .ensures .0) ∙ take-take k 8 (a .part .now) (omega arith) in
     let low = c .before .before .before .low-bytes .ensures .0 in
-    let f = c .before .before .filled .ensures ∙ ap (λ (x : ℕ). filled x k) low in
-    (
+    let f = c .before .before .filled .ensures ∙ ap (λ (x : ℕ). filled x k) low in (
       c .mixed .ensures .0 ∙ ap (mixed 0) (low ∙ ap number t),
       c .mixed .ensures .1,
       c .before .all-readable .ensures ∙ ap (λ (x : ℕ). all is-readable (digits 8 x)) f ∙ low-readable k (w .result) (omega arith)
-      ∙ ap (all is-readable) t,
+          ∙ ap (all is-readable) t,
     )
 
 pub look-spec : {M : Type 1} → statement M

@@ -34,7 +34,7 @@ returns c =
       fine =
           c .before .before .both .ensures
           ∙ name-ok-by s (x .result .readable) (ends .result) (omega (arith, size (a .part .now) (a .n) (omega arith)))
-            (told-readable (a .part .now) (a .n) (omega arith) (x .result) (x .ensures)) (ends .ensures);
+          (told-readable (a .part .now) (a .n) (omega arith) (x .result) (x .ensures)) (ends .ensures);
       bits = c .signature-by .ensures .0 ∙ ap signature-by h;
       inside = c .signature-by .ensures .1;
       hash = h;

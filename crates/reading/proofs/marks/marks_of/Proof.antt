@@ -31,9 +31,9 @@ returns c =
     let n = a .e .n in
     let from = a .e .at + 8 in
     subst (λ (name : List ℕ). Marked-as name (c .marks .result))
-      (take-take n (length (a .image .now) - from) (drop from (a .image .now)) (omega arith)
-      ∙ ap (take n) (sym (drop-drop 8 (a .e .at) (a .image .now))))
-      (c .marks .ensures)
+    (take-take n (length (a .image .now) - from) (drop from (a .image .now)) (omega arith)
+    ∙ ap (take n) (sym (drop-drop 8 (a .e .at) (a .image .now))))
+    (c .marks .ensures)
 
 pub marks-of-spec : {M : Type 1} → statement M
 marks-of-spec =

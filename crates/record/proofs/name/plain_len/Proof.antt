@@ -42,8 +42,8 @@ returns-2 c =
     let w = c .before .before .word-at in
     let k = c .before .first-zero in
     let e =
-        passed-end (c .before .before .before .before .before .before .before .args .part .now) (l .i) (k .result) (w .result) (l .inv .2) (omega arith) (omega arith) (w .ensures .0) (k .ensures)
-          (c .if2 .taken) in
+    passed-end (c .before .before .before .before .before .before .before .args .part .now) (l .i) (k .result) (w .result) (l .inv .2) (omega arith) (omega arith) (w .ensures .0) (k .ensures)
+    (c .if2 .taken) in
     (e, omega arith)
 
 add-i : tie.Need-add-i Inv-loop μ-loop
