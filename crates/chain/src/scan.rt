@@ -10,7 +10,6 @@ use crate::Tally;
 use crate::files::is_file;
 use crate::plain::near;
 use crate::walk::advance;
-use filter::marks::good_name;
 use record::bytes::is_clean;
 use record::size;
 use spec::START;
@@ -34,7 +33,8 @@ pub fn name_fine(image: &[u8], e: Spot) -> bool
 {
     if is_file(image, e) {
         let at = e.at + 8;
-        return good_name(&image[at..], e.n);
+        let end = at + e.n;
+        return record::name::name_ok(&image[at..end]);
     }
     true
 }

@@ -4,7 +4,6 @@ use crate::NameMarks;
 use crate::hash::HASH_LIMIT;
 use crate::hash::mixed;
 use crate::table::signature_by;
-use record::name::name_ok;
 use record::words::all_readable;
 use record::words::filled;
 use record::words::low_bytes;
@@ -14,7 +13,7 @@ ghost use mathlib.Core.Bool.{_&&_, not};
 ghost use Prim.Native.Nat.{_+_, _≤_, _<_, _^_};
 ghost use lib.ListN.{length, take, drop};
 ghost use Rattle.spec.specs.Basics.{all};
-ghost use Rattle.spec.specs.Record.{ends-in-slash, name-ok};
+ghost use Rattle.spec.specs.Record.{ends-in-slash};
 ghost use Rattle.record.specs.Digits.{number};
 ghost use Rattle.laws.specs.Spaces.{is-readable, ends-in-space};
 ghost use Rattle.filter.specs.Hash.{mixed};
@@ -108,15 +107,4 @@ pub fn marks(part: &[u8], n: usize) -> NameMarks
         signature: s,
         hash: h,
     }
-}
-
-// Whether the first n bytes of the part, which has a word at least, are a good name.
-pub fn good_name(part: &[u8], n: usize) -> bool
-    requires { ⌜ (n ≤ length (now part)) × (8 ≤ length (now part)) ⌝ }
-    ensures { λ r. ⌜ r ≡ name-ok (take n (now (part .entry))) ⌝ }
-{
-    if 63 < n {
-        return name_ok(&part[..n]);
-    }
-    marks(part, n).fine
 }

@@ -1,43 +1,41 @@
 -- name_fine: only a file's name is checked, and it stands behind the header.
-use Prim.Native.Nat.{ℕ, _+_, _-_}
 use Rattle.laws.specs.Flag.{flag}
-use mathlib.Core.Path.{sym, ap, _∙_}
-use lib.ListN.{length, take, drop}
-use lib.Seq.{take-take, drop-drop}
-use native.Mathlib.Omega.{arith}
+use mathlib.Core.Path.{ap, _∙_}
 use Rattle.spec.specs.Record.{name-ok}
+use Rattle.chain.specs.FileLaws.{name-part}
 use Rattle.chain.specs.Tally.{name-fine}
 use borrow.Author.Needs.{needs}
 use Rattle.chain.proofs.scan.name_fine.Statement.{statement}
 use Rattle.chain.proofs.scan.name_fine.Tie as tie
 
 is-file-requires : tie.Need-is-file-requires
-is-file-requires c κs = search needs
+is-file-requires c κs = c .before .pre
 
 add-at : tie.Need-add-at
 add-at c = search needs
 
-sub-good-name : tie.Need-sub-good-name
-sub-good-name c = search needs
+add-end : tie.Need-add-end
+add-end c = search needs
 
-part-good-name-start : tie.Need-part-good-name-start
-part-good-name-start c = search needs
+sub-name-ok : tie.Need-sub-name-ok
+sub-name-ok c = search needs
 
-part-good-name-end : tie.Need-part-good-name-end
-part-good-name-end c = search needs
+part-name-ok-start : tie.Need-part-name-ok-start
+part-name-ok-start c = search needs
 
-good-name-requires : tie.Need-good-name-requires
-good-name-requires c κs = search needs
+part-name-ok-end : tie.Need-part-name-ok-end
+part-name-ok-end c = search needs
+
+name-ok-requires : tie.Need-name-ok-requires
+name-ok-requires c κs = tt
 
 returns : tie.Need-returns
 unfolding name-fine
 returns c =
-    let a = c .before .before .before .before .before .before .args in
-    let from = a .e .at + 8 in
-    rw (name-fine, flag (c .before .before .before .before .is-file .ensures) (c .before .before .before .if1 .taken))
-    (c .good-name .ensures
-    ∙ ap name-ok (take-take (a .e .n) (length (a .image .now) - from) (drop from (a .image .now)) (omega (arith, c .before .before .before .before .before .before .pre .fits))
-    ∙ ap (take (a .e .n)) (sym (drop-drop 8 (a .e .at) (a .image .now)))))
+    let c4 = c .before .before .before .before in let c5 = c4 .before in
+    let a = c5 .before .before .args in
+    let e = a .e in
+    rw (name-fine, flag (c5 .is-file .ensures) (c4 .if1 .taken)) (c .name-ok .ensures ∙ ap name-ok (name-part (a .image .now) (e .at) (e .n)))
 
 returns-2 : tie.Need-returns-2
 unfolding name-fine
@@ -49,9 +47,10 @@ name-fine-spec =
     (tie.spec
     is-file-requires
     add-at
-    sub-good-name
-    part-good-name-start
-    part-good-name-end
-    good-name-requires
+    add-end
+    sub-name-ok
+    part-name-ok-start
+    part-name-ok-end
+    name-ok-requires
     returns
     returns-2)
