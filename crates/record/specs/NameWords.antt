@@ -103,10 +103,3 @@ module _ (s : List ℕ) (i k w : ℕ) (p : Passed false s i) (l : i ≤ 56) (m :
       past-whole 8 (64 - (i + 8)) false (drop i s) long (omega (arith, here)) in
       let r2 : name-length (64 - i) false (drop i s) ≡ 8 + name-length (64 - (i + 8)) false (drop (i + 8) s) = rw (n, d) at r in
       record { within = omega arith; whole = omega (arith, p .whole, r2) }
-
--- no byte is left
-pub passed-all : (reserved : Bool) (s : List ℕ) (i : ℕ) → Passed reserved s i → i ≡ 64 → 64 ≡ name-length 64 reserved s
-passed-all reserved s i p e =
-    let n : 64 - i ≡ 0 = omega arith in
-    let z = ap (λ (m : ℕ). name-length m reserved (drop i s)) n ∙ name-zero reserved (drop i s) in
-    omega (arith, p .whole, z, e)
