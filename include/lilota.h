@@ -285,31 +285,30 @@ uint32_t lilota_check(const uint8_t *image, size_t length, uint32_t *verdict,
                       uint32_t *number, size_t *address);
 
 /*
- * Traces. A logger that records the flash's traffic has three slices of numbers,
- * as the planning calls hand them out: the kind of each entry (1 program, 2
- * erase), its address, and its byte, which an erase has none of (any number may
- * stand there). These two calls replay such a trace over an image.
- *
- * The replay stops at the first entry that can't be carried out: position says
- * which it is (0 the first), and stop why, one of the LILOTA_STOP_ numbers, the
- * first of them that is true. The image is then that after all entries before
- * it. Without a stop, stop is 0 and position the count of all entries. A trace
- * that one of the planning calls handed out from step 0 on, over the image that
- * it planned from, has no stop.
- *
- * Slices of unequal length and an image of a bad length are LILOTA_INVALID: the
- * image stays as it was, and the numbers are 0.
+ * Traces. A logger on the flash's bus has three slices of numbers, as the
+ * planning calls hand them out: kinds (1 program, 2 erase), addresses, bytes (of
+ * an erase ignored). They must not overlap the image. The two calls below carry
+ * a trace out over it, up to the first entry that can't be carried out, the
+ * stop. Slices of unequal length and an image of a bad length are
+ * LILOTA_INVALID: the image stays as it was, and the numbers are 0.
  */
 
-/* The address lies outside the image; an erase doesn't start at a sector; a
- * byte to program is above 255. */
+/* Why an entry stops a trace; if more than one is true, the first of them.
+ * The address lies outside the image, or inside a sector that is to be erased,
+ * or the byte to program is above 255; */
 #define LILOTA_STOP_OUT_OF_RANGE 1u
-/* The kind is neither 1 nor 2. */
+/* the kind is neither 1 nor 2; */
 #define LILOTA_STOP_UNKNOWN_KIND 2u
-/* A bit would go from 0 to 1. */
+/* a bit would go from 0 to 1. */
 #define LILOTA_STOP_SETS_BIT 3u
 
-/* Replays a trace. Answers: 22, 0. */
+/*
+ * Replays a trace; the image is then that after all entries before the stop.
+ * Position says which entry stops it (0 the first), stop why; without a stop,
+ * position is the count of all entries and stop 0. A trace that a planning call
+ * handed out from step 0 on has no stop over the image that it was planned
+ * from. Answers: 22, 0.
+ */
 uint32_t lilota_replay(uint8_t *image, size_t length,
                        const uint32_t *kinds, size_t kinds_length,
                        const uint32_t *addresses, size_t addresses_length,
@@ -318,11 +317,10 @@ uint32_t lilota_replay(uint8_t *image, size_t length,
 
 /*
  * Looks for the least count of entries, 0 too, after which lilota_mount would
- * refuse the image. If such a count exists, up to the stop, "there" is 1 and
- * "count" the count; else "there" is 0 and "count" says how many entries come
- * before the stop. The image is left as after so many entries. It is read once
- * before the first entry and once behind each that may change it: for n entries
- * up to n + 1 times what a mount reads. Answers: 22, 0.
+ * refuse the image. If one is found up to the stop, *there is 1 and *count is it;
+ * else *there is 0 and *count how many entries come before the stop. The image
+ * is left as after *count entries. It is read before the first entry and behind
+ * each that may change it: for n entries up to n + 1 times. Answers: 22, 0.
  */
 uint32_t lilota_first_refused(uint8_t *image, size_t length,
                               const uint32_t *kinds, size_t kinds_length,

@@ -16,11 +16,11 @@ use Rattle.spec.specs.Record.{Entry, content-of, data-at, size}
 use Rattle.spec.specs.Demand.{Steps-sound}
 use Rattle.spec.specs.Move.{start-steps, mark-here, mark-steps, clean-steps, vacated-end, vacated, forget-steps, close-steps}
 use Rattle.spec.specs.Mount.{free-sectors, dirty, erase-steps}
-use Rattle.laws.specs.Lists.{each-append}
+use Rattle.laws.specs.Lists.{each-keep, each-append}
 use Rattle.laws.specs.Parts.{Outside}
 use Rattle.planning.specs.Effect.{erase-length, run-length, untouched-run, erases-off, erases-bounded}
 use Rattle.planning.specs.Close.{mark-two, clean-bounded, cleans-off, start-bounded}
-use Rattle.history.specs.Safe.{sound-append}
+use Rattle.laws.specs.Steps.{sound-append}
 use Rattle.replay.specs.Record.{zero-sound, known-sound}
 
 -- ---- erases
@@ -42,13 +42,6 @@ sectors-in N b l (suc k) a e = go (leb (a + 4096) b) refl (sectors-in N b l k (a
   go true q ih = let m : a + 4096 ≤ b = leb-true (a + 4096) b q in rw (sectors-by, q) ((e, omega arith), ih)
   go false q ih = rw (sectors-by, q) tt
 
-pub keep-each : {A : Type 0} (P : A → Type 0) (q : A → Bool) (l : List A) → Each P l → Each P (keep q l)
-keep-each P q [] h = tt
-keep-each P q (a ∷ l) h = go (q a) refl (keep-each P q l (h .1)) where
-  go : (t : Bool) → q a ≡ t → Each P (keep q l) → Each P (keep q (a ∷ l))
-  go true e ih = rw (keep, e) (h .0, ih)
-  go false e ih = rw (keep, e) ih
-
 free-in : (N : ℕ) (p : Place) → floor (p .head) ≤ N → p .length ≤ N → Each (Sector-in N) (free-sectors p)
 unfolding free-sectors
 free-in N p l m = go (p .turned) refl where
@@ -67,7 +60,7 @@ pub erase-sound : (im : Image) (p : Place) → floor (p .head) ≤ length im →
 unfolding erase-steps
 erase-sound im p l m =
     erases-sound im (keep (dirty im) (free-sectors p))
-    (keep-each (Sector-in (length im)) (dirty im) (free-sectors p) (free-in (length im) p l m))
+    (each-keep (Sector-in (length im)) (dirty im) (free-sectors p) (free-in (length im) p l m))
 
 -- ---- (e): A0 to 80, 80 to 00
 

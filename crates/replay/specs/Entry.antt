@@ -2,7 +2,7 @@
 use Prim.Native.Nat.{ℕ, _+_, _%_, _≤_, _<_}
 use native.Mathlib.Omega.{arith}
 use mathlib.Core.Path.{_≡_, refl, sym, ap, _∙_, subst}
-use mathlib.Core.Bool.{Bool, true, false, _||_, not, false≢true}
+use mathlib.Core.Bool.{Bool, true, false, not, false≢true}
 use mathlib.Core.List.{[], _∷_}
 use lib.ListN.{length, getD, set}
 use lib.Seq.{set-getD}
@@ -13,7 +13,9 @@ use Rattle.spec.specs.Geometry.{good-length}
 use Rattle.spec.specs.Bytes.{clears}
 use Rattle.spec.specs.Planner.{step-of}
 use Rattle.spec.specs.Trace.{out-of-range, known-kind, sets-bit, fault, is-sound}
+use Rattle.laws.specs.Tests.{not-false}
 use Rattle.laws.specs.Length.{good}
+use Rattle.chain.specs.TallyLaws.{or-false}
 use Rattle.flash.specs.declared.Meter.{Meter}
 use Rattle.flash.specs.Did.{Did}
 
@@ -22,10 +24,6 @@ abbrev pub carried : Image → ℕ → ℕ → ℕ → Image
 carried image kind a b = elim (is-sound image kind a b) [ true ↦ apply image (step-of kind a b) | false ↦ image ]
 
 -- ---- out of range
-
-or-false : (t : Bool) → (t || false) ≡ t
-or-false true = refl
-or-false false = refl
 
 module _ (N kind a b : ℕ) where
   pub range-past : N ≤ a → out-of-range N kind a b ≡ true
@@ -59,10 +57,7 @@ module _ (N kind a b : ℕ) where
 
   -- an erase starts a sector
   range-sector : kind ≡ 2 → out-of-range N kind a b ≡ false → a % 4096 ≡ 0
-  range-sector k e = eqb-true (a % 4096) 0 (not-false (eqb (a % 4096) 0) (sym (range-erase (range-in e) k) ∙ e)) where
-    not-false : (t : Bool) → not t ≡ false → t ≡ true
-    not-false true h = refl
-    not-false false h = absurd (false≢true (sym h))
+  range-sector k e = eqb-true (a % 4096) 0 (not-false (eqb (a % 4096) 0) (sym (range-erase (range-in e) k) ∙ e))
 
 -- ---- which of the three
 
@@ -173,10 +168,7 @@ carried-same image kind a b k e = go (is-sound image kind a b) refl where
   go false q = rw (carried, q)
 
 pub unchanged : (image : Image) (kind a b x : ℕ) → kind ≡ 1 → x ≡ getD image a 0 → not (eqb x b) ≡ false → carried image kind a b ≡ image
-unchanged image kind a b x k e h = carried-same image kind a b k (sym e ∙ eqb-true x b (same (eqb x b) h)) where
-  same : (t : Bool) → not t ≡ false → t ≡ true
-  same true q = refl
-  same false q = absurd (false≢true (sym q))
+unchanged image kind a b x k e h = carried-same image kind a b k (sym e ∙ eqb-true x b (not-false (eqb x b) h))
 
 pub at-address : (image : Image) (t : Bool) (kind x a b : ℕ) → x ≡ a → (t ≡ false → carried image kind x b ≡ image)
     → t ≡ false → carried image kind a b ≡ image

@@ -30,7 +30,7 @@ use Rattle.planning.specs.Row.{kind-at, Stands, Row, row-none, row-more, stretc
 use Rattle.planning.specs.Spots.{next-kind}
 use Rattle.planning.specs.VoidReads.{row-idle}
 use Rattle.planning.specs.Reads.{Reads, reads-here, reads-round, reads-torn}
-use Rattle.history.specs.Safe.{sound-append}
+use Rattle.laws.specs.Steps.{sound-append}
 use Rattle.replay.specs.Runs.{Bytes-in}
 use Rattle.replay.specs.Record.{known-sound}
 use Rattle.replay.specs.Voiding.{way, high-way, void-sound}

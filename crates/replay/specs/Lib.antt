@@ -7,7 +7,7 @@ pub mod Watching
 pub mod Least
 -- ---- sound steps are a trace that replays to its end
 pub mod Runs
--- ---- the steps of each call are sound, on every image that it accepts: a new record, (c) to (f) of a move, the four repairs, the calls
+-- ---- the steps of each call are sound, on every image that it takes: a new record, (c) to (f) of a move, the four repairs, the calls
 pub mod Record
 pub mod Placing
 pub mod Closing

@@ -29,9 +29,10 @@ use Rattle.planning.specs.First.{head-recordish, reads-head, one-of, pair-of, F
 use Rattle.planning.specs.Closing.{Pair-at, pair-at, second-in, vacated-is}
 use Rattle.planning.specs.Spared.{Spared, erased-spared}
 use Rattle.planning.specs.Known.{Known}
-use Rattle.history.specs.Safe.{sound-append}
+use Rattle.laws.specs.Steps.{sound-append}
+use Rattle.laws.specs.Lists.{each-keep}
 use Rattle.replay.specs.Record.{zero-sound}
-use Rattle.replay.specs.Closing.{keep-each, erase-sound, start-sound, close-sound}
+use Rattle.replay.specs.Closing.{erase-sound, start-sound, close-sound}
 
 -- ---- repair 1
 
@@ -121,4 +122,4 @@ deletes-sound im (e ∷ es) h = (
 
 pub drop-sound : (im : Image) (es : List Entry) → Each (λ e. e .at + 2 < length im) es → Steps-sound im (drop-steps es)
 unfolding drop-steps
-drop-sound im es h = deletes-sound im (keep (superseded es) es) (keep-each (λ (e : Entry). e .at + 2 < length im) (superseded es) es h)
+drop-sound im es h = deletes-sound im (keep (superseded es) es) (each-keep (λ (e : Entry). e .at + 2 < length im) (superseded es) es h)

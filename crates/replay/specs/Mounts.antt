@@ -16,7 +16,7 @@ use Rattle.spec.specs.Door.{accepted}
 use Rattle.spec.specs.Answers.{mount-of, mount-plan}
 use Rattle.spec.specs.History.{steps-of}
 use Rattle.laws.specs.Length.{Good, good}
-use Rattle.laws.specs.Steps.{run-append}
+use Rattle.laws.specs.Steps.{run-append, sound-append}
 use Rattle.laws.specs.Door.{accepted-gives}
 use Rattle.planning.specs.Repairs.{steps-1, steps-2, steps-3}
 use Rattle.planning.specs.Planned.{started, voided, half-mended}
@@ -26,7 +26,6 @@ use Rattle.planning.specs.Dropped.{reads-inside}
 use Rattle.planning.specs.Started.{Starts}
 use Rattle.planning.specs.Leads.{Leads}
 use Rattle.planning.specs.Mends.{phase-1, phase-2, phase-3, phases}
-use Rattle.history.specs.Safe.{sound-append}
 use Rattle.replay.specs.Runs.{Bytes-in, sound-bytes-in}
 use Rattle.replay.specs.Mounting.{steps-1-sound, steps-2-sound, drop-sound}
 use Rattle.replay.specs.LastThing.{steps-3-sound}

@@ -3,6 +3,7 @@ use Prim.Native.Nat.{ℕ, _+_, _%_, _≤_, _<_}
 use native.Mathlib.Omega.{arith}
 use mathlib.Core.Path.{_≡_, refl, sym, ap, _∙_, subst}
 use mathlib.Core.Bool.{Bool, true, false, not, false≢true}
+use mathlib.Core.Logic.{inl}
 use mathlib.Core.Option.{Option, none, some}
 use mathlib.Core.List.{List, [], _∷_, _++_}
 use lib.ListN.{length, getD, set, length-set}
@@ -22,7 +23,6 @@ use Rattle.spec.specs.Demand.{Steps-sound}
 use Rattle.spec.specs.Write.{migrate-steps, delete-steps, marker-steps, record-steps, turn-steps, put-steps}
 use Rattle.laws.specs.Tests.{not-both, and-right}
 use Rattle.laws.specs.Length.{Good}
-use Rattle.laws.specs.Steps.{programs-shifted, length-run}
 use Rattle.planning.specs.Kinds.{Recordish}
 use Rattle.planning.specs.Row.{row-end}
 use Rattle.planning.specs.Spots.{Free}
@@ -32,8 +32,8 @@ use Rattle.planning.specs.First.{head-recordish, reads-head, filled}
 use Rattle.planning.specs.Places.{tail-address, tail-unmarked, tail-room, zero-address, zero-turned}
 use Rattle.planning.specs.Rested.{Rested, row-words}
 use Rattle.planning.specs.Effect.{Untouched, run-length, untouched-run}
-use Rattle.history.specs.Safe.{sound-append}
-use Rattle.history.specs.Put.{record-programs}
+use Rattle.laws.specs.Steps.{sound-append}
+use Rattle.planning.specs.Copy.{record-bounded, bounded-shifted, marker-off}
 use Rattle.replay.specs.Record.{zero-sound, known-sound, blank-sound, record-sound}
 
 -- ---- the tail before the turn
@@ -133,9 +133,6 @@ marker-sound im T l f =
       ),
     )
 
-marker-off : (i T : ℕ) → i < T → Untouched i (shifted T marker-steps)
-marker-off i T h = (λ q. omega arith, (λ q. omega arith, (λ q. omega arith, tt)))
-
 -- ---- put and copy
 
 -- the record that is replaced, if there is one, stands in the image
@@ -200,7 +197,7 @@ turns im p z m = go (with-marker p z) refl where
       subst (Turned im p z) (is true q) (
         marker-sound im (p .tail) (m q .0) (m q .1),
         run-length im (shifted (p .tail) marker-steps) tt,
-        λ i h. untouched-run im (shifted (p .tail) marker-steps) i tt (marker-off i (p .tail) (h q)),
+        λ i h. untouched-run im (shifted (p .tail) marker-steps) i tt (marker-off (p .tail) i (inl (h q))),
       )
   go false q = subst (Turned im p z) (is false q) (tt, refl, λ i h. refl)
 
@@ -232,7 +229,8 @@ module _ (im : Image) (p : Place) (old : Option Entry) (n c : List ℕ) (o : Sta
       λ i u v. t .2 i (λ q. omega (arith, s .marker q .2)) ∙ m .free A (A + z) (s .free) i u v in
       let l-2 : length two ≡ length im = t .1 ∙ m .len in
       let three : Image = run two rs in
-      let l-3 : length three ≡ length im = length-run two rs (programs-shifted A (record-steps n c) (record-programs n c)) ∙ l-2 in
+      let l-3 : length three ≡ length im =
+      run-length two rs (bounded-shifted (length two) A (record-steps n c) (record-bounded n c 0)) ∙ l-2 in
       sound-append im (migrate-steps old) (turn-steps p z ++ (rs ++ delete-steps old)) (m .sound)
       (sound-append one (turn-steps p z) (rs ++ delete-steps old) (t .0)
       (sound-append two rs (delete-steps old) (record-sound two A n c (omega (arith, s .inside, l-2)) free bn bc)

@@ -1,46 +1,32 @@
 -- Planned puts and removes, on every image of bytes: each of their steps is sound.
 use Prim.Native.Nat.{ℕ, _+_, _<_}
 use native.Mathlib.Omega.{arith}
-use mathlib.Core.Path.{_≡_, refl, sym, ap, subst}
-use mathlib.Core.Bool.{Bool, true, false, false≢true}
+use mathlib.Core.Path.{_≡_, refl, sym, subst}
+use mathlib.Core.Bool.{Bool, true, false}
 use mathlib.Core.Option.{Option, none, some}
 use mathlib.Core.List.{List, [], _∷_}
 use lib.ListN.{length}
 use Rattle.spec.specs.Step.{Image}
-use Rattle.spec.specs.Basics.{Answer, refuse, give, onward, first-such, Each}
+use Rattle.spec.specs.Basics.{Answer, refuse, give, onward, Each}
 use Rattle.spec.specs.Record.{size-of, Entry}
 use Rattle.spec.specs.Chain.{Reading}
-use Rattle.spec.specs.Files.{live, files, has-name, file-named}
+use Rattle.spec.specs.Files.{live, has-name, file-named}
 use Rattle.spec.specs.Place.{room}
 use Rattle.spec.specs.Demand.{Steps-sound}
 use Rattle.spec.specs.Door.{admitted-named}
 use Rattle.spec.specs.Answers.{put-into, put-plan, found, file-of, file-plan, removing, remove-plan}
 use Rattle.spec.specs.History.{steps-of}
+use Rattle.laws.specs.Lists.{each-map}
 use Rattle.laws.specs.Length.{Good, good}
 use Rattle.laws.specs.Names.{Readable, name-readable}
 use Rattle.laws.specs.Door.{named-gives}
 use Rattle.planning.specs.Rested.{Rested, settled-rested}
-use Rattle.planning.specs.Puts.{room-fits}
+use Rattle.planning.specs.Puts.{room-fits, first-kept}
 use Rattle.replay.specs.Record.{zero-sound}
 use Rattle.replay.specs.Placing.{spot-of, Stands-in, put-sound}
-use Rattle.replay.specs.Closing.{keep-each}
 use Rattle.replay.specs.LastThing.{Standing, reads-standing}
 
 -- ---- the file of a name
-
-first-each : (P : Entry → Type 0) (q : Entry → Bool) (es : List Entry) → Each P es → (e : Entry) → first-such q es ≡ some e → P e
-first-each P q [] h e z = absurd (false≢true (ap is-some z)) where
-  is-some : Option Entry → Bool
-  is-some none = false
-  is-some (some x) = true
-first-each P q (x ∷ es) h e z = go (q x) refl (first-each P q es (h .1) e) where
-  other : Option Entry → Entry
-  other none = x
-  other (some y) = y
-
-  go : (t : Bool) → q x ≡ t → (first-such q es ≡ some e → P e) → P e
-  go true f ih = subst P (ap other (rw (first-such, f) at z)) (h .0)
-  go false f ih = ih (rw (first-such, f) at z)
 
 -- it stands in the image
 file-stands : (im : Image) (es : List Entry) → Each (Standing im) es → (n : List ℕ) (o : Option Entry) → file-named n es ≡ o
@@ -48,7 +34,7 @@ file-stands : (im : Image) (es : List Entry) → Each (Standing im) es → (n : 
 unfolding file-named
 file-stands im es w n none q = tt
 file-stands im es w n (some e) q =
-    let s : Standing im e = first-each (Standing im) (has-name n) (files es) (keep-each (Standing im) (live es) es w) e q in
+    let s : Standing im e = first-kept (live es) (has-name n) es e (Standing im) q (each-map es (λ f s l. s) w) in
     (omega (arith, s .short, s .stands .fits), s .stands .status)
 
 -- ---- put

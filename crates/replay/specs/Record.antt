@@ -13,11 +13,10 @@ use Rattle.spec.specs.Geometry.{up8}
 use Rattle.spec.specs.Record.{four, size-of}
 use Rattle.spec.specs.Demand.{Step-sound, Steps-sound}
 use Rattle.spec.specs.Write.{header-steps, name-steps, data-steps, commit-steps, record-steps}
-use Rattle.laws.specs.Steps.{shifted-append, shifted-bytes}
+use Rattle.laws.specs.Steps.{shifted-append, shifted-bytes, on-blank, sound-append}
 use Rattle.planning.specs.Spots.{Free}
 use Rattle.planning.specs.Effect.{Untouched, Writes, Bounded, untouched-append, writes-right, bounded-append}
 use Rattle.planning.specs.Effect.{untouched-bytes, bounded-bytes, run-length, untouched-run, writes-run}
-use Rattle.history.specs.Safe.{on-blank, sound-append}
 
 -- ---- steps of which nothing need be known
 

@@ -20,7 +20,7 @@ use Rattle.spec.specs.Record.{Entry, name-of, content-of, size, data-at}
 use Rattle.spec.specs.Next.{kind, is-torn-marker}
 use Rattle.spec.specs.Chain.{Reading}
 use Rattle.spec.specs.Files.{live, superseded}
-use Rattle.spec.specs.Reading.{marked, second-ok, marks-ok, head-clean}
+use Rattle.spec.specs.Reading.{marked, marks-ok, head-clean}
 use Rattle.spec.specs.Place.{fits}
 use Rattle.spec.specs.Demand.{Steps-sound}
 use Rattle.spec.specs.Move.{Work, copy-steps, close-steps}
@@ -32,7 +32,7 @@ use Rattle.laws.specs.Tests.{not-true, and-left, and-right, or-left, or-right}
 use Rattle.laws.specs.Lists.{each-append}
 use Rattle.laws.specs.Length.{Good, good}
 use Rattle.laws.specs.Door.{settled-gives, admitted-gives}
-use Rattle.laws.specs.Settled.{second-marked, last-open, wrap-torn, calm, settled-is}
+use Rattle.laws.specs.Settled.{second-marked, last-open, wrap-torn, unmarked, calm, settled-is}
 use Rattle.laws.specs.Sweep.{room-on, room-live, copy-live, copy-dead, moves-stuck, moves-next}
 use Rattle.planning.specs.Planned.{copy-of, copied, after-copy, hand-steps, handed, move-steps, moved-reading}
 use Rattle.planning.specs.Kinds.{tag-of, kind-tag}
@@ -43,7 +43,7 @@ use Rattle.planning.specs.Closing.{Pair-at, pair-at, second-in}
 use Rattle.planning.specs.Known.{Known, settled-known}
 use Rattle.planning.specs.Rested.{Rested, Finished, reads-finished, settled-rested}
 use Rattle.planning.specs.Moves.{First, first, after-a, Move, moved}
-use Rattle.history.specs.Safe.{sound-append}
+use Rattle.laws.specs.Steps.{sound-append}
 use Rattle.replay.specs.Runs.{Bytes-in}
 use Rattle.replay.specs.Record.{known-sound}
 use Rattle.replay.specs.Placing.{spot-of, put-sound}
@@ -114,13 +114,6 @@ unmarked-of im e s f m =
             or-right (is-start (e .it .low)) (is-clean (e .it .low)) m,
           )) ∙ q))
 
-none-marked : (es : List Entry) → any marked es ≡ false → Each (λ e. marked e ≡ false) es
-none-marked [] h = tt
-none-marked (e ∷ es) h = go (marked e) refl (none-marked es) where
-  go : (t : Bool) → marked e ≡ t → (any marked es ≡ false → Each (λ f. marked f ≡ false) es) → Each (λ f. marked f ≡ false) (e ∷ es)
-  go true p ih = absurd (false≢true (sym h ∙ rw (any, p)))
-  go false p ih = (p, ih (rw (any, p) at h))
-
 unmarked-all : (im : Image) (es : List Entry) → Each (Standing im) es → Each Finished es → Each (λ e. marked e ≡ false) es
     → Each Unmarked es
 unmarked-all im [] s f m = tt
@@ -128,14 +121,8 @@ unmarked-all im (e ∷ es) s f m = (unmarked-of im e (s .0) (f .0) (m .0), unmar
 
 unmarked-behind : (im : Image) (es : List Entry) → Each (Standing im) es → Each Finished es → marks-ok es ≡ true → second-marked es ≡ false
     → Unmarked-behind es
-unfolding marks-ok
 unmarked-behind im [] s f m n = tt
-unmarked-behind im (x ∷ []) s f m n = tt
-unmarked-behind im (x ∷ (y ∷ es)) s f m n = (
-  unmarked-of im y (s .1 .0) (f .1 .0) n,
-  unmarked-all im es (s .1 .1) (f .1 .1)
-      (none-marked es (not-true (any marked es) (and-right (second-ok (x ∷ (y ∷ es)) x y) (not (any marked es)) m))),
-)
+unmarked-behind im (x ∷ es) s f m n = unmarked-all im es (s .1) (f .1) (unmarked x es n m)
 
 calm-second : (r : Reading) → calm r ≡ true → second-marked (r .entries) ≡ false
 unfolding calm

@@ -20,7 +20,7 @@ use Rattle.spec.specs.Planner.{hand-out, planned, in-turn, slots}
 use Rattle.spec.specs.Trace.{replayed, replay-trace}
 use Rattle.laws.specs.Planner.{windows-join, planned-as-done}
 use Rattle.window.specs.Handed.{slices}
-use Rattle.history.specs.Safe.{sound-take}
+use Rattle.laws.specs.Steps.{sound-take}
 use Rattle.replay.specs.Told.{trace-on}
 use Rattle.replay.specs.Runs.{Bytes-in, bytes-in, replays-on}
 use Rattle.replay.specs.Mounts.{mount-sound}

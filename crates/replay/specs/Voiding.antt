@@ -28,7 +28,7 @@ use Rattle.planning.specs.Row.{kind-at, Stands, stretch-byte, stretch-length}
 use Rattle.planning.specs.Spots.{stands-kind}
 use Rattle.planning.specs.Ends.{missing-off, missing-bounded}
 use Rattle.planning.specs.Effect.{run-length, untouched-run}
-use Rattle.history.specs.Safe.{sound-append}
+use Rattle.laws.specs.Steps.{sound-append}
 use Rattle.replay.specs.Runs.{Bytes-in}
 use Rattle.replay.specs.Record.{zero-sound, known-sound}
 

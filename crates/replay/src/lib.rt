@@ -1,4 +1,5 @@
-// Request K7: a bus trace, three slices of numbers as the planner hands them out, replayed over an image.
+// A bus trace (document 02, K7), three slices of numbers as the planner hands them out, replayed over an image.
+// Every store into the image is one of flash::program and flash::erase.
 mod entry;
 pub mod watch;
 

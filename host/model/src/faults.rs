@@ -124,6 +124,10 @@ pub enum Fault {
     StopFromOne,
     /// K7: the image before the first entry is not looked at.
     ZeroNotRead,
+    /// K7: the image at the stop is not looked at.
+    StopNotRead,
+    /// K7: the image behind the last entry is not looked at.
+    LastNotRead,
 }
 
 impl Fault {

@@ -76,16 +76,19 @@ fn step([kind, address, byte]: [u32; 3]) -> Step {
 fn carry(img: &mut [u8], [kinds, addresses, bytes]: Trace, mut on: impl FnMut(&[u8]) -> bool) -> (u64, u32) {
     for i in 0..kinds.len() {
         let entry = [kinds[i], addresses[i], bytes[i]];
-        if !on(img) {
+        let which = fault(img, entry);
+        let unread = which != 0 && faults::seeded(Fault::StopNotRead);
+        if !unread && !on(img) {
             return (i as u64, 0);
         }
-        let which = fault(img, entry);
         if which != 0 {
             return (i as u64, which);
         }
         carry_out(img, &[step(entry)], 1);
     }
-    on(img);
+    if !faults::seeded(Fault::LastNotRead) {
+        on(img);
+    }
     (kinds.len() as u64, 0)
 }
 
@@ -127,7 +130,7 @@ pub fn first_refused(img: &mut [u8], trace: Trace) -> Refusing {
 
 impl Fault {
     /// The faults of a replay.
-    pub const REPLAY: [Fault; 7] = [
+    pub const REPLAY: [Fault; 9] = [
         Fault::KindFirst,
         Fault::ByteCutOff,
         Fault::EraseByteJudged,
@@ -135,5 +138,7 @@ impl Fault {
         Fault::StopCarriedOut,
         Fault::StopFromOne,
         Fault::ZeroNotRead,
+        Fault::StopNotRead,
+        Fault::LastNotRead,
     ];
 }

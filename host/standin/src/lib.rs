@@ -18,7 +18,8 @@ fn fault() -> Option<Fault> {
     static FAULT: OnceLock<Option<Fault>> = OnceLock::new();
     *FAULT.get_or_init(|| {
         let name = std::env::var("STANDIN_FAULT").ok()?;
-        let mut all = Fault::ALL.into_iter().chain(Fault::NAMES).chain(Fault::LENGTHS).chain(Fault::PLANNER).chain(Fault::REPLAY);
+        let mut all =
+            Fault::ALL.into_iter().chain(Fault::NAMES).chain(Fault::LENGTHS).chain(Fault::PLANNER).chain(Fault::REPLAY);
         let found = all.find(|f| format!("{f:?}") == name);
         Some(found.unwrap_or_else(|| panic!("no fault {name}")))
     })

@@ -111,3 +111,14 @@ pub fn damaged(r: &mut Rng, img: &[u8], log: &Log, i: usize, way: usize) -> Log 
     left.set(i, entry);
     left
 }
+
+/// A stray program at entry i, which may break the image, and a stop right behind it.
+pub fn stray_then_stop(r: &mut Rng, img: &[u8], log: &Log, i: usize) -> Log {
+    let [stray, unknown] = ["stray program", "unknown kind"].map(way_of);
+    let log = damaged(r, img, log, i, stray);
+    damaged(r, img, &log, i + 1, unknown)
+}
+
+fn way_of(name: &str) -> usize {
+    WAYS.iter().position(|&way| way == name).expect("a way to damage an entry")
+}

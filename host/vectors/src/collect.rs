@@ -100,7 +100,8 @@ impl Collection {
         let tags = tags.map(|t| format!("tag {t}"));
         let sources = SOURCES.iter().map(|s| format!("source {s}"));
         let lacking = answers.chain(tags).chain(sources).filter(|w| self.count(w) < EACH);
-        let requests = [plans::lacking, spaces::lacking, names::lacking, lengths::lacking, traces::lacking, verdicts::lacking];
+        let requests =
+            [plans::lacking, spaces::lacking, names::lacking, lengths::lacking, traces::lacking, verdicts::lacking];
         lacking.chain(requests.iter().flat_map(|lacking| lacking(self))).collect()
     }
 

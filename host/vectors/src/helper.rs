@@ -189,6 +189,7 @@ pub fn text(specs: &Path) -> Result<String, String> {
             uses += &format!("use Rattle.spec.specs.{m} as {m}\n");
         }
     }
-    let body = [BODY, plans::HELPER, names::HELPER, lengths::HELPER, traces::HELPER, verdicts::HELPER].concat().replace("NAMES", &names.join(" "));
+    let requests = [plans::HELPER, names::HELPER, lengths::HELPER, traces::HELPER, verdicts::HELPER];
+    let body = [BODY, &requests.concat()].concat().replace("NAMES", &names.join(" "));
     Ok(format!("{HEAD}{uses}{body}"))
 }

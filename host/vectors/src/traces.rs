@@ -29,7 +29,7 @@ check-watch before s answer there count after =
 ";
 
 /// What these vectors must show, besides every way to damage an entry.
-pub const TRACE_VECTOR_TAGS: [&str; 8] = [
+pub const TRACE_VECTOR_TAGS: [&str; 10] = [
     "trace: to its end",
     "trace: stop 1",
     "trace: stop 2",
@@ -37,6 +37,8 @@ pub const TRACE_VECTOR_TAGS: [&str; 8] = [
     "trace: refused",
     "trace: mount refuses at 0",
     "trace: mount refuses later",
+    "trace: mount refuses at the stop",
+    "trace: mount refuses at the end",
     "trace: mount refuses none",
 ];
 const REPLAY: &str = "replay";
@@ -73,15 +75,19 @@ fn replayed(c: &mut Collection, img: &[u8], log: &Log, way: Option<&'static str>
 fn watched(c: &mut Collection, img: &[u8], log: &Log) {
     let mut after = img.to_vec();
     let told = first_refused(&mut after, log.trace());
-    let tag = match told {
+    let Refusing { answer, there, count } = told;
+    let mut tags = vec![match told {
         Refusing { answer: 22, .. } => "trace: refused",
         Refusing { there: false, .. } => "trace: mount refuses none",
         Refusing { count: 0, .. } => "trace: mount refuses at 0",
         _ => "trace: mount refuses later",
-    };
-    let Refusing { answer, there, count } = told;
+    }];
+    let whole = replay(&mut img.to_vec(), log.trace());
+    if there && count > 0 && count == whole.position {
+        tags.push(if whole.stop == 0 { "trace: mount refuses at the end" } else { "trace: mount refuses at the stop" });
+    }
     let text = format!("check-watch {} {} {answer} {there} {count} {}", pieces(img), lent(log), pieces(&after));
-    c.add(Vector { function: "check-watch", text, kind: WATCH, answer, tags: vec![tag], source: WATCH });
+    c.add(Vector { function: "check-watch", text, kind: WATCH, answer, tags, source: WATCH });
 }
 
 fn image(r: &mut Rng) -> Vec<u8> {
@@ -136,10 +142,23 @@ pub fn add(c: &mut Collection) {
             }
         }
     }
-    let log = planned_log(&testing::call::formatted(8192), &Call::Put(b"a".to_vec(), vec![1], ALL));
+    let formatted = testing::call::formatted(8192);
+    let log = planned_log(&formatted, &Call::Put(b"a".to_vec(), vec![1], ALL));
     for img in [vec![0xFF; 8192], vec![0x00; 8192]] {
         replayed(c, &img, &log, None);
         watched(c, &img, &log);
+    }
+    last_looks(c, &formatted);
+}
+
+/// Only the image at the stop, or behind the last entry, is refused: a byte of the free run is programmed.
+fn last_looks(c: &mut Collection, img: &[u8]) {
+    for address in [16, 40, 4096] {
+        let mut log = Log::default();
+        log.push([1, address, 0x00]);
+        watched(c, img, &log);
+        log.push([1, address, 0xFF]);
+        watched(c, img, &log);
     }
 }
 

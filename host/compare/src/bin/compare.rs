@@ -7,6 +7,8 @@ use testing::compare::{Comparison, Traces};
 
 /// Of so many images one is replayed over.
 const REPLAYED: u64 = 100;
+/// So many come to every kind of stop.
+const ALL_STOPS: u64 = 100;
 /// A short run, of some seconds, leaves out the images of 16 MiB.
 const SHORT: u64 = 50_000;
 
@@ -23,7 +25,12 @@ fn main() {
     traces.run(seed, images / REPLAYED);
     println!("{}", traces.report());
     println!("{}\n{}", plans.report(), comparison.tally.report());
-    if comparison.tally.differ + plans.differ + traces.differ > 0 || comparison.tally.calls == 0 || plans.calls == 0 {
+    let lacking = if images / REPLAYED < ALL_STOPS { Vec::new() } else { traces.lacking() };
+    if !lacking.is_empty() {
+        println!("no trace came to: {}", lacking.join(", "));
+    }
+    let differ = comparison.tally.differ + plans.differ + traces.differ;
+    if differ > 0 || comparison.tally.calls == 0 || plans.calls == 0 || !lacking.is_empty() {
         std::process::exit(1);
     }
 }

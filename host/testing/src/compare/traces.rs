@@ -7,8 +7,9 @@ use crate::images::{built, damage, of_history};
 use crate::maker::Maker;
 use crate::replayer::Replayer;
 use crate::rng::Rng;
-use crate::traces::{damaged, planned_log, writing_call, Log, WAYS};
+use crate::traces::{damaged, planned_log, stray_then_stop, writing_call, Log, WAYS};
 use crate::ALL;
+use model::{Refusing, Replayed};
 use std::collections::BTreeMap;
 
 /// At most so many positions of a trace are damaged.
@@ -17,7 +18,7 @@ const POSITIONS: u64 = 40;
 const MOST_READ: usize = 80;
 
 /// What every run must come to.
-pub const TRACE_TAGS: [&str; 12] = [
+pub const TRACE_TAGS: [&str; 14] = [
     "stop 0",
     "stop 1",
     "stop 2",
@@ -29,6 +30,8 @@ pub const TRACE_TAGS: [&str; 12] = [
     "refused, unequal slices",
     "mount refuses at 0",
     "mount refuses later",
+    "mount refuses at the stop",
+    "mount refuses at the end",
     "mount refuses none",
 ];
 
@@ -51,6 +54,11 @@ impl<'s> Traces<'s> {
 
     fn tag(&mut self, tag: &str) {
         *self.tags.entry(tag.into()).or_default() += 1;
+    }
+
+    /// What a run has not come to.
+    pub fn lacking(&self) -> Vec<&'static str> {
+        TRACE_TAGS.into_iter().filter(|tag| self.tagged(tag) == 0).collect()
     }
 
     pub fn report(&self) -> String {
@@ -96,6 +104,10 @@ impl<'s> Traces<'s> {
             for (way, name) in WAYS.into_iter().enumerate() {
                 let log = damaged(r, &img, &log, i, way);
                 self.tag(name);
+                self.both(&img, &log);
+            }
+            if i + 1 < log.len() {
+                let log = stray_then_stop(r, &img, &log, i);
                 self.both(&img, &log);
             }
         }
@@ -150,12 +162,13 @@ impl<'s> Traces<'s> {
             self.tag("stop at the last entry");
         }
         if log.len() <= MOST_READ {
-            self.search(img, log);
+            self.search(img, log, told);
         }
         told.answer == 0 && told.stop == 0
     }
 
-    fn search(&mut self, img: &[u8], log: &Log) {
+    /// `whole` is the replay of the same trace.
+    fn search(&mut self, img: &[u8], log: &Log, whole: Replayed) {
         let (mut expected, mut left) = (img.to_vec(), img.to_vec());
         let told = Model.first_refused(&mut expected, log.trace());
         let got = self.replayer.first_refused(&mut left, log.trace());
@@ -163,11 +176,15 @@ impl<'s> Traces<'s> {
         if told != got || left != expected {
             self.differs(format!("search in {log:?}, {} bytes\n  model   {told:?}\n  library {got:?}", img.len()));
         }
-        match told.expect("the model answers") {
-            model::Refusing { there: true, count: 0, .. } => self.tag("mount refuses at 0"),
-            model::Refusing { there: true, .. } => self.tag("mount refuses later"),
-            model::Refusing { answer: 0, .. } => self.tag("mount refuses none"),
+        let Refusing { answer, there, count } = told.expect("the model answers");
+        match (there, count) {
+            (true, 0) => self.tag("mount refuses at 0"),
+            (true, _) => self.tag("mount refuses later"),
+            _ if answer == 0 => self.tag("mount refuses none"),
             _ => {}
+        }
+        if there && count > 0 && count == whole.position {
+            self.tag(if whole.stop == 0 { "mount refuses at the end" } else { "mount refuses at the stop" });
         }
     }
 
