@@ -31,7 +31,7 @@ use Rattle.planning.specs.Reads.{Reads, reads-here, reads-round, reads-torn}
 use Rattle.planning.specs.First.{head-recordish, reads-head, filled}
 use Rattle.planning.specs.Places.{tail-address, tail-unmarked, tail-room, zero-address, zero-turned}
 use Rattle.planning.specs.Rested.{Rested, row-words}
-use Rattle.planning.specs.Effect.{Untouched, run-length, untouched-run}
+use Rattle.planning.specs.Effect.{run-length, untouched-run}
 use Rattle.laws.specs.Steps.{sound-append}
 use Rattle.planning.specs.Copy.{record-bounded, bounded-shifted, marker-off}
 use Rattle.replay.specs.Record.{zero-sound, known-sound, blank-sound, record-sound}

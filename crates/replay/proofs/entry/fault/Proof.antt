@@ -1,5 +1,5 @@
 -- The three tests in their order, one to each way out.
-use mathlib.Core.Path.{sym, _∙_, ap}
+use mathlib.Core.Path.{sym}
 use Rattle.laws.specs.Flag.{flag}
 use Rattle.replay.specs.Entry.{range-in, fault-range, fault-erase, fault-clears, fault-sets, fault-kind}
 use borrow.Author.Needs.{needs}

@@ -1,5 +1,5 @@
 -- The invariant: the whole search is that from the entry i on; where the image has not changed, mount would take it.
-use Prim.Native.Nat.{ℕ, _+_, _-_, _≤_}
+use Prim.Native.Nat.{_+_, _-_, _≤_}
 use mathlib.Core.Path.{_≡_, refl, sym, ap, _∙_}
 use mathlib.Core.Bool.{Bool, false, false≢true}
 use lib.ListN.{length, getD}
