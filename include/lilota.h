@@ -284,6 +284,51 @@ uint32_t lilota_plan_mount(const uint8_t *image, size_t length, size_t first,
 uint32_t lilota_check(const uint8_t *image, size_t length, uint32_t *verdict,
                       uint32_t *number, size_t *address);
 
+/*
+ * Traces. A logger on the flash's bus has three slices of numbers, as the
+ * planning calls hand them out: kinds (1 program, 2 erase), addresses, bytes (of
+ * an erase ignored). They must not overlap the image. The two calls below carry
+ * a trace out over it, up to the first entry that can't be carried out, the
+ * stop. Slices of unequal length and an image of a bad length are
+ * LILOTA_INVALID: the image stays as it was, and the numbers are 0.
+ */
+
+/* Why an entry stops a trace; if more than one is true, the first of them.
+ * The address lies outside the image, or inside a sector that is to be erased,
+ * or the byte to program is above 255; */
+#define LILOTA_STOP_OUT_OF_RANGE 1u
+/* the kind is neither 1 nor 2; */
+#define LILOTA_STOP_UNKNOWN_KIND 2u
+/* a bit would go from 0 to 1. */
+#define LILOTA_STOP_SETS_BIT 3u
+
+/*
+ * Replays a trace; the image is then that after all entries before the stop.
+ * Position says which entry stops it (0 the first), stop why; without a stop,
+ * position is the count of all entries and stop 0. A trace that a planning call
+ * handed out from step 0 on has no stop over the image that it was planned
+ * from. Answers: 22, 0.
+ */
+uint32_t lilota_replay(uint8_t *image, size_t length,
+                       const uint32_t *kinds, size_t kinds_length,
+                       const uint32_t *addresses, size_t addresses_length,
+                       const uint32_t *bytes, size_t bytes_length,
+                       size_t *position, uint32_t *stop);
+
+/*
+ * Looks for the least count of entries, 0 too, after which lilota_mount would
+ * refuse the image. If one is found up to the stop, *there is 1 and *count is it;
+ * else *there is 0 and *count how many entries come before the stop. The image
+ * is left as after *count entries. It is read before the first entry and behind
+ * each that may change it: for n entries up to n + 1 times. Answers: 22, 0.
+ */
+uint32_t lilota_first_refused(uint8_t *image, size_t length,
+                              const uint32_t *kinds, size_t kinds_length,
+                              const uint32_t *addresses,
+                              size_t addresses_length,
+                              const uint32_t *bytes, size_t bytes_length,
+                              uint32_t *there, size_t *count);
+
 #ifdef __cplusplus
 }
 #endif

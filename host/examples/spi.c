@@ -4,6 +4,9 @@
  *
  * Every window is planned from the image as it was before the first step. The image in memory is a copy of the chip; it
  * stays as it is while the chip changes, until the last step is done or the power has failed. Then the chip is read back.
+ *
+ * What is sent is recorded as well, and replayed after each call over the image from before it: the chip must hold the
+ * same, but for the byte at which the power failed.
  */
 #include "chip.h"
 #include "lilota.h"
@@ -12,6 +15,7 @@
 #include <string.h>
 
 #define SLOTS 16
+#define ENTRIES 4096
 
 /* ---- the driver */
 
@@ -43,6 +47,22 @@ static int operation(uint8_t command, size_t address, const uint8_t *byte)
     return wait_for_chip();
 }
 
+/* What was sent since the last call began, as a logger on the bus has it. */
+static struct {
+    uint32_t kinds[ENTRIES], addresses[ENTRIES], bytes[ENTRIES];
+    size_t count;
+} bus;
+
+static void record(uint32_t kind, uint32_t address, uint32_t byte)
+{
+    if (bus.count == ENTRIES)
+        return;
+    bus.kinds[bus.count] = kind;
+    bus.addresses[bus.count] = address;
+    bus.bytes[bus.count] = byte;
+    bus.count++;
+}
+
 /*
  * One step. A page program could take more than one byte, but what is promised of power cuts is promised of steps done
  * one after another: so each is an operation of its own, and ends before the next begins.
@@ -50,6 +70,7 @@ static int operation(uint8_t command, size_t address, const uint8_t *byte)
 static int carry_out(uint32_t kind, uint32_t address, uint32_t byte)
 {
     const uint8_t value = (uint8_t)byte;
+    record(kind, address, byte);
     return kind == 2 ? operation(ERASE, address, NULL) : operation(PROGRAM, address, &value);
 }
 
@@ -60,6 +81,40 @@ static void read_back(void)
 {
     const uint8_t command[4] = {READ, 0, 0, 0};
     transfer(command, sizeof command, image, LENGTH);
+}
+
+/* ---- the bus log */
+
+/* The image as it was before the call; then what the log makes of it. */
+static uint8_t before[LENGTH];
+
+/* Replays the log, and compares with the chip as it was read back. 1 if it stops. */
+static int replay_log(void)
+{
+    size_t position = 0, differ = 0, i;
+    uint32_t stop = 0;
+    uint32_t answer = lilota_replay(before, LENGTH, bus.kinds, bus.count, bus.addresses, bus.count, bus.bytes, bus.count,
+                                    &position, &stop);
+    for (i = 0; i < LENGTH; i++)
+        differ += before[i] != image[i] ? 1 : 0;
+    printf("  replay: %u of %u entries, stop %u, %u bytes differ\n", (unsigned)position, (unsigned)bus.count,
+           (unsigned)stop, (unsigned)differ);
+    return answer != LILOTA_DONE || stop != 0;
+}
+
+/* A log with two stray entries: one programs a free byte, the next would set a bit of it. */
+static int stray_log(void)
+{
+    static const uint32_t kinds[2] = {1, 1}, addresses[2] = {LENGTH - 1, LENGTH - 1}, bytes[2] = {0x0F, 0x1F};
+    size_t position = 0, count = 0;
+    uint32_t stop = 0, there = 0, answer;
+    memcpy(before, image, LENGTH);
+    answer = lilota_first_refused(before, LENGTH, kinds, 2, addresses, 2, bytes, 2, &there, &count);
+    printf("stray entries\n  mount would refuse: %u, after %u entries\n", (unsigned)there, (unsigned)count);
+    memcpy(before, image, LENGTH);
+    answer |= lilota_replay(before, LENGTH, kinds, 2, addresses, 2, bytes, 2, &position, &stop);
+    printf("  replay: stop %u at entry %u\n", (unsigned)stop, (unsigned)position);
+    return answer != LILOTA_DONE;
 }
 
 /* ---- calls, planned and carried out */
@@ -120,6 +175,8 @@ static int perform(const char *call, Plan plan)
     size_t done = 0, windows = 0, i;
     int failed = 0;
     printf("%s\n", call);
+    memcpy(before, image, LENGTH);
+    bus.count = 0;
     do {
         uint32_t answer = plan(done, &w);
         if (answer != LILOTA_DONE) {
@@ -137,7 +194,7 @@ static int perform(const char *call, Plan plan)
            failed ? "; then the power failed" : "");
     power_on();
     read_back();
-    return 0;
+    return replay_log();
 }
 
 static int put(const char *call, const char *file, const uint8_t *bytes, size_t count)
@@ -220,6 +277,7 @@ int main(void)
     load();
     failed |= sweep() || sweep() || mount();
     load();
+    failed |= stray_log();
     printf("the chip: %u bytes programmed, %u sectors erased\n", chip.programmed, chip.erased);
     return failed;
 }

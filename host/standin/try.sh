@@ -1,7 +1,7 @@
 #!/usr/bin/env bash
 # The testers themselves, tried without the proved library: the stand-in passes, and
-# each of its faults is noticed by the comparison and, unless it is the planner's or one of
-# names, by the cut test.
+# each of its faults is noticed by the comparison and, unless it is the planner's, a replay's
+# or one of names, by the cut test.
 set -euo pipefail
 cd "$(dirname "$0")/.."
 
@@ -34,7 +34,7 @@ noticed() {
 for fault in $(listed ALL faults.rs); do
     noticed "$fault" compare "cuts 400000"
 done
-# histories have no plans, and by its own rule a store keeps a wrong name like any other
-for fault in $(listed PLANNER planner.rs) $(listed NAMES names.rs); do
+# histories have no plans and no replays, and by its own rule a store keeps a wrong name like any other
+for fault in $(listed PLANNER planner.rs) $(listed NAMES names.rs) $(listed REPLAY trace.rs); do
     noticed "$fault" compare
 done

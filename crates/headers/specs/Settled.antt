@@ -22,7 +22,7 @@ use Rattle.spec.specs.Record.{Entry, name-ok, name-of, content-of, low-of}
 use Rattle.spec.specs.Next.{next}
 use Rattle.spec.specs.Chain.{Reading, allowed, reading-from}
 use Rattle.spec.specs.Files.{named, superseded, file-named}
-use Rattle.spec.specs.Reading.{head-clean, free-ok, whole, marked, marks-ok, second-ok, names-ok, single, legal}
+use Rattle.spec.specs.Reading.{head-clean, free-ok, whole, marked, marks-ok, names-ok, single, legal}
 use Rattle.spec.specs.Mount.{settled}
 use Rattle.spec.specs.Door.{settled-reading, admitted, misnamed, admitted-named}
 use Rattle.spec.specs.Numbers.{Numbers, Outcome}
@@ -30,10 +30,9 @@ use Rattle.spec.specs.Answers.{Plan, carry-out, numbers-of, found, file-of, get
 use Rattle.spec.specs.Length.{own-name-ok, stands, all-stand, at-tail, of-name, or-else}
 use Rattle.spec.specs.Length.{length-in, walked, head-fits, length-from, length-asked, measured, file-length}
 use Rattle.laws.specs.Tests.{wrong, not-true, and-left, and-right, or-left, or-right}
-use Rattle.laws.specs.Lists.{any-none-each}
 use Rattle.laws.specs.Head.{Low, clean-two}
 use Rattle.laws.specs.Parts.{long-le}
-use Rattle.laws.specs.Settled.{second-marked, last-open, wrap-torn, calm, settled-is}
+use Rattle.laws.specs.Settled.{second-marked, last-open, wrap-torn, unmarked, calm, settled-is}
 use Rattle.laws.specs.Door.{settled-gives, admitted-gives, named-good, named-bad}
 use Rattle.chain.specs.declared.Cursor.{Cursor}
 use Rattle.chain.specs.declared.Item.{Item}
@@ -84,13 +83,6 @@ behind-all : (es : List Entry) → Each Lowly es → Each Finished es → Each (
     → Each (λ e. stands false e ≡ true) es
 behind-all [] l f n m = tt
 behind-all (e ∷ es) l f n m = (behind-stands e (l .0) (f .0) (n .0) (m .0), behind-all es (l .1) (f .1) (n .1) (m .1))
-
--- no record behind the first is START or CLEAN
-unmarked : (x : Entry) (es : List Entry) → second-marked (x ∷ es) ≡ false → marks-ok (x ∷ es) ≡ true → Each (λ e. marked e ≡ false) es
-unfolding marks-ok
-unmarked x [] s m = tt
-unmarked x (y ∷ es) s m =
-    (s, any-none-each marked es (not-true (any marked es) (and-right (second-ok (x ∷ (y ∷ es)) x y) (not (any marked es)) m)))
 
 -- ---- the records of a settled reading
 

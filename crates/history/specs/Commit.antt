@@ -10,8 +10,8 @@ use Rattle.spec.specs.Step.{Image, Step, program, run}
 use Rattle.spec.specs.Bytes.{is-committed}
 use Rattle.spec.specs.History.{between, partly, Ledger}
 use Rattle.spec.specs.Demand.{Steps-sound}
-use Rattle.laws.specs.Steps.{run-append}
-use Rattle.history.specs.Safe.{safe-here, safe-cut, safe-end, safe-sound, sound-append}
+use Rattle.laws.specs.Steps.{run-append, sound-append}
+use Rattle.history.specs.Safe.{safe-here, safe-cut, safe-end, safe-sound}
 use Rattle.history.specs.Between.{Between, between-is, one-bit}
 use Rattle.history.specs.Kinds.{Inv}
 use Rattle.history.specs.PutOld.{same-set}

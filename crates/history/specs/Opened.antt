@@ -13,11 +13,12 @@ use Rattle.spec.specs.Basics.{Each}
 use Rattle.spec.specs.Geometry.{up8}
 use Rattle.spec.specs.Record.{size-of}
 use Rattle.spec.specs.Write.{header-steps}
+use Rattle.laws.specs.Steps.{on-blank}
 use Rattle.history.specs.Between.{Between, between-most, Begun, begun-ff, begun-5a, begun-next, First, first-a5, High, high-ff}
 use Rattle.history.specs.Between.{high-of, one-bit}
 use Rattle.history.specs.Blanks.{blanks, blank-split, split-front}
 use Rattle.history.specs.Lay.{pad, lens, Printable, header}
-use Rattle.history.specs.Safe.{Safe, safe-bytes, on-blank}
+use Rattle.history.specs.Safe.{Safe, safe-bytes}
 use Rattle.history.specs.Seg.{Seg, seg-none, seg-torn, seg-cut, seg-onto, seg-size}
 
 -- ---- the states of a record under way, each with f bytes from its start to what follows, s

@@ -61,6 +61,14 @@ module _ {A : Type 0} where
   each-both P Q [] p q = tt
   each-both P Q (x ∷ xs) p q = ((p .0, q .0), each-both P Q xs (p .1) (q .1))
 
+  -- of each that is kept
+  pub each-keep : (P : A → Type 0) (p : A → Bool) (xs : List A) → Each P xs → Each P (keep p xs)
+  each-keep P p [] h = tt
+  each-keep P p (x ∷ xs) h = go (p x) refl (each-keep P p xs (h .1)) where
+    go : (t : Bool) → p x ≡ t → Each P (keep p xs) → Each P (keep p (x ∷ xs))
+    go true e ih = rw (keep, e) (h .0, ih)
+    go false e ih = rw (keep, e) ih
+
   -- of each in two lists
   pub each-append : (P : A → Type 0) (xs ys : List A) → Each P xs → Each P ys → Each P (xs ++ ys)
   each-append P [] ys p q = q

@@ -6,8 +6,10 @@ use mathlib.Core.Path.{_≡_, refl, sym, ap, _∙_}
 use mathlib.Core.List.{List, [], _∷_, _++_, append-assoc}
 use lib.ListN.{length, take, drop, set, getD, length-append, length-set, take-append-drop}
 use lib.Seq.{set-at, append-snoc, length-take-le, take-nil, take-append-add, drop-append-add}
+use lib.Bits.{bitAnd, and-mask}
 use borrow.Author.Tests.{ne-eqb}
 use Rattle.spec.specs.Step.{Image, Step, program, erase, sector, apply, run, bytes-at, shifted}
+use Rattle.spec.specs.Demand.{Step-sound, Steps-sound}
 use Rattle.spec.specs.Write.{name-end-steps}
 use Rattle.spec.specs.Mount.{missing-steps}
 
@@ -155,3 +157,20 @@ module _ (s : Image) (a : ℕ) where
 
   pub name-open : (getD s a 0 ≡ 0 → ⊥) → missing-steps s a ≡ name-end-steps a
   name-open e = rw (ne-eqb (getD s a 0) 0 e, missing-steps)
+
+-- ---- sound steps
+
+-- a byte on FF
+pub on-blank : (b : ℕ) → b < 256 → bitAnd b 0xFF ≡ b
+on-blank b h = and-mask b 8 ∙ omega arith
+
+-- one list of steps behind another
+pub sound-append : (im : Image) (ss ts : List Step) → Steps-sound im ss → Steps-sound (run im ss) ts → Steps-sound im (ss ++ ts)
+sound-append im [] ts s t = t
+sound-append im (x ∷ ss) ts s t = (s .0, sound-append (apply im x) ss ts (s .1) t)
+
+-- the first k steps
+pub sound-take : (k : ℕ) (im : Image) (ss : List Step) → Steps-sound im ss → Steps-sound im (take k ss)
+sound-take zero im ss s = tt
+sound-take (suc k) im [] s = tt
+sound-take (suc k) im (x ∷ ss) s = (s .0, sound-take k (apply im x) ss (s .1))

@@ -11,6 +11,10 @@ pub not-true : (t : Bool) → not t ≡ true → t ≡ false
 not-true true e = absurd (false≢true e)
 not-true false e = refl
 
+pub not-false : (t : Bool) → not t ≡ false → t ≡ true
+not-false true e = refl
+not-false false e = absurd (false≢true (sym e))
+
 pub wrong : {A : Type 0} → false ≡ true → A
 wrong e = absurd (false≢true e)
 

@@ -3,3 +3,4 @@ mod c;
 mod c_check;
 mod c_length;
 mod c_plan;
+mod c_trace;

@@ -27,7 +27,7 @@ abbrev Beside : ℕ → ℕ → List ℕ → Type 0
 Beside i a s = (i < a) ⊎ ((length s ≡ 0) ⊎ (a + length s ≤ i))
 
 -- a mark has two bytes
-mark-two : (s : List ℕ) → mark-here s ≡ true → 2 ≤ length s
+pub mark-two : (s : List ℕ) → mark-here s ≡ true → 2 ≤ length s
 unfolding is-high
 mark-two [] h = absurd (false≢true (sym (and-no (is-start 0 || is-clean 0 || is-record 0) false (λ e. refl)) ∙ h))
 mark-two (x ∷ []) h = absurd (false≢true (sym (and-no (is-start x || is-clean x || is-record x) false (λ e. refl)) ∙ h))
@@ -67,7 +67,7 @@ clean-beside (suc k) i a s o =
         go true e = let h : 8 ≤ length s = leb-true 8 (length s) e in inr (omega (arith, length-drop 8 s))
         go false e = let h : length s < 8 = leb-false 8 (length s) e in inl (omega (arith, length-drop 8 s))
 
-clean-bounded : (N k a : ℕ) (s : List ℕ) → Bounded N (clean-steps k a s)
+pub clean-bounded : (N k a : ℕ) (s : List ℕ) → Bounded N (clean-steps k a s)
 unfolding clean-steps
 clean-bounded N zero a s = tt
 clean-bounded N (suc k) a s =
@@ -112,7 +112,7 @@ module _ (N : ℕ) (x y : Entry) (low : ℕ) where
   abbrev ends : List Step
   ends = start-steps (y .at) low ++ forget-steps x starts
 
-  cleans-off : (i : ℕ) → Outside i (x .at) (size x) → Untouched i cleans
+  pub cleans-off : (i : ℕ) → Outside i (x .at) (size x) → Untouched i cleans
   cleans-off i o =
       clean-beside (length (content-of x)) i (data-at x) (content-of x)
       (⊎-elim (λ (h : i < x .at). inl (omega arith)) (λ (h : x .at + size x ≤ i). inr (inr (omega arith))) o)

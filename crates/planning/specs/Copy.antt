@@ -143,10 +143,15 @@ untouched-below a i (program k x ∷ ss) h = (λ q. omega arith, untouched-below
 untouched-below a i (erase k ∷ ss) h = (inl (omega arith), untouched-below a i ss h)
 
 -- steps that erase nothing
-bounded-shifted : (N a : ℕ) (ss : List Step) → Bounded 0 ss → Bounded N (shifted a ss)
+pub bounded-shifted : (N a : ℕ) (ss : List Step) → Bounded 0 ss → Bounded N (shifted a ss)
 bounded-shifted N a [] w = tt
 bounded-shifted N a (program k x ∷ ss) w = bounded-shifted N a ss w
 bounded-shifted N a (erase k ∷ ss) w = absurd (omega (arith, w .0))
+
+-- a marker at T
+pub marker-off : (T i : ℕ) → Outside i T 3 → Untouched i (shifted T marker-steps)
+marker-off T i (inl h) = (λ q. omega arith, (λ q. omega arith, (λ q. omega arith, tt)))
+marker-off T i (inr h) = (λ q. omega arith, (λ q. omega arith, (λ q. omega arith, tt)))
 
 -- ---- the whole list
 
@@ -178,12 +183,8 @@ module _ (p : Place) (x : Entry) (name content : List ℕ) where
   migrate-bounded N true e = rw (migrate-is true e) tt
   migrate-bounded N false e = rw (migrate-is false e) tt
 
-  marker-off : (i : ℕ) → Outside i (p .tail) 3 → Untouched i (shifted (p .tail) marker-steps)
-  marker-off i (inl h) = (λ q. omega arith, (λ q. omega arith, (λ q. omega arith, tt)))
-  marker-off i (inr h) = (λ q. omega arith, (λ q. omega arith, (λ q. omega arith, tt)))
-
   turn-off : (i : ℕ) (t : Bool) → with-marker p s ≡ t → (t ≡ true → Outside i (p .tail) 3) → Untouched i (turn-steps p s)
-  turn-off i true e o = rw (turn-is true e) (marker-off i (o refl))
+  turn-off i true e o = rw (turn-is true e) (marker-off (p .tail) i (o refl))
   turn-off i false e o = rw (turn-is false e) tt
 
   turn-bounded : (N : ℕ) (t : Bool) → with-marker p s ≡ t → Bounded N (turn-steps p s)

@@ -240,3 +240,16 @@ module _ (im : Image) (r : Reading) (n : good-length (length im) ≡ true) (e : 
         omega (arith, s-2 .inside, s-1 .len),
         repair-4-reads fits-3 (s-3 .1),
       )
+
+  -- the phases one by one, each on the image that those before it left
+  pub phase-1 : Starts im im-1 r
+  phase-1 = s-1
+
+  pub phase-2 : Leads im-1 im-2 r-1 r-2
+  phase-2 = s-2
+
+  pub phase-3 : (length im-3 ≡ length im-2) × Reads im-3 k (voided-reading r-2)
+  phase-3 = s-3
+
+  pub phases : mended im r .steps ≡ ((ss-1 ++ ss-2) ++ ss-3) ++ ss-4
+  phases = ap (λ (w : Work). w .steps) all

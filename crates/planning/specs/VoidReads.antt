@@ -101,7 +101,8 @@ void-idle im e h =
     ap₂ (λ (t u : Bool). elim t [ true ↦ shifted (e .at) torn-steps | false ↦ elim u [ true ↦ reserved-steps im e | false ↦ [] ] ]) (z .0)
     (z .1)
 
-row-idle : {im : Image} {lim : ℕ} {o p : Bool} {a b : ℕ} (es : List Entry) → p ≡ false → Row im lim o a es p b
+-- where all records are finished there is nothing to void
+pub row-idle : {im : Image} {lim : ℕ} {o p : Bool} {a b : ℕ} (es : List Entry) → p ≡ false → Row im lim o a es p b
     → (last-steps im es ≡ []) × (voided es ≡ es)
 unfolding last-steps
 row-idle [] h row = (refl, refl)

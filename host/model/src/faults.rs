@@ -2,7 +2,8 @@
 //! document 01's "Errors that look right", K14's clauses, each left out or turned, K6's
 //! room rule with a part left out, names told apart by K2's table alone, a name check
 //! (K5) that takes another name or gives another reason, a walk for a length (K8) that takes
-//! what it must not, and a planner (K1) that is not the direct call's.
+//! what it must not, a planner (K1) that is not the direct call's, and a replay of a trace
+//! (K7) that stops elsewhere.
 //! None is seeded by default.
 use std::cell::Cell;
 
@@ -109,6 +110,24 @@ pub enum Fault {
     WindowCounted,
     /// K5: a planned call gives no reason beside 22.
     PlanWithoutReason,
+    /// K7: an unknown kind is told before the range is tested.
+    KindFirst,
+    /// K7: of a byte above 255 the lowest eight bits are programmed.
+    ByteCutOff,
+    /// K7: an erase's byte above 255 is out of range too.
+    EraseByteJudged,
+    /// K7: an erase from inside a sector is carried out from there.
+    EraseInside,
+    /// K7: the entry that sets a bit is carried out too.
+    StopCarriedOut,
+    /// K7: the position counts from 1.
+    StopFromOne,
+    /// K7: the image before the first entry is not looked at.
+    ZeroNotRead,
+    /// K7: the image at the stop is not looked at.
+    StopNotRead,
+    /// K7: the image behind the last entry is not looked at.
+    LastNotRead,
 }
 
 impl Fault {

@@ -1,4 +1,4 @@
-//! Document 01 with requests K14, K6, K1, K3 and K5 of document 02, read literally, as a
+//! Document 01 with requests K14, K6, K1, K3, K5 and K7 of document 02, read literally, as a
 //! program: what each call answers and leaves.
 //!
 //! One module for each section of 01; quoted text is the documents' own, a request's
@@ -30,6 +30,7 @@ pub mod rules;
 pub mod space;
 pub mod sweep;
 pub mod torn;
+pub mod trace;
 pub mod write;
 
 pub use calls::{format, get, list, mount, put, remove, sweep, Extent, Refusal, Reply, Report};
@@ -45,3 +46,4 @@ pub use plan::{planned, Ask, Plan};
 pub use planner::{hand_out, plan_out, Handing};
 pub use rules::{read_image, settled};
 pub use space::{space, space_told, Space};
+pub use trace::{first_refused, replay, Refusing, Replayed, Trace};

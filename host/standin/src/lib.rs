@@ -4,6 +4,7 @@
 //!
 //! Nothing here is proved and nothing of it is delivered.
 mod plans;
+mod traces;
 
 use model::faults::{self, Fault};
 use model::{NameFault, Reply, Space, Verdict};
@@ -17,7 +18,8 @@ fn fault() -> Option<Fault> {
     static FAULT: OnceLock<Option<Fault>> = OnceLock::new();
     *FAULT.get_or_init(|| {
         let name = std::env::var("STANDIN_FAULT").ok()?;
-        let mut all = Fault::ALL.into_iter().chain(Fault::NAMES).chain(Fault::LENGTHS).chain(Fault::PLANNER);
+        let mut all =
+            Fault::ALL.into_iter().chain(Fault::NAMES).chain(Fault::LENGTHS).chain(Fault::PLANNER).chain(Fault::REPLAY);
         let found = all.find(|f| format!("{f:?}") == name);
         Some(found.unwrap_or_else(|| panic!("no fault {name}")))
     })

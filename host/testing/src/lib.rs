@@ -21,9 +21,11 @@ pub mod names;
 pub mod odd;
 pub mod planner;
 pub mod progress;
+pub mod replayer;
 pub mod rng;
 pub mod stuck;
 pub mod tags;
+pub mod traces;
 pub mod worst;
 
 /// An allowance that no call uses up.

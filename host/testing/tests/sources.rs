@@ -59,7 +59,10 @@ fn stores(line: &str) -> bool {
 #[test]
 fn no_public_call_requires_anything() {
     let mut calls = 0;
-    for (path, text) in ["calls", "plans", "lilota"].into_iter().flat_map(sources) {
+    // a module of its own crate alone
+    let inner = |path: &Path| path.ends_with("replay/src/entry.rt");
+    let public = ["calls", "plans", "replay", "lilota"].into_iter().flat_map(sources);
+    for (path, text) in public.filter(|(path, _)| !inner(path)) {
         for f in functions(&text).iter().filter(|f| f.is_public) {
             assert!(!f.head.contains("requires"), "{}: {} has a requires", path.display(), f.name);
             assert!(f.head.contains("ensures"), "{}: {} says nothing of its answer", path.display(), f.name);

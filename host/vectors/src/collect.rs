@@ -9,6 +9,7 @@ use crate::plans;
 use crate::required::{REQUIRED, SOURCES};
 use crate::rooms::{self, ROOM_STATES};
 use crate::spaces;
+use crate::traces;
 use crate::verdicts;
 use model::*;
 use std::collections::BTreeMap;
@@ -99,7 +100,8 @@ impl Collection {
         let tags = tags.map(|t| format!("tag {t}"));
         let sources = SOURCES.iter().map(|s| format!("source {s}"));
         let lacking = answers.chain(tags).chain(sources).filter(|w| self.count(w) < EACH);
-        let requests = [plans::lacking, spaces::lacking, names::lacking, lengths::lacking, verdicts::lacking];
+        let requests =
+            [plans::lacking, spaces::lacking, names::lacking, lengths::lacking, traces::lacking, verdicts::lacking];
         lacking.chain(requests.iter().flat_map(|lacking| lacking(self))).collect()
     }
 
@@ -294,6 +296,7 @@ pub fn collect() -> Collection {
     spaces::add(&mut c);
     lengths::add(&mut c);
     names::add(&mut c);
+    traces::add(&mut c);
     verdicts::add(&mut c);
     c
 }

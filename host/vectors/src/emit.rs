@@ -161,7 +161,7 @@ pub fn file(vectors: &[(usize, &Vector)]) -> String {
          use Rattle.spec.specs.Run.{fill, lit, build, call, file, entry, report, space, extent, refused-name}\n\
          use Rattle.spec.specs.Run.{check, check-format, check-part, check-place, check-room, check-history}\n\
          use Rattle.spec.specs.Planner as Planner\n\
-         use Rattle.spec.specs.Run.{lent, check-plan, check-in-turn, check-name, check-verdict}\n\
+         use Rattle.spec.specs.Run.{lent, check-plan, check-in-turn, check-name, check-verdict, check-replay, check-watch}\n\
          use Rattle.spec.specs.Run.{length-told, check-length, check-seen}\n",
     );
     for (i, v) in vectors {

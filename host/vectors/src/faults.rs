@@ -7,6 +7,7 @@ use crate::name_faults::NAME_FAULTS;
 use crate::plan_faults::PLAN_FAULTS;
 use crate::room_faults::ROOM_FAULTS;
 use crate::space_faults::SPACE_FAULTS;
+use crate::trace_faults::TRACE_FAULTS;
 use crate::verdict_faults::VERDICT_FAULTS;
 use std::path::Path;
 
@@ -248,6 +249,7 @@ pub fn run(spec: &Path, vectors: &[Vector], jobs: usize, only: Option<&str>) -> 
         .chain(SPACE_FAULTS)
         .chain(LENGTH_FAULTS)
         .chain(NAME_FAULTS)
+        .chain(TRACE_FAULTS)
         .chain(VERDICT_FAULTS)
         .filter(|f| only.is_none_or(|what| f.what.starts_with(what)))
         .collect();

@@ -1,6 +1,6 @@
 //! The test helper Run.antt: what a vector computes. It unfolds every name of the
 //! definitions that can be unfolded.
-use crate::{lengths, names, plans, verdicts};
+use crate::{lengths, names, plans, traces, verdicts};
 use scratch::read;
 use std::path::Path;
 
@@ -189,6 +189,7 @@ pub fn text(specs: &Path) -> Result<String, String> {
             uses += &format!("use Rattle.spec.specs.{m} as {m}\n");
         }
     }
-    let body = [BODY, plans::HELPER, names::HELPER, lengths::HELPER, verdicts::HELPER].concat().replace("NAMES", &names.join(" "));
+    let requests = [plans::HELPER, names::HELPER, lengths::HELPER, traces::HELPER, verdicts::HELPER];
+    let body = [BODY, &requests.concat()].concat().replace("NAMES", &names.join(" "));
     Ok(format!("{HEAD}{uses}{body}"))
 }

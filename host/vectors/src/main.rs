@@ -24,6 +24,8 @@ mod room_faults;
 mod rooms;
 mod space_faults;
 mod spaces;
+mod trace_faults;
+mod traces;
 mod verdict_faults;
 mod verdicts;
 

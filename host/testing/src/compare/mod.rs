@@ -7,6 +7,7 @@ mod naming;
 mod planning;
 mod plans;
 mod tally;
+mod traces;
 mod writing;
 
 use crate::call::{Call, Store};
@@ -17,6 +18,7 @@ use model::Reply;
 use planning::Planning;
 pub use plans::{Plans, PLAN_ANSWERS, PLAN_TAGS};
 pub use tally::Tally;
+pub use traces::{Traces, TRACE_TAGS};
 pub use writing::name_for;
 
 /// A run is given up when so many calls differ.
