@@ -72,7 +72,8 @@ filled-readable s b h =
     let e : filled (number s) k ≡ number (s ++ t) = ap (λ (x : ℕ). number s + x) (letters k h) ∙ sym (number-append s t) in
     let l : length (s ++ t) ≡ 8 = length-append s t ∙ ap (λ (x : ℕ). k + x) (length-replicate {A = ℕ} (8 - k) 0x61) ∙ omega arith in
     let d : digits 8 (number (s ++ t)) ≡ s ++ t =
-    ap (λ (x : ℕ). digits x (number (s ++ t))) (sym l) ∙ digits-number (s ++ t) (each-append (λ x. x < 256) s t b (bytes-letters (8 - k))) in
+    ap (λ (x : ℕ). digits x (number (s ++ t))) (sym l)
+    ∙ digits-number (s ++ t) (each-append (λ x. x < 256) s t b (bytes-letters (8 - k))) in
     ap (λ (x : ℕ). all is-readable (digits 8 x)) e ∙ ap (all is-readable) d ∙ all-append is-readable s t
     ∙ ap (λ (x : Bool). all is-readable s && x) (all-letters (8 - k)) ∙ and-true (all is-readable s)
 
@@ -83,10 +84,12 @@ bytes-digits (suc j) zero w = tt
 bytes-digits (suc j) (suc k) w = (omega arith, bytes-digits j k (w / 256))
 
 -- the k lowest bytes of a word
-pub low-readable : (k w : ℕ) → k < 8 → all is-readable (digits 8 (filled (number (take k (digits 8 w))) k)) ≡ all is-readable (take k (digits 8 w))
+pub low-readable : (k w : ℕ) → k < 8
+    → all is-readable (digits 8 (filled (number (take k (digits 8 w))) k)) ≡ all is-readable (take k (digits 8 w))
 low-readable k w h =
     let s : List ℕ = take k (digits 8 w) in
     let l : length s ≡ k = length-take k (digits 8 w) ∙ ap (min k) (length-digits 8 w) ∙ least in
-    ap (λ (j : ℕ). all is-readable (digits 8 (filled (number s) j))) (sym l) ∙ filled-readable s (bytes-digits k 8 w) (omega (arith, l)) where
+    ap (λ (j : ℕ). all is-readable (digits 8 (filled (number s) j))) (sym l)
+    ∙ filled-readable s (bytes-digits k 8 w) (omega (arith, l)) where
       least : min k 8 ≡ k
       least = omega arith

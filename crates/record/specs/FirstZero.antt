@@ -70,7 +70,8 @@ tops-step k w =
     or-block 8 (A + E) v (b % 128 + 127) b (omega arith) small in
     ap₂ (λ (x y : ℕ). bitAnd (bitOr x y) (128 + 256 * each-byte 128 k)) e2 (sym ew)
     ∙ ap₂ bitAnd e3 et
-    ∙ and-block 8 (bitOr (A + E) v) (each-byte 128 k) (bitOr (b % 128 + 127) b) 128 (or-lt 8 (b % 128 + 127) b (omega arith) small) (omega arith)
+    ∙ and-block 8 (bitOr (A + E) v) (each-byte 128 k) (bitOr (b % 128 + 127) b) 128 (or-lt 8 (b % 128 + 127) b (omega arith) small)
+    (omega arith)
     ∙ ap (λ (x : ℕ). bitAnd (bitOr (A + E) v) (each-byte 128 k) * 2 ^ 8 + x) (top-bit b small)
 
 -- ---- the zeros below the lowest bit

@@ -67,13 +67,15 @@ past-whole (suc k) n reserved (b ∷ s) l h =
           omega (arith, name-past (k + n) reserved b s q, r)
 
 -- a name that ends among k bytes ends there, however many may follow
-ends-within : (k n : ℕ) (reserved : Bool) (s : List ℕ) → name-length k reserved s < k → name-length (k + n) reserved s ≡ name-length k reserved s
+ends-within : (k n : ℕ) (reserved : Bool) (s : List ℕ) → name-length k reserved s < k
+    → name-length (k + n) reserved s ≡ name-length k reserved s
 ends-within zero n reserved s h = absurd (omega arith)
 ends-within (suc k) n reserved [] h = absurd (omega (arith, name-open k reserved, h))
 ends-within (suc k) n reserved (b ∷ s) h =
     let e : suc k + n ≡ suc (k + n) = omega arith in
     ap (λ (m : ℕ). name-length m reserved (b ∷ s)) e ∙ go (ends-name reserved b) refl (ends-within k n reserved s) where
-      go : (t : Bool) → ends-name reserved b ≡ t → (name-length k reserved s < k → name-length (k + n) reserved s ≡ name-length k reserved s)
+      go : (t : Bool) → ends-name reserved b ≡ t
+          → (name-length k reserved s < k → name-length (k + n) reserved s ≡ name-length k reserved s)
           → name-length (suc (k + n)) reserved (b ∷ s) ≡ name-length (suc k) reserved (b ∷ s)
       go true q ih = name-there (k + n) reserved b s q ∙ sym (name-there k reserved b s q)
       go false q ih =

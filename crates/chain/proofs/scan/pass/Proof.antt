@@ -28,11 +28,13 @@ enum-known-s c = c .match .keys1
 
 returns : tie.Need-returns Inv-loop μ-loop
 returns c =
-    let l = c .before .before .before .before .loop in (
+    let c4 = c .before .before .before .before in
+    let c7 = c4 .before .before .before in
+    let l = c4 .loop in (
       fold-end passed _ _ none-yet _ _ (l .inv .fold) (c .before .advance .result) (c .before .advance .ensures .0)
           (other-step (c .before .advance .result) (c .match .keys2)),
       l .inv .spots,
-      end-inside (c .before .before .before .before .before .before .before .args .image .now) (l .g .cursor) (c .before .advance .result) (c .before .advance .ensures .1),
+      end-inside (c7 .args .image .now) (l .g .cursor) (c .before .advance .result) (c .before .advance .ensures .1),
     )
 
 noted-requires : tie.Need-noted-requires Inv-loop μ-loop
@@ -44,20 +46,34 @@ noted-requires c κs =
 
 pass-plain-requires : tie.Need-pass-plain-requires Inv-loop μ-loop
 pass-plain-requires c κs =
-    let q = passing-step (c .before .before .before .before .before .before .before .before .before .loop .inv) (passes (c .before .before .before .before .before .before .advance .ensures) (c .before .before .before .before .s .given .1)) (c .before .before .noted .ensures) in
-    (c .before .before .before .before .before .before .before .before .before .before .before .before .pre .0, q, c .if1 .taken)
+    let c4 = c .before .before .before .before in
+    let c6 = c4 .before .before in
+    let c9 = c6 .before .before .before in
+    let c12 = c9 .before .before .before in
+    let q = passing-step (c9 .loop .inv) (passes (c6 .advance .ensures) (c4 .s .given .1)) (c .before .before .noted .ensures) in
+    (c12 .pre .0, q, c .if1 .taken)
 
 loop-less : tie.Need-loop-less Inv-loop μ-loop
-loop-less c = omega (arith, c .pass-plain .ensures .1, passes (c .before .before .before .before .before .before .before .advance .ensures) (c .before .before .before .before .before .s .given .1) .onward .less)
+loop-less c =
+    let c5 = c .before .before .before .before .before in
+    let c7 = c5 .before .before in
+    omega (arith, c .pass-plain .ensures .1, passes (c7 .advance .ensures) (c5 .s .given .1) .onward .less)
 
 loop-again : tie.Need-loop-again Inv-loop μ-loop
 loop-again c = c .pass-plain .ensures .0
 
 loop-less-2 : tie.Need-loop-less-2 Inv-loop μ-loop
-loop-less-2 c = passes (c .before .before .before .before .before .before .advance .ensures) (c .before .before .before .before .s .given .1) .onward .less
+loop-less-2 c =
+    let c4 = c .before .before .before .before in
+    let c6 = c4 .before .before in
+    passes (c6 .advance .ensures) (c4 .s .given .1) .onward .less
 
 loop-again-2 : tie.Need-loop-again-2 Inv-loop μ-loop
-loop-again-2 c = passing-step (c .before .before .before .before .before .before .before .before .before .loop .inv) (passes (c .before .before .before .before .before .before .advance .ensures) (c .before .before .before .before .s .given .1)) (c .before .before .noted .ensures)
+loop-again-2 c =
+    let c4 = c .before .before .before .before in
+    let c6 = c4 .before .before in
+    let c9 = c6 .before .before .before in
+    passing-step (c9 .loop .inv) (passes (c6 .advance .ensures) (c4 .s .given .1)) (c .before .before .noted .ensures)
 
 pub pass-spec : {M : Type 1} → statement M
 pass-spec =

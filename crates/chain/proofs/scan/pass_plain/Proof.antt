@@ -23,7 +23,9 @@ loop-holds : tie.Need-loop-holds Inv-loop μ-loop
 loop-holds c = (λ start s h. h, c .before .pre .2, omega arith)
 
 near-requires : tie.Need-near-requires Inv-loop μ-loop
-near-requires c κs = c .before .loop .inv .0 (c .before .before .before .args .start) (c .before .before .before .pre .0) (c .before .before .before .pre .1) .fold .sound
+near-requires c κs =
+    let c3 = c .before .before .before in
+    c .before .loop .inv .0 (c3 .args .start) (c3 .pre .0) (c3 .pre .1) .fold .sound
 
 enum-known-s : tie.Need-enum-known-s Inv-loop μ-loop
 enum-known-s c = c .match .keys1
@@ -33,33 +35,48 @@ enum-told c = c .match .keys2
 
 returns : tie.Need-returns Inv-loop μ-loop
 returns c =
-    let l = c .before .before .before .before .loop in
-    (l .inv .0 (c .before .before .before .before .before .before .args .start) (c .before .before .before .before .before .before .pre .0) (c .before .before .before .before .before .before .pre .1), l .inv .2)
+    let c4 = c .before .before .before .before in
+    let c6 = c4 .before .before in
+    let l = c4 .loop in
+    (l .inv .0 (c6 .args .start) (c6 .pre .0) (c6 .pre .1), l .inv .2)
 
 is-file-requires : tie.Need-is-file-requires Inv-loop μ-loop
 is-file-requires c κs = (rw (c .before .before .s .given .1) at (c .before .before .before .before .near .ensures)) .0 .whole
 
 fine-with-requires : tie.Need-fine-with-requires Inv-loop μ-loop
-fine-with-requires c κs = (rw (c .before .before .before .s .given .1) at (c .before .before .before .before .before .near .ensures)) .0 .whole
+fine-with-requires c κs =
+    let c3 = c .before .before .before in
+    let c5 = c3 .before .before in
+    (rw (c3 .s .given .1) at (c5 .near .ensures)) .0 .whole
 
 noted-plain-requires : tie.Need-noted-plain-requires Inv-loop μ-loop
 noted-plain-requires c κs =
-    let p = c .before .before .before .before .before .before .before .before .before .before .pre in
-    let w = c .before .before .before .before .before .before .before .before .loop .inv .0 (c .before .before .before .before .before .before .before .before .before .before .args .start) (p .0) (p .1) in
-    let t = (rw (c .before .before .before .before .s .given .1) at (c .before .before .before .before .before .before .near .ensures)) .0 in
+    let c4 = c .before .before .before .before in
+    let c6 = c4 .before .before in
+    let c8 = c6 .before .before in
+    let c10 = c8 .before .before in
+    let p = c10 .pre in
+    let w = c8 .loop .inv .0 (c10 .args .start) (p .0) (p .1) in
+    let t = (rw (c4 .s .given .1) at (c6 .near .ensures)) .0 in
     (omega (arith, w .few, p .0 .inside, p .0 .room, p .0 .small), w .files, addable-size (p .0) w t)
 
 loop-less : tie.Need-loop-less Inv-loop μ-loop
-loop-less c = (rw (c .before .before .before .before .before .s .given .1) at (c .before .before .before .before .before .before .before .near .ensures)) .0 .onward .less
+loop-less c =
+    let c5 = c .before .before .before .before .before in
+    let c7 = c5 .before .before in
+    (rw (c5 .s .given .1) at (c7 .near .ensures)) .0 .onward .less
 
 loop-again : tie.Need-loop-again Inv-loop μ-loop
 loop-again c =
-    let l = c .before .before .before .before .before .before .before .before .before .loop in
-    let t = rw (c .before .before .before .before .before .s .given .1) at (c .before .before .before .before .before .before .before .near .ensures) in
+    let c5 = c .before .before .before .before .before in
+    let c7 = c5 .before .before in
+    let c9 = c7 .before .before in
+    let l = c9 .loop in
+    let t = rw (c5 .s .given .1) at (c7 .near .ensures) in
     let u =
     c .noted-plain .ensures
-    ∙ noted-plain-is (l .g .tally) (c .before .before .before .before .before .s .given .0 .0) (c .before .before .is-file .result) (c .before .fine-with .result)
-    (c .before .before .before .before .before .s .given .0 .1 .0 .pending) (t .0 .whole) (l .inv .1) (t .1) (c .before .before .is-file .ensures) (c .before .fine-with .ensures)
+    ∙ noted-plain-is (l .g .tally) (c5 .s .given .0 .0) (c .before .before .is-file .result) (c .before .fine-with .result)
+    (c5 .s .given .0 .1 .0 .pending) (t .0 .whole) (l .inv .1) (t .1) (c .before .before .is-file .ensures) (c .before .fine-with .ensures)
     (t .0 .onward .pending) in
     let more = ap (λ (x : Tally). x .records) (c .noted-plain .ensures) in (
       λ start s h. passing-step (l .inv .0 start s h) (t .0) u,

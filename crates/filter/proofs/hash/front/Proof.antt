@@ -48,7 +48,9 @@ loop-again c =
     (c .wide .ensures .1)
 
 returns : tie.Need-returns Inv-loop μ-loop
-returns c = joined-all (c .before .before .before .args .name .now) (c .before .before .before .args .k) (c .before .loop .i) (c .before .loop .w) (c .before .loop .inv) (omega arith)
+returns c =
+    let c3 = c .before .before .before in
+    joined-all (c3 .args .name .now) (c3 .args .k) (c .before .loop .i) (c .before .loop .w) (c .before .loop .inv) (omega arith)
 
 pub front-spec : {M : Type 1} → statement M
 front-spec =

@@ -22,7 +22,8 @@ mixed-requires c κs = search needs
 
 loop-holds : tie.Need-loop-holds Inv-loop μ-loop
 loop-holds c =
-    let s = c .before .before .before .args .name .now in
+    let c3 = c .before .before .before in
+    let s = c3 .args .name .now in
     hashed-first s (length s % 8) (c .mixed .result) refl (c .mixed .ensures .0 ∙ ap (mixed 0) (c .before .front .ensures)) (c .mixed .ensures .1)
 
 word-at-requires : tie.Need-word-at-requires Inv-loop μ-loop

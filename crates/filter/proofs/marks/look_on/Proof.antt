@@ -23,8 +23,10 @@ mixed-requires c κs = search needs
 
 returns : tie.Need-returns
 returns c =
-    let x = c .before .before .before .before .before .args .x in
-    let w = c .before .before .before .word-at .ensures in (
+    let c3 = c .before .before .before in
+    let c5 = c3 .before .before in
+    let x = c5 .args .x in
+    let w = c3 .word-at .ensures in (
       c .mixed .ensures .0 ∙ ap (mixed (x .hash)) (w .1),
       c .mixed .ensures .1,
       c .before .both .ensures ∙ ap (λ (b : Bool). x .readable && b) (c .before .before .all-readable .ensures ∙ ap (all is-readable) (w .0)),

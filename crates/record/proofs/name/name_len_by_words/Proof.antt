@@ -34,11 +34,13 @@ add-result c = omega (arith, c .before .before .before .before .loop .inv .1, c 
 
 returns : tie.Need-returns Inv-loop μ-loop
 returns c =
-    let l = c .before .before .before .before .loop in
+    let c4 = c .before .before .before .before in
+    let c7 = c4 .before .before .before in
+    let l = c4 .loop in
     let w = c .before .before .word-at in
     let k = c .before .first-zero in
     let e =
-    passed-end (c .before .before .before .before .before .before .before .args .part .now) (l .i) (k .result) (w .result) (l .inv .3) (omega (arith, l .inv .1)) (omega (arith, l .inv .0))
+    passed-end (c7 .args .part .now) (l .i) (k .result) (w .result) (l .inv .3) (omega (arith, l .inv .1)) (omega (arith, l .inv .0))
     (w .ensures .0) (k .ensures) (c .if1 .taken) in
     (omega (arith, l .inv .1), λ h. e)
 
@@ -50,13 +52,15 @@ loop-less c = omega (arith, c .before .before .before .before .loop .inv .1, c .
 
 loop-again : tie.Need-loop-again Inv-loop μ-loop
 loop-again c =
-    let l = c .before .before .before .before .loop in
+    let c4 = c .before .before .before .before in
+    let c7 = c4 .before .before .before in
+    let l = c4 .loop in
     let w = c .before .before .word-at in
     let k = c .before .first-zero in (
       l .inv .0,
       l .inv .1,
       omega arith,
-      passed-word (c .before .before .before .before .before .before .before .args .part .now) (l .i) (k .result) (w .result) (l .inv .3) (omega (arith, l .inv .1)) (omega (arith, l .inv .0))
+      passed-word (c7 .args .part .now) (l .i) (k .result) (w .result) (l .inv .3) (omega (arith, l .inv .1)) (omega (arith, l .inv .0))
           (w .ensures .0) (k .ensures) (omega arith),
     )
 
