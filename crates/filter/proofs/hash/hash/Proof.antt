@@ -24,7 +24,8 @@ loop-holds : tie.Need-loop-holds Inv-loop μ-loop
 loop-holds c =
     let c3 = c .before .before .before in
     let s = c3 .args .name .now in
-    hashed-first s (length s % 8) (c .mixed .result) refl (c .mixed .ensures .0 ∙ ap (mixed 0) (c .before .front .ensures)) (c .mixed .ensures .1)
+    let m = c .mixed in
+    hashed-first s (length s % 8) (m .result) refl (m .ensures .0 ∙ ap (mixed 0) (c .before .front .ensures)) (m .ensures .1)
 
 word-at-requires : tie.Need-word-at-requires Inv-loop μ-loop
 word-at-requires c κs = omega (arith, c .before .loop .inv .even)

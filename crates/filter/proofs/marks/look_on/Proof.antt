@@ -29,7 +29,8 @@ returns c =
     let w = c3 .word-at .ensures in (
       c .mixed .ensures .0 ∙ ap (mixed (x .hash)) (w .1),
       c .mixed .ensures .1,
-      c .before .both .ensures ∙ ap (λ (b : Bool). x .readable && b) (c .before .before .all-readable .ensures ∙ ap (all is-readable) (w .0)),
+      c .before .both .ensures
+          ∙ ap (λ (b : Bool). x .readable && b) (c .before .before .all-readable .ensures ∙ ap (all is-readable) (w .0)),
     )
 
 pub look-on-spec : {M : Type 1} → statement M
