@@ -23,6 +23,7 @@ ghost use Rattle.laws.specs.Length.{Addable};
 ghost use Rattle.chain.specs.Cursor.{Cursor-sound, left, unfinished-at};
 ghost use Rattle.chain.specs.Rest.{rest, entry-of};
 ghost use Rattle.chain.specs.Fold.{Whole};
+ghost use Rattle.chain.specs.FileLaws.{is-file};
 ghost use Rattle.chain.specs.Tally.{name-fine, count-with, sums-with, Addable-size, noted, noted-plain, none-yet};
 ghost use Rattle.chain.specs.Tally.{passed, Passing, Spots, End-inside};
 
@@ -129,19 +130,18 @@ fn sums_with(s: Sums, size: usize, file: bool) -> Sums
     }
 }
 
-// The tally with one record more; pending: it is unfinished.
-pub fn noted(image: &[u8], t: Tally, e: Spot, pending: bool) -> Tally
+// The tally with one record more: whether it is a file, whether all names so far are good, whether it is unfinished.
+pub fn noted_as(image: &[u8], t: Tally, e: Spot, file: bool, fine: bool, pending: bool) -> Tally
     requires { ⌜ Whole (now image) e × Addable (t .records) × (pending ≡ unfinished-at (now image) (e .at))
-        × (t .files ≤ t .records) × Addable-size (t .sums) e ⌝ }
+        × (t .files ≤ t .records) × Addable-size (t .sums) e × (file ≡ is-file (entry-of (now image) e))
+        × (fine ≡ (t .fine && name-fine (entry-of (now image) e))) ⌝ }
     ensures { λ r. ⌜ r ≡ noted t (entry-of (now (image .entry)) e) ⌝ }
 {
     let before = t.sums;
     let first = t.first;
     let second = t.second;
-    let file = is_file(image, e);
     let files = count_with(t.files, file);
     let sums = sums_with(before, size(e.n, e.d), file);
-    let fine = fine_with(image, t.fine, e);
     let further = further_with(image, t.further, t.records, e);
     let one = spot_if(t.records == 0, e, first);
     let two = spot_if(t.records <= 1, e, second);
@@ -156,6 +156,17 @@ pub fn noted(image: &[u8], t: Tally, e: Spot, pending: bool) -> Tally
         further: further,
         pending: pending,
     }
+}
+
+// The same, where nothing is known of the record yet.
+pub fn noted(image: &[u8], t: Tally, e: Spot, pending: bool) -> Tally
+    requires { ⌜ Whole (now image) e × Addable (t .records) × (pending ≡ unfinished-at (now image) (e .at))
+        × (t .files ≤ t .records) × Addable-size (t .sums) e ⌝ }
+    ensures { λ r. ⌜ r ≡ noted t (entry-of (now (image .entry)) e) ⌝ }
+{
+    let file = is_file(image, e);
+    let fine = fine_with(image, t.fine, e);
+    noted_as(image, t, e, file, fine, pending)
 }
 
 // The same for a plain record behind the second, a file or not: the first, the second and the marks stay.

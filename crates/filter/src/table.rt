@@ -1,10 +1,9 @@
 // A Bloom filter over names: a table of bits, of which each name sets a few. A name whose bits are not all set was not added before.
 use crate::Signature;
 use crate::hash::HASH_LIMIT;
-use crate::hash::hash;
 ghost use mathlib.Core.Path.{_≡_};
 ghost use Prim.Native.Nat.{_<_, _^_};
-ghost use Rattle.filter.specs.Table.{four-bits, two-bits, signature-by, signature-of, In-table, has, with};
+ghost use Rattle.filter.specs.Table.{four-bits, two-bits, signature-by, In-table, has, with};
 
 // The words of the table, 4 KiB. With 2,048 names about one is taken for added before that was not.
 pub const WORDS: usize = 512;
@@ -47,12 +46,6 @@ pub fn signature_by(h: u64) -> Signature
         other: other as usize,
         more: more,
     }
-}
-
-pub fn signature(name: &[u8]) -> Signature
-    ensures { λ r. ⌜ (r ≡ signature-of (now (name .entry))) × In-table r ⌝ }
-{
-    signature_by(hash(name))
 }
 
 // Sets the bits, and says whether all of them were set.
