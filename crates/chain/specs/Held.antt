@@ -8,10 +8,10 @@ use lib.ListN.{length}
 use Rattle.spec.specs.Basics.{any, same, Each}
 use Rattle.spec.specs.Record.{Entry, name-of}
 use Rattle.spec.specs.Files.{named, named-as, has-named}
-use Rattle.chain.specs.declared.Signature.{Signature}
+use Rattle.filter.specs.declared.Signature.{Signature}
 use Rattle.chain.specs.declared.Earlier.{Earlier}
 use Rattle.chain.specs.declared.Repeats.{Repeats}
-use Rattle.chain.specs.Filter.{signature-of, In-table, has, with, has-set, has-kept, length-with}
+use Rattle.filter.specs.Table.{signature-of, In-table, has, with, has-set, has-kept, length-with}
 use Rattle.chain.specs.FileLaws.{is-file}
 use Rattle.chain.specs.Repeats.{repeats-of, earlier-of, repeats-with, repeats-none, repeats-same, repeats-more, repeats-first}
 use Rattle.chain.specs.Prefix.{each-last}

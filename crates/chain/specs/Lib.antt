@@ -12,7 +12,6 @@ pub mod Sums
 pub mod Tally
 pub mod Faithful
 pub mod TallyLaws
-pub mod Filter
 pub mod Repeats
 pub mod Prefix
 pub mod Held

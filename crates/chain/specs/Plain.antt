@@ -16,7 +16,7 @@ use Rattle.spec.specs.Record.{size-of, low-of, high-of, status-of, spare-of}
 use Rattle.spec.specs.Next.{is-torn-marker, kind, record-at, next-at, next}
 use Rattle.spec.specs.Chain.{allowed}
 use Rattle.laws.specs.Next.{next-arm}
-use Rattle.record.specs.Within.{Within}
+use Rattle.record.specs.Within.{Within, Record-if}
 use Rattle.chain.specs.declared.Cursor.{Cursor}
 use Rattle.chain.specs.declared.Spot.{Spot}
 use Rattle.chain.specs.declared.Item.{Item}
@@ -69,13 +69,13 @@ arm : (s : List ℕ) → 8 ≤ length s → Plainly s → record-at false s ≡ 
 unfolding next-at
 arm s l p = next-arm s (status-of s) (kind (low-of s) (high-of s) (status-of s) (spare-of s)) Kind.Record l refl refl (p .kind)
 
-pub plain-front : (s : List ℕ) (r : Next) → 8 ≤ length s → Plainly s → r ≡ record-at false s → Within r (length s) → Plain-front s r
-plain-front s (Next.Record n d) l p e w = (e ∙ arm s l p, w, p .finished, p .low)
-plain-front s Next.Wrap l p e w = tt
-plain-front s Next.TornWrap l p e w = tt
-plain-front s Next.Clear l p e w = tt
-plain-front s Next.Over l p e w = tt
-plain-front s Next.Bad l p e w = tt
+pub plain-front : (s : List ℕ) (r : Next) → 8 ≤ length s → Plainly s → Record-if s r → Plain-front s r
+plain-front s (Next.Record n d) l p e = (e .0 ∙ arm s l p, e .1, p .finished, p .low)
+plain-front s Next.Wrap l p e = tt
+plain-front s Next.TornWrap l p e = tt
+plain-front s Next.Clear l p e = tt
+plain-front s Next.Over l p e = tt
+plain-front s Next.Bad l p e = tt
 
 -- ---- the step over it
 

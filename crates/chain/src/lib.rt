@@ -1,7 +1,6 @@
 // The chain of an image: where its head is, the records from there on, the files among them, and whether their names repeat; the free run.
 // Everything here only looks. Nothing passes over data bytes but the search for the head and the check of the free run.
 pub mod files;
-pub mod filter;
 pub mod free;
 pub mod head;
 pub mod live;
@@ -78,14 +77,6 @@ pub struct Skipped {
     pub left: usize,
 }
 
-// What a name sets in the table of bits: these bits of one word, and more of another.
-pub struct Signature {
-    pub word: usize,
-    pub bits: u64,
-    pub other: usize,
-    pub more: u64,
-}
-
 // Whether an FC record and whether an F8 record of some name stand in a part of the chain.
 pub struct Earlier {
     pub committed: bool,
@@ -117,4 +108,10 @@ pub struct Tally {
 pub struct Pass {
     pub tally: Tally,
     pub end: Item,
+}
+
+// The tally of the records before a cursor.
+pub struct Going {
+    pub cursor: Cursor,
+    pub tally: Tally,
 }

@@ -4,29 +4,24 @@ use crate::Cursor;
 use crate::Earlier;
 use crate::Item;
 use crate::Repeats;
-use crate::Signature;
 use crate::Spot;
-use crate::files::is_file;
 use crate::files::named;
 use crate::files::named_as;
-use crate::filter::WORDS;
-use crate::filter::add;
-use crate::filter::signature;
 use crate::skip::skip_other_names;
 use crate::walk::advance;
+use filter::Signature;
+use filter::table::WORDS;
+use filter::table::add;
 use spec::Status;
 ghost use mathlib.Core.Path.{_≡_};
 ghost use mathlib.Core.Bool.{_||_};
-ghost use Prim.Native.Nat.{_<_};
-ghost use lib.ListN.{length};
 ghost use Rattle.spec.specs.Files.{named, named-as};
 ghost use Rattle.chain.specs.Cursor.{Cursor-sound};
 ghost use Rattle.chain.specs.Rest.{entry-of};
 ghost use Rattle.chain.specs.Fold.{Whole};
 ghost use Rattle.chain.specs.Repeats.{earlier-of, repeats-with};
 ghost use Rattle.chain.specs.Prefix.{front, front-and, earlier-with};
-ghost use Rattle.chain.specs.Filter.{In-table};
-ghost use Rattle.chain.specs.Held.{signed, Carried, File-signed};
+ghost use Rattle.chain.specs.Held.{Carried, File-signed};
 
 fn either(a: bool, b: bool) -> bool
     ensures { λ r. ⌜ r ≡ (a || b) ⌝ }
@@ -103,16 +98,6 @@ fn repeats_with(n: Repeats, committed: bool, f: Earlier) -> Repeats
     }
 }
 
-// The bits of the record's name.
-fn signed(image: &[u8], e: Spot) -> Signature
-    requires { ⌜ Whole (now image) e ⌝ }
-    ensures { λ r. ⌜ (r ≡ signed (entry-of (now (image .entry)) e)) × In-table r ⌝ }
-{
-    let at = e.at + 8;
-    let end = at + e.n;
-    signature(&image[at..end])
-}
-
 // What is carried along, n, with the record e behind those that were passed, as many as count says: these records tell. It is seldom
 // called, and two functions call it, so that the compiler keeps it out of the loop over plain records.
 fn repeats_by(image: &[u8], start: Cursor, count: usize, n: Repeats, e: Spot) -> Repeats
@@ -124,7 +109,8 @@ fn repeats_by(image: &[u8], start: Cursor, count: usize, n: Repeats, e: Spot) ->
     repeats_with(n, named(image, Status::COMMITTED, e), f)
 }
 
-// The same of n and the table, for a file whose name has the bits s. Where not all of them are set, no record of its name was passed.
+// The same of n and the table, for a file whose name has the bits s. Where not all of them are set, no record of its name was passed. The
+// spot is made anew for the call that seldom comes, so that the compiler keeps e in registers.
 pub fn repeats_signed(
     image: &[u8],
     start: Cursor,
@@ -139,28 +125,17 @@ pub fn repeats_signed(
     ensures { λ r. ⌜ Carried (front-and (now (image .entry)) start count e) r (now (table .exit)) ⌝ }
 {
     if add(table, s) {
-        return repeats_by(image, start, count, n, e);
-    }
-    n
-}
-
-// The same for any record.
-pub fn repeats_and(
-    image: &[u8],
-    start: Cursor,
-    count: usize,
-    table: &mut [u64; WORDS],
-    n: Repeats,
-    e: Spot,
-) -> Repeats
-    requires { ⌜ Cursor-sound (now image) start × Whole (now image) e × Carried (front (now image) start count) n (now table) ⌝ }
-    ensures { λ r. ⌜ Carried (front-and (now (image .entry)) start count e) r (now (table .exit)) ⌝ }
-{
-    if !is_file(image, e) {
-        return n;
-    }
-    if add(table, signed(image, e)) {
-        return repeats_by(image, start, count, n, e);
+        return repeats_by(
+            image,
+            start,
+            count,
+            n,
+            Spot {
+                at: e.at,
+                n: e.n,
+                d: e.d,
+            },
+        );
     }
     n
 }

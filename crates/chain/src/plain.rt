@@ -3,7 +3,7 @@
 use crate::Cursor;
 use crate::Nearby;
 use crate::Spot;
-use record::record_of;
+use record::plain_record_of;
 use record::size;
 use spec::HIGH;
 use spec::Next;
@@ -37,7 +37,7 @@ fn plain_of(part: &[u8]) -> Next
         return Next::Bad;
     }
     if plain_header(part) {
-        return record_of(part, false);
+        return plain_record_of(part);
     }
     Next::Bad
 }

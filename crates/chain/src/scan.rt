@@ -1,11 +1,14 @@
 // One pass over the chain: the tally of its records.
 use crate::Cursor;
+use crate::Going;
 use crate::Item;
+use crate::Nearby;
 use crate::Pass;
 use crate::Spot;
 use crate::Sums;
 use crate::Tally;
 use crate::files::is_file;
+use crate::plain::near;
 use crate::walk::advance;
 use record::bytes::is_clean;
 use record::size;
@@ -17,11 +20,12 @@ ghost use lib.ListN.{length};
 ghost use lib.Dec.{ltb};
 ghost use Rattle.spec.specs.Reading.{marked};
 ghost use Rattle.laws.specs.Length.{Addable};
-ghost use Rattle.chain.specs.Cursor.{Cursor-sound, unfinished-at};
+ghost use Rattle.chain.specs.Cursor.{Cursor-sound, left, unfinished-at};
 ghost use Rattle.chain.specs.Rest.{rest, entry-of};
 ghost use Rattle.chain.specs.Fold.{Whole};
+ghost use Rattle.chain.specs.FileLaws.{is-file};
 ghost use Rattle.chain.specs.Tally.{name-fine, count-with, sums-with, Addable-size, noted, noted-plain, none-yet};
-ghost use Rattle.chain.specs.Tally.{passed, Spots, End-inside};
+ghost use Rattle.chain.specs.Tally.{passed, Passing, Spots, End-inside};
 
 // An FC or F8 record with a name has a good one.
 pub fn name_fine(image: &[u8], e: Spot) -> bool
@@ -126,19 +130,18 @@ fn sums_with(s: Sums, size: usize, file: bool) -> Sums
     }
 }
 
-// The tally with one record more; pending: it is unfinished.
-pub fn noted(image: &[u8], t: Tally, e: Spot, pending: bool) -> Tally
+// The tally with one record more: whether it is a file, whether all names so far are good, whether it is unfinished.
+pub fn noted_as(image: &[u8], t: Tally, e: Spot, file: bool, fine: bool, pending: bool) -> Tally
     requires { ⌜ Whole (now image) e × Addable (t .records) × (pending ≡ unfinished-at (now image) (e .at))
-        × (t .files ≤ t .records) × Addable-size (t .sums) e ⌝ }
+        × (t .files ≤ t .records) × Addable-size (t .sums) e × (file ≡ is-file (entry-of (now image) e))
+        × (fine ≡ (t .fine && name-fine (entry-of (now image) e))) ⌝ }
     ensures { λ r. ⌜ r ≡ noted t (entry-of (now (image .entry)) e) ⌝ }
 {
     let before = t.sums;
     let first = t.first;
     let second = t.second;
-    let file = is_file(image, e);
     let files = count_with(t.files, file);
     let sums = sums_with(before, size(e.n, e.d), file);
-    let fine = fine_with(image, t.fine, e);
     let further = further_with(image, t.further, t.records, e);
     let one = spot_if(t.records == 0, e, first);
     let two = spot_if(t.records <= 1, e, second);
@@ -153,6 +156,17 @@ pub fn noted(image: &[u8], t: Tally, e: Spot, pending: bool) -> Tally
         further: further,
         pending: pending,
     }
+}
+
+// The same, where nothing is known of the record yet.
+pub fn noted(image: &[u8], t: Tally, e: Spot, pending: bool) -> Tally
+    requires { ⌜ Whole (now image) e × Addable (t .records) × (pending ≡ unfinished-at (now image) (e .at))
+        × (t .files ≤ t .records) × Addable-size (t .sums) e ⌝ }
+    ensures { λ r. ⌜ r ≡ noted t (entry-of (now (image .entry)) e) ⌝ }
+{
+    let file = is_file(image, e);
+    let fine = fine_with(image, t.fine, e);
+    noted_as(image, t, e, file, fine, pending)
 }
 
 // The same for a plain record behind the second, a file or not: the first, the second and the marks stay.
@@ -198,20 +212,54 @@ pub fn none_yet() -> Tally
     }
 }
 
-// The one pass over the chain.
+// With the plain records from the cursor on, behind the second record.
+fn pass_plain(image: &[u8], start: Cursor, first: Going) -> Going
+    requires { ⌜ Cursor-sound (now image) start × Passing (now image) start (first .cursor) (first .tally)
+        × (2 ≤ first .tally .records) ⌝ }
+    ensures { λ r. ⌜ Passing (now (image .entry)) start (r .cursor) (r .tally) × (left (r .cursor) ≤ left (first .cursor)) ⌝ }
+{
+    let mut g = first;
+    loop {
+        let c = g.cursor;
+        let s = near(image, c);
+        let Nearby::Record { spot: e, next } = s else {
+            return g;
+        };
+        let t = g.tally;
+        let file = is_file(image, e);
+        let fine = fine_with(image, t.fine, e);
+        let u = noted_plain(t, e, file, fine, next.pending);
+        g = Going {
+            cursor: next,
+            tally: u,
+        };
+    }
+}
+
+// The one pass over the chain; plain records are gone over by themselves.
 pub fn pass(image: &[u8], start: Cursor) -> Pass
     requires { ⌜ Cursor-sound (now image) start × (16 ≤ length (now image)) ⌝ }
     ensures { λ r. ⌜ (r ≡ passed none-yet (rest (now (image .entry)) start)) × Spots (now (image .entry)) (r .tally)
         × End-inside (now (image .entry)) (r .end) ⌝ }
 {
-    let mut c = start;
-    let mut t = none_yet();
+    let mut g = Going {
+        cursor: start,
+        tally: none_yet(),
+    };
     loop {
+        let c = g.cursor;
+        let t = g.tally;
         let s = advance(image, c);
         let Item::Record { spot: e, next } = s else {
             return Pass { tally: t, end: s };
         };
-        t = noted(image, t, e, next.pending);
-        c = next;
+        let u = noted(image, t, e, next.pending);
+        g = Going {
+            cursor: next,
+            tally: u,
+        };
+        if 2 <= u.records {
+            g = pass_plain(image, start, g);
+        }
     }
 }

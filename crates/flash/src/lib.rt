@@ -108,7 +108,7 @@ fn wide(x: u8) -> u64
 }
 
 // Eight bytes as one number, the first the lowest: of eight neighbours the compiler makes one load.
-fn joined(a: u8, b: u8, c: u8, d: u8, e: u8, f: u8, g: u8, h: u8) -> u64
+pub fn joined(a: u8, b: u8, c: u8, d: u8, e: u8, f: u8, g: u8, h: u8) -> u64
     ensures { λ r. ⌜ r ≡ word a b c d e f g h ⌝ }
 {
     let low = wide(a) + 0x100 * wide(b) + 0x1_0000 * wide(c) + 0x100_0000 * wide(d);

@@ -5,6 +5,7 @@ use mathlib.Core.Path.{_≡_, sym, ap, subst, _∙_}
 use mathlib.Core.Bool.{Bool, true, false, _&&_}
 use mathlib.Core.List.{List}
 use lib.ListN.{length}
+use lib.Dec.{eqb}
 use Rattle.chain.specs.declared.Cursor.{Cursor}
 use Rattle.chain.specs.declared.Spot.{Spot}
 use Rattle.chain.specs.declared.Item.{Item}
@@ -24,7 +25,7 @@ use Rattle.chain.specs.FileLaws.{is-file}
 use Rattle.chain.specs.Repeats.{repeats-of}
 use Rattle.chain.specs.Prefix.{Gone, gone-none, gone-all, gone-more, front, front-and, front-more}
 use Rattle.chain.specs.Held.{Carried, carried-none, carried-same}
-use Rattle.reading.specs.Sought.{has-hash, not-seen, found-of, seen-or, Sought, sought-more, sought-none}
+use Rattle.reading.specs.Sought.{hash-of, has-hash, not-seen, found-of, seen-or, Sought, sought-more, sought-none}
 
 abbrev pub nothing-yet : Cursor → Gathered
 nothing-yet c =
@@ -86,6 +87,29 @@ module _ {image : List ℕ} {start : Cursor} {wanted : ℕ} where
               (rw (l, o) (sought-more e (w .passes .whole) (g .sight) (w .state .sought)));
         }
 
+    -- a file's name tells of the names so far
+    pub fine-file : {ok fine : Bool} → is-file x ≡ true → fine ≡ (t .fine && ok) → ok ≡ name-ok (name-of x) → fine ≡ (t .fine && name-fine x)
+    unfolding name-fine
+    fine-file y a o = rw (name-fine, y, ← o) a
+
+    pub fine-other : is-file x ≡ false → t .fine ≡ (t .fine && name-fine x)
+    unfolding name-fine
+    fine-other y = rw (name-fine, y) (sym (and-true (t .fine)))
+
+    -- a file: its hash tells whether it is the one that is wanted
+    pub gathering-named : {u : Tally} {m : Repeats} {f : Sight} {after : List ℕ} (h : ℕ) → is-file x ≡ true → h ≡ hash-of x → u ≡ noted t x
+        → Carried (front-and image start (t .records) e) m after → f ≡ seen-or (eqb h wanted) (g .sight) e
+        → Gathering image start wanted (record { cursor = c; tally = u; repeats = m; sight = f }) after
+    gathering-named h y k q a o =
+        let fits : (is-file x && has-hash wanted x) ≡ has-hash wanted x = rw y in
+        let same : eqb h wanted ≡ has-hash wanted x = ap (λ (j : ℕ). eqb j wanted) k in
+        gathering-next q a (o ∙ ap (λ (b : Bool). seen-or b (g .sight) e) (same ∙ sym fits))
+
+    -- any other record
+    pub gathering-other : {u : Tally} → is-file x ≡ false → u ≡ noted t x
+        → Gathering image start wanted (record { cursor = c; tally = u; repeats = g .repeats; sight = g .sight }) table
+    gathering-other y q = gathering-next q (carried-same x (w .state .carried) y) (rw y)
+
     -- a plain one behind the second, a file or not
     module _ {u : Tally} (two : 2 ≤ t .records) (plain : marked x ≡ false) where
       more : (file : Bool) {fine : Bool} → u ≡ noted-plain t e file fine (c .pending) → 2 ≤ u .records
@@ -100,13 +124,9 @@ module _ {image : List ℕ} {start : Cursor} {wanted : ℕ} where
           → u ≡ noted-plain t e true fine (c .pending) → fine ≡ (t .fine && ok) → ok ≡ name-ok (name-of x)
           → Carried (front-and image start (t .records) e) m after
           → Gathering image start wanted (record { cursor = c; tally = u; repeats = m; sight = g .sight }) after × (2 ≤ u .records)
-      unfolding name-fine
-      gathering-file y k q a o h = (gathering-next (same true q (sym y) (rw (name-fine, y, ← o) a)) h (rw (y, k)), more true q)
+      gathering-file y k q a o h = (gathering-next (same true q (sym y) (fine-file y a o)) h (rw (y, k)), more true q)
 
       pub gathering-dead : is-file x ≡ false → u ≡ noted-plain t e false (t .fine) (c .pending)
           → Gathering image start wanted (record { cursor = c; tally = u; repeats = g .repeats; sight = g .sight }) table
           × (2 ≤ u .records)
-      unfolding name-fine
-      gathering-dead y q =
-          let n : u ≡ noted t x = same false q (sym y) (rw (name-fine, y) (sym (and-true (t .fine)))) in
-          (gathering-next n (carried-same x (w .state .carried) y) (rw y), more false q)
+      gathering-dead y q = (gathering-other y (same false q (sym y) (fine-other y)), more false q)

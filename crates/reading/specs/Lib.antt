@@ -1,7 +1,6 @@
 pub mod Bridge
 pub mod Ends
 pub mod NamesLaw
-pub mod Marks
 pub mod Sought
 pub mod Gather
 pub mod Read

@@ -18,10 +18,10 @@ use Rattle.chain.specs.Rest.{entry-of}
 use Rattle.chain.specs.Fold.{Whole}
 use Rattle.chain.specs.FileLaws.{is-file}
 use Rattle.chain.specs.Seek.{found-in, Found-whole}
-use Rattle.chain.specs.Filter.{hash-from}
+use Rattle.filter.specs.Hash.{name-hash}
 
 abbrev pub hash-of : Entry → ℕ
-hash-of e = hash-from 0 (name-of e)
+hash-of e = name-hash (name-of e)
 
 abbrev pub has-hash : ℕ → Entry → Bool
 has-hash h e = eqb (hash-of e) h
@@ -141,17 +141,17 @@ module _ (p q : Entry → Bool) (narrow : (x : Entry) → q x ≡ true → p x �
         first-yes q x xs (ap q y ∙ k) ∙ z
     go false g ih = first-no q x xs (narrow-no x g) ∙ ih (sym (first-no p x xs g) ∙ h)
 
-same-hash : (name : List ℕ) (x : Entry) → has-name name x ≡ true → has-hash (hash-from 0 name) x ≡ true
-same-hash name x h = eq-eqb (hash-of x) (hash-from 0 name) (ap (hash-from 0) (same-is (name-of x) name h))
+same-hash : (name : List ℕ) (x : Entry) → has-name name x ≡ true → has-hash (name-hash name) x ≡ true
+same-hash name x h = eq-eqb (hash-of x) (name-hash name) (ap (name-hash) (same-is (name-of x) name h))
 
 module _ {image : List ℕ} (name : List ℕ) {es : List Entry} where
   -- no file has the hash, and none the name
-  pub named-none : Sought image (hash-from 0 name) es Found.Nothing → none ≡ first-such (has-name name) (keep is-file es)
-  named-none h = sym (none-narrow (has-hash (hash-from 0 name)) (has-name name) (same-hash name) (keep is-file es) (sym (h .first)))
+  pub named-none : Sought image (name-hash name) es Found.Nothing → none ≡ first-such (has-name name) (keep is-file es)
+  named-none h = sym (none-narrow (has-hash (name-hash name)) (has-name name) (same-hash name) (keep is-file es) (sym (h .first)))
 
   -- the first that has the hash has the name
-  pub named-some : {e : Spot} → Sought image (hash-from 0 name) es (Found.At e) → has-name name (entry-of image e) ≡ true
+  pub named-some : {e : Spot} → Sought image (name-hash name) es (Found.At e) → has-name name (entry-of image e) ≡ true
       → some (entry-of image e) ≡ first-such (has-name name) (keep is-file es)
   named-some {e} h k =
-      let p = has-hash (hash-from 0 name) in
+      let p = has-hash (name-hash name) in
       sym (some-narrow p (has-name name) (same-hash name) (entry-of image e) k (keep is-file es) (sym (h .first)))

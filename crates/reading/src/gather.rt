@@ -2,12 +2,10 @@
 // by themselves, so that the compiler keeps most of what is carried along in registers.
 use crate::FullPass;
 use crate::Gathered;
-use crate::NameMarks;
-use crate::marks::both;
 use crate::marks::marks_of;
 use crate::sought::found_of;
 use crate::sought::not_seen;
-use crate::sought::seen_with;
+use crate::sought::seen_or;
 use chain::Cursor;
 use chain::Item;
 use chain::Nearby;
@@ -15,28 +13,60 @@ use chain::Pass;
 use chain::Repeats;
 use chain::Spot;
 use chain::files::is_file;
-use chain::filter::WORDS;
-use chain::names::repeats_and;
 use chain::names::repeats_signed;
 use chain::plain::near;
 use chain::scan::none_yet;
-use chain::scan::noted;
+use chain::scan::noted_as;
 use chain::scan::noted_plain;
 use chain::walk::advance;
+use filter::NameMarks;
+use filter::marks::both;
+use filter::table::WORDS;
 ghost use mathlib.Core.Path.{_≡_};
-ghost use mathlib.Core.Bool.{false};
+ghost use mathlib.Core.Bool.{true, false};
 ghost use Prim.Native.Nat.{_≤_};
 ghost use lib.ListN.{length};
 ghost use Rattle.chain.specs.Cursor.{Cursor-sound, left};
 ghost use Rattle.spec.specs.Record.{name-of};
 ghost use Rattle.chain.specs.Rest.{rest, entry-of};
+ghost use Rattle.chain.specs.FileLaws.{is-file};
 ghost use Rattle.chain.specs.Tally.{none-yet, passed, Spots, End-inside};
-ghost use Rattle.reading.specs.Marks.{Marked-as};
+ghost use Rattle.filter.specs.Marks.{Marked-as};
 ghost use Rattle.chain.specs.Repeats.{repeats-of};
 ghost use Rattle.reading.specs.Sought.{has-hash, Sought};
 ghost use Rattle.reading.specs.Gather.{nothing-yet, Gathering, Noting, Plain-file};
 
-// What is gathered, with one record more, which stands before next.
+// What is gathered, with one record more, which stands before next and is a file.
+fn gather_named(
+    image: &[u8],
+    start: Cursor,
+    table: &mut [u64; WORDS],
+    g: Gathered,
+    e: Spot,
+    next: Cursor,
+    wanted: u64,
+) -> Gathered
+    requires { ⌜ Cursor-sound (now image) start × Noting (now image) start wanted e next g (now table)
+        × (is-file (entry-of (now image) e) ≡ true) ⌝ }
+    ensures { λ r. ⌜ Gathering (now (image .entry)) start wanted r (now (table .exit)) × (r .cursor ≡ next) ⌝ }
+{
+    let t = g.tally;
+    let n = g.repeats;
+    let f = g.sight;
+    let name = marks_of(image, e);
+    let s = name.signature;
+    let o = seen_or(name.hash == wanted, f, e);
+    let m = repeats_signed(image, start, t.records, table, n, e, s);
+    let u = noted_as(image, t, e, true, both(t.fine, name.fine), next.pending);
+    Gathered {
+        cursor: next,
+        tally: u,
+        repeats: m,
+        sight: o,
+    }
+}
+
+// The same for any record.
 fn gather_one(
     image: &[u8],
     start: Cursor,
@@ -49,17 +79,18 @@ fn gather_one(
     requires { ⌜ Cursor-sound (now image) start × Noting (now image) start wanted e next g (now table) ⌝ }
     ensures { λ r. ⌜ Gathering (now (image .entry)) start wanted r (now (table .exit)) × (r .cursor ≡ next) ⌝ }
 {
+    if is_file(image, e) {
+        return gather_named(image, start, table, g, e, next, wanted);
+    }
     let t = g.tally;
     let n = g.repeats;
     let f = g.sight;
-    let o = seen_with(image, wanted, f, e);
-    let m = repeats_and(image, start, t.records, table, n, e);
-    let u = noted(image, t, e, next.pending);
+    let u = noted_as(image, t, e, false, t.fine, next.pending);
     Gathered {
         cursor: next,
         tally: u,
-        repeats: m,
-        sight: o,
+        repeats: n,
+        sight: f,
     }
 }
 

@@ -15,11 +15,11 @@ use chain::Headed;
 use chain::Item;
 use chain::Stretch;
 use chain::Tally;
-use chain::filter::HASH_LIMIT;
-use chain::filter::hash;
 use chain::head::head;
 use chain::scan::pass;
 use chain::walk::start_at;
+use filter::hash::HASH_LIMIT;
+use filter::hash::hash;
 use spec::Ending;
 use spec::NO_FAULT;
 use spec::Place;
@@ -37,7 +37,7 @@ ghost use Rattle.reading.specs.Read.{first-cursor, answered, Told, Quiet
 ghost use Rattle.reading.specs.Read.{Judged-for, File-told, Named-file};
 ghost use Rattle.chain.specs.Rest.{rest};
 ghost use Rattle.chain.specs.Repeats.{repeats-of};
-ghost use Rattle.chain.specs.Filter.{hash-from};
+ghost use Rattle.filter.specs.Hash.{name-hash};
 ghost use Rattle.reading.specs.Sought.{Sought};
 ghost use Rattle.chain.specs.HeadSkip.{Blank-there};
 ghost use Rattle.reading.specs.Survey.{Seen, told, survey-of};
@@ -188,7 +188,7 @@ pub fn read_settled(image: &[u8]) -> Read
 // What a judgement for a name says, if the image is settled.
 fn named_of(image: &[u8], name: &[u8], j: Judged) -> NamedRead
     requires { ⌜ Judged-well (now image) (Judgement.Good j)
-        × Judged-for (now image) (hash-from 0 (now name)) (Judgement.Good j) ⌝ }
+        × Judged-for (now image) (name-hash (now name)) (Judgement.Good j) ⌝ }
     ensures { λ r. ⌜ (r .read ≡ read-settled j) × File-told (now (image .entry)) (now (name .entry)) (j .survey) (r .file) ⌝ }
 {
     let f = j.found;

@@ -9,19 +9,11 @@ use chain::Cursor;
 use chain::Found;
 use chain::Pass;
 use chain::Repeats;
-use chain::Signature;
 use chain::Spot;
 use chain::Tally;
 use spec::Ending;
 use spec::Place;
 use spec::Refusal;
-
-// Whether a name is a good one, what it sets in the table, and its hash.
-pub struct NameMarks {
-    pub fine: bool,
-    pub signature: Signature,
-    pub hash: u64,
-}
 
 // Where a file was found; seen is 0 where none was. A loop carries this and not Found, for the compiler copies an enum, and the bytes
 // beside a bool, at each turn.

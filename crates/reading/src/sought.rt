@@ -1,24 +1,20 @@
 // The file of a name, found in the pass of a judgement: the pass keeps the first file whose name has the same hash.
 use crate::Sight;
-use crate::marks::both;
 use chain::Cursor;
 use chain::Found;
 use chain::Spot;
 use chain::files::file_named;
 use chain::files::has_name;
-use chain::files::is_file;
-use chain::filter::hash;
+use filter::marks::both;
 ghost use mathlib.Core.Path.{_≡_};
-ghost use mathlib.Core.Bool.{_&&_};
 ghost use Rattle.spec.specs.Basics.{keep, first-such};
 ghost use Rattle.spec.specs.Files.{has-name};
 ghost use Rattle.chain.specs.Cursor.{Cursor-sound};
-ghost use Rattle.chain.specs.Rest.{rest, entry-of};
-ghost use Rattle.chain.specs.Fold.{Whole};
+ghost use Rattle.chain.specs.Rest.{rest};
 ghost use Rattle.chain.specs.FileLaws.{is-file};
 ghost use Rattle.chain.specs.Seek.{found-in, Found-whole};
-ghost use Rattle.chain.specs.Filter.{hash-from};
-ghost use Rattle.reading.specs.Sought.{hash-of, has-hash, not-seen, found-of, seen-or, Sought};
+ghost use Rattle.filter.specs.Hash.{name-hash};
+ghost use Rattle.reading.specs.Sought.{not-seen, found-of, seen-or, Sought};
 
 pub fn not_seen() -> Sight
     ensures { λ r. ⌜ r ≡ not-seen ⌝ }
@@ -64,40 +60,10 @@ pub fn seen_or(fits: bool, f: Sight, e: Spot) -> Sight
     }
 }
 
-// The hash of the record's name.
-fn hash_of(image: &[u8], e: Spot) -> u64
-    requires { ⌜ Whole (now image) e ⌝ }
-    ensures { λ r. ⌜ r ≡ hash-of (entry-of (now (image .entry)) e) ⌝ }
-{
-    let at = e.at + 8;
-    let end = at + e.n;
-    hash(&image[at..end])
-}
-
-// The record is a file, and its name has this hash.
-fn fits(image: &[u8], wanted: u64, e: Spot) -> bool
-    requires { ⌜ Whole (now image) e ⌝ }
-    ensures { λ r. ⌜ r ≡ (is-file (entry-of (now (image .entry)) e) && has-hash wanted (entry-of (now (image .entry)) e)) ⌝ }
-{
-    if is_file(image, e) {
-        return hash_of(image, e) == wanted;
-    }
-    false
-}
-
-// What was seen, with one record more.
-pub fn seen_with(image: &[u8], wanted: u64, f: Sight, e: Spot) -> Sight
-    requires { ⌜ Whole (now image) e ⌝ }
-    ensures { λ r. ⌜ r
-        ≡ seen-or (is-file (entry-of (now (image .entry)) e) && has-hash wanted (entry-of (now (image .entry)) e)) f e ⌝ }
-{
-    seen_or(fits(image, wanted, e), f, e)
-}
-
 // The file of this name: f, which has the name's hash, unless the two names only share it.
 pub fn file_of(image: &[u8], start: Cursor, name: &[u8], f: Found) -> Found
     requires { ⌜ Cursor-sound (now image) start
-        × Sought (now image) (hash-from 0 (now name)) (rest (now image) start .entries) f ⌝ }
+        × Sought (now image) (name-hash (now name)) (rest (now image) start .entries) f ⌝ }
     ensures { λ r. ⌜ (found-in (now (image .entry)) r
         ≡ first-such (has-name (now (name .entry))) (keep is-file (rest (now (image .entry)) start .entries)))
         × Found-whole (now (image .entry)) r ⌝ }

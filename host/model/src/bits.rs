@@ -4,14 +4,31 @@ use std::collections::BTreeSet;
 
 pub const WORDS: usize = 512;
 
-/// The factors of the hash, of the words and of the bits.
-pub const HASH: u32 = 0x9E37_79B1;
+/// The factors of a word's lower and upper half, of the table's words and of the bits.
+pub const LOW: u64 = 0x1F13_0137;
+pub const HIGH: u64 = 0x1DD0_4BBB;
 pub const WORD: u32 = 0x85EB_CA77;
 pub const BITS: u32 = 0xC2B2_AE3D;
 
-/// The sum of b_i * HASH^(n-i) modulo 2^32.
+/// Up to eight bytes as one number, the first the lowest.
+pub fn number(bytes: &[u8]) -> u64 {
+    bytes.iter().rev().fold(0, |all, &byte| all << 8 | u64::from(byte))
+}
+
+/// With one word more: the sum of both products, of which the halves are added.
+fn mixed(h: u64, word: u64) -> u64 {
+    let y = ((word & 0xFFFF_FFFF) + h) * LOW + (word >> 32) * HIGH;
+    (y >> 32) + (y & 0xFFFF_FFFF)
+}
+
+/// Before it is cut off at 2^32: the bytes that make no whole word come first, then the words.
+pub fn long_hash(name: &[u8]) -> u64 {
+    let (first, words) = name.split_at(name.len() % 8);
+    words.chunks(8).fold(mixed(0, number(first)), |h, word| mixed(h, number(word)))
+}
+
 pub fn hash(name: &[u8]) -> u32 {
-    name.iter().fold(0, |h, &byte| h.wrapping_mul(HASH).wrapping_add(byte.into()))
+    long_hash(name) as u32
 }
 
 /// What a name sets: up to four bits of one word, and up to two of another.
@@ -75,13 +92,15 @@ pub fn colliding<'a>(names: impl Iterator<Item = &'a [u8]>) -> usize {
 mod tests {
     use super::*;
 
-    /// Worked out by the formula with numbers of any length: 61 hex; "ab": 61 * 9E3779B1 + 62 modulo 2^32.
+    /// Worked out with numbers of any length: 61 hex times 1F130137 is B:C63375D7, 6261 times it BF1:0CAA83D7, and 64636261 times it and
+    /// 68676665 times 1DD04BBB are 18582643:3286E69E, of which the halves are added. In "abcdefgh" no byte comes before the word.
     #[test]
     fn the_formula() {
-        assert_eq!((hash(b""), hash(b"a"), hash(b"ab")), (0, 0x61, 0xF305_1C73));
+        assert_eq!((hash(b""), hash(b"a"), hash(b"ab")), (0, 0xC633_75E2, 0x0CAA_8FC8));
+        assert_eq!((hash(b"abcdefgh"), hash(b"night basal")), (0x4ADF_0CE1, 0x399D_A5F7));
         let bits = |numbers: &[u32]| numbers.iter().fold(0, |all, k| all | 1u64 << k);
-        let a = Signature { word: 380, bits: bits(&[49, 27, 16, 5]), other: 350, more: bits(&[55, 5]) };
-        let ab = Signature { word: 440, bits: bits(&[19, 56, 15, 49]), other: 399, more: bits(&[55, 29]) };
+        let a = Signature { word: 186, bits: bits(&[27, 56, 26, 50]), other: 408, more: bits(&[32, 3]) };
+        let ab = Signature { word: 186, bits: bits(&[30, 54, 56, 50]), other: 338, more: bits(&[37, 62]) };
         assert_eq!((Signature::of(b"a"), Signature::of(b"ab")), (a, ab));
     }
 }

@@ -2,7 +2,7 @@
 //! depend on it.
 use crate::maker::Maker;
 use crate::rng::Rng;
-use model::bits::{hash, Signature, BITS, HASH, WORD, WORDS};
+use model::bits::{long_hash, number, Signature, BITS, HIGH, LOW, WORD, WORDS};
 use model::good_name;
 use std::collections::BTreeSet;
 use std::fmt;
@@ -120,53 +120,50 @@ fn inverse(factor: u32) -> u32 {
     (0..4).fold(factor, |x, _| x.wrapping_mul(2u32.wrapping_sub(factor.wrapping_mul(x))))
 }
 
-/// The good names of three bytes.
-struct Triples {
-    by_hash: Vec<(u32, [u8; 3])>,
-    /// where in `by_hash` the hashes with these upper 20 bits begin
-    from: Vec<u32>,
-    words: Vec<Vec<[u8; 3]>>,
-}
-
-const UPPER: u32 = 20;
-
-fn triples() -> &'static Triples {
-    static TRIPLES: OnceLock<Triples> = OnceLock::new();
+/// The good names of three bytes, by the word of the table that they set four bits of.
+fn triples() -> &'static [Vec<[u8; 3]>] {
+    static TRIPLES: OnceLock<Vec<Vec<[u8; 3]>>> = OnceLock::new();
     TRIPLES.get_or_init(|| {
         let good = 0x21..=0x7E;
         let pairs = good.clone().flat_map(|a| good.clone().map(move |b| (a, b)));
         let all = pairs.flat_map(|(a, b)| good.clone().map(move |c| [a, b, c])).filter(|name| good_name(name));
-        let mut by_hash: Vec<(u32, [u8; 3])> = all.map(|name| (hash(&name), name)).collect();
-        by_hash.sort();
-        let from = (0..=1u64 << UPPER).map(|i| by_hash.partition_point(|x| u64::from(x.0) >> (32 - UPPER) < i) as u32);
         let mut words = vec![Vec::new(); WORDS];
-        by_hash.iter().for_each(|x| words[Signature::of_hash(x.0).word].push(x.1));
-        Triples { from: from.collect(), words, by_hash }
+        all.for_each(|name| words[Signature::of(&name).word].push(name));
+        words
     })
 }
 
-impl Triples {
-    fn of_hash(&self, hash: u32) -> Option<[u8; 3]> {
-        let upper = (hash >> (32 - UPPER)) as usize;
-        let some = &self.by_hash[self.from[upper] as usize..self.from[upper + 1] as usize];
-        some.iter().find(|x| x.0 == hash).map(|x| x.1)
-    }
+/// A number and the sum of its halves are equal modulo this.
+const FOLD: u64 = 0xFFFF_FFFF;
+
+/// What LOW is undone by, modulo FOLD: FOLD is 3 * 5 * 17 * 257 * 65537, and no factor of LOW, so that LOW^65536 is 1.
+fn undo_low() -> u64 {
+    static UNDO: OnceLock<u64> = OnceLock::new();
+    *UNDO.get_or_init(|| (1..65536).fold(1, |all, _| all * LOW % FOLD))
 }
 
-/// A good name of this length, 6 at least, and hash: any bytes up to the last three, which one in some 5,000 triples
-/// before them has.
+/// The lower four bytes of a last word with these upper bytes, behind bytes of the hash h; folding leaves it open whether the hash was cut
+/// off at 2^32, and not every four bytes may stand in a name.
+fn lower_bytes(h: u64, upper: &[u8], hash: u64) -> Option<[u8; 4]> {
+    let rest = (hash + FOLD - number(upper) * HIGH % FOLD) % FOLD;
+    let low = (rest * undo_low() % FOLD + FOLD - h % FOLD) % FOLD;
+    let bytes = (low as u32).to_le_bytes();
+    bytes.iter().all(|b| (0x21..=0x7E).contains(b)).then_some(bytes)
+}
+
+/// A good name of this length, 6 at least, and hash: any bytes but four of the last word, which one in some 50 gives.
 fn with_hash(r: &mut Rng, length: usize, hash: u32) -> Vec<u8> {
-    let all = &triples().by_hash;
-    let cube = HASH.wrapping_pow(3);
-    let mut name: Vec<u8> = (6..length).map(|_| 0x21 + r.below(94) as u8).collect();
-    let front = model::bits::hash(&name).wrapping_mul(cube);
-    let start = r.below(all.len() as u64) as usize;
-    let found = (start..all.len()).chain(0..start).find_map(|i| {
-        let before = front.wrapping_add(all[i].0).wrapping_mul(cube);
-        triples().of_hash(hash.wrapping_sub(before)).map(|last| [all[i].1, last].concat())
-    });
-    name.extend(found.expect("one in 5,000 of 800,000"));
-    name
+    let front: Vec<u8> = (8..length).map(|_| 0x21 + r.below(94) as u8).collect();
+    let h = if length < 8 { 0 } else { long_hash(&front) };
+    loop {
+        let upper: Vec<u8> = (4..length.min(8)).map(|_| 0x21 + r.below(94) as u8).collect();
+        let cut_off = u64::from(r.chance(50));
+        let Some(lower) = lower_bytes(h, &upper, u64::from(hash) + cut_off) else { continue };
+        let name = [&front[..], &lower, &upper].concat();
+        if good_name(&name) && model::bits::hash(&name) == hash {
+            return name;
+        }
+    }
 }
 
 /// Three names of three bytes, some times, of which the first two set the bits of the last.
@@ -177,7 +174,7 @@ fn short_names() -> &'static [[Vec<u8>; 3]] {
 
 /// Those whose first and last have this word.
 fn short_names_of(word: usize) -> Vec<[Vec<u8>; 3]> {
-    let signed = |word: usize| triples().words[word].iter().map(|name| (name, Signature::of(name)));
+    let signed = |word: usize| triples()[word].iter().map(|name| (name, Signature::of(name)));
     let here: Vec<(&[u8; 3], Signature)> = signed(word).collect();
     let mut found = Vec::new();
     for (first, s) in &here {

@@ -1,18 +1,17 @@
--- marks_of: the part that is lent is the record's name.
-use mathlib.Core.Path.{subst}
+-- marks_of: the part that is lent begins with the record's name.
+use Prim.Native.Nat.{ℕ, _+_, _-_}
+use native.Mathlib.Omega.{arith}
+use mathlib.Core.Path.{sym, ap, subst, _∙_}
 use mathlib.Core.List.{List}
-use Prim.Native.Nat.{ℕ}
-use Rattle.chain.specs.FileLaws.{name-part}
-use Rattle.reading.specs.Marks.{Marked-as}
+use lib.ListN.{length, take, drop}
+use lib.Seq.{take-take, drop-drop}
+use Rattle.filter.specs.Marks.{Marked-as}
 use borrow.Author.Needs.{needs}
 use Rattle.reading.proofs.marks.marks_of.Statement.{statement}
 use Rattle.reading.proofs.marks.marks_of.Tie as tie
 
 add-at : tie.Need-add-at
 add-at c = search needs
-
-add-end : tie.Need-add-end
-add-end c = search needs
 
 sub-marks : tie.Need-sub-marks
 sub-marks c = search needs
@@ -28,10 +27,14 @@ marks-requires c κs = search needs
 
 returns : tie.Need-returns
 returns c =
-    let a = c .before .before .before .before .before .args in
-    subst (λ (name : List ℕ). Marked-as name (c .marks .result)) (name-part (a .image .now) (a .e .at) (a .e .n)) (c .marks .ensures)
+    let a = c .before .before .before .before .args in
+    let n = a .e .n in
+    let from = a .e .at + 8 in
+    subst (λ (name : List ℕ). Marked-as name (c .marks .result))
+    (take-take n (length (a .image .now) - from) (drop from (a .image .now)) (omega arith)
+    ∙ ap (take n) (sym (drop-drop 8 (a .e .at) (a .image .now))))
+    (c .marks .ensures)
 
 pub marks-of-spec : {M : Type 1} → statement M
 marks-of-spec =
-    tie.close
-    (tie.spec add-at add-end sub-marks part-marks-start part-marks-end marks-requires returns)
+    tie.close (tie.spec add-at sub-marks part-marks-start part-marks-end marks-requires returns)

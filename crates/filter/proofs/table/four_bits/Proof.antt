@@ -1,0 +1,23 @@
+-- Each bit is where the definition has it.
+use borrow.Author.Needs.{needs}
+use Rattle.filter.proofs.table.four_bits.Statement.{statement}
+use Rattle.filter.proofs.table.four_bits.Tie as tie
+
+bit-requires : tie.Need-bit-requires
+bit-requires c κs = search needs
+
+bit-requires-2 : tie.Need-bit-requires-2
+bit-requires-2 c κs = search needs
+
+bit-requires-3 : tie.Need-bit-requires-3
+bit-requires-3 c κs = search needs
+
+bit-requires-4 : tie.Need-bit-requires-4
+bit-requires-4 c κs = search needs
+
+returns : tie.Need-returns
+returns c = rw (c .before .before .before .bit .ensures, c .before .before .bit2 .ensures, c .before .bit3 .ensures, c .bit4 .ensures)
+
+pub four-bits-spec : {M : Type 1} → statement M
+four-bits-spec =
+    tie.close (tie.spec bit-requires bit-requires-2 bit-requires-3 bit-requires-4 returns)

@@ -1,0 +1,142 @@
+-- A Bloom filter over names: the bits that a name sets, and that they stay set.
+use Prim.Native.Nat.{ℕ, zero, suc, _+_, _*_, _/_, _%_, _≤_, _<_, _^_, min, max}
+use native.Mathlib.Omega.{arith}
+use mathlib.Core.Path.{_≡_, refl, sym, ap, _∙_}
+use mathlib.Core.Bool.{Bool, true, false, _&&_}
+use mathlib.Core.List.{List, [], _∷_}
+use lib.ListN.{length, drop, getD, set, length-set, drop-of-length-le}
+use lib.Dec.{eqb}
+use lib.Bits.{bitAnd, bitOr, and-step, or-step, or-comm, and-zero-r, and-self}
+use lib.Arith.{bin-ind}
+use lib.Seq.{getD-set-same, getD-set-other}
+use borrow.Author.Tests.{eq-eqb, eqb-true, eqb-false}
+use Rattle.laws.specs.Tests.{and-left, and-right}
+use Rattle.filter.specs.declared.Signature.{Signature}
+use Rattle.filter.specs.Hash.{name-hash}
+
+-- ---- a name's bits
+
+abbrev pub four-bits : ℕ → ℕ
+four-bits x = bitOr (bitOr (bitOr (2 ^ (x / 0x400_0000)) (2 ^ (x / 0x10_0000 % 64))) (2 ^ (x / 0x4000 % 64))) (2 ^ (x / 0x100 % 64))
+
+abbrev pub two-bits : ℕ → ℕ
+two-bits x = bitOr (2 ^ (x / 0x100 % 64)) (2 ^ (x / 4 % 64))
+
+-- of a name with the hash h
+unfoldable pub signature-by : ℕ → Signature
+signature-by h =
+    record {
+      word = h * 0x85EB_CA77 % 0x1_0000_0000 / 0x80_0000;
+      bits = four-bits (h * 0xC2B2_AE3D % 0x1_0000_0000);
+      other = h * 0x85EB_CA77 % 0x1_0000_0000 / 0x4000 % 512;
+      more = two-bits (h * 0x85EB_CA77 % 0x1_0000_0000);
+    }
+
+abbrev pub signature-of : List ℕ → Signature
+signature-of name = signature-by (name-hash name)
+
+-- both words are words of the table
+pub record In-table (s : Signature) : Type 0 where
+  pub word : s .word < 512
+  pub other : s .other < 512
+
+-- ---- the table
+
+-- these bits are set in this word
+unfoldable pub has-bits : List ℕ → ℕ → ℕ → Bool
+has-bits table at bits = eqb (bitAnd (getD table at 0) bits) bits
+
+-- with these bits set there
+unfoldable pub with-bits : List ℕ → ℕ → ℕ → List ℕ
+with-bits table at bits = set table at (bitOr (getD table at 0) bits)
+
+-- all bits are set
+abbrev pub has : List ℕ → Signature → Bool
+has table s = has-bits table (s .word) (s .bits) && has-bits table (s .other) (s .more)
+
+-- with these bits set
+abbrev pub with : List ℕ → Signature → List ℕ
+with table s = with-bits (with-bits table (s .word) (s .bits)) (s .other) (s .more)
+
+-- ---- bits that are set stay set
+
+or-half : (a b : ℕ) → bitOr a b / 2 ≡ bitOr (a / 2) (b / 2)
+or-half a b = omega (arith, or-step a b)
+
+or-digit : (a b : ℕ) → bitOr a b % 2 ≡ max (a % 2) (b % 2)
+or-digit a b = omega (arith, or-step a b)
+
+-- m's bits are set in a, and so they are when others are set too
+or-keeps : (m a b : ℕ) → bitAnd a m ≡ m → bitAnd (bitOr a b) m ≡ m
+or-keeps m =
+    bin-ind (λ (n : ℕ). (a b : ℕ) → bitAnd a n ≡ n → bitAnd (bitOr a b) n ≡ n) (λ a b e. and-zero-r (bitOr a b))
+    (λ n ih a b e.
+    let h : bitAnd (a / 2) (n / 2) ≡ n / 2 = omega (arith, and-step a n) in
+    let k : bitAnd (bitOr a b / 2) (n / 2) ≡ n / 2 = rw (or-half a b) (ih (a / 2) (b / 2) h) in
+    omega (arith, and-step a n, and-step (bitOr a b) n, or-digit a b))
+    m
+
+or-has : (a b : ℕ) → bitAnd (bitOr a b) b ≡ b
+or-has a b = ap (λ (x : ℕ). bitAnd x b) (or-comm a b) ∙ or-keeps b b a (and-self b)
+
+length-bits : (table : List ℕ) (at bits : ℕ) → length (with-bits table at bits) ≡ length table
+unfolding with-bits
+length-bits table at bits = simp length-set
+
+pub length-with : (table : List ℕ) (s : Signature) → length (with table s) ≡ length table
+length-with table s = length-bits (with-bits table (s .word) (s .bits)) (s .other) (s .more) ∙ length-bits table (s .word) (s .bits)
+
+-- of one word
+module _ (table : List ℕ) (at bits : ℕ) (l : at < length table) where
+  -- bits that were set are
+  bits-set : has-bits (with-bits table at bits) at bits ≡ true
+  unfolding has-bits with-bits
+  bits-set =
+      rw (getD-set-same table at (bitOr (getD table at 0) bits) 0 l)
+      (eq-eqb (bitAnd (bitOr (getD table at 0) bits) bits) bits (or-has (getD table at 0) bits))
+
+  -- and stay so
+  bits-kept : (a b : ℕ) → has-bits table a b ≡ true → has-bits (with-bits table at bits) a b ≡ true
+  unfolding has-bits with-bits
+  bits-kept a b h = go (eqb a at) refl where
+    v : ℕ
+    v = bitOr (getD table at 0) bits
+
+    pending : bitAnd (getD table a 0) b ≡ b
+    pending = eqb-true (bitAnd (getD table a 0) b) b h
+
+    go : (t : Bool) → eqb a at ≡ t → eqb (bitAnd (getD (set table at v) a 0) b) b ≡ true
+    go true e =
+        let q : a ≡ at = eqb-true a at e in
+        rw (q, getD-set-same table at v 0 l)
+        (eq-eqb (bitAnd v b) b (or-keeps b (getD table at 0) bits (rw q at pending)))
+    go false e = rw (getD-set-other table at a v 0 (eqb-false a at e)) h
+
+and-both : (a b : Bool) → a ≡ true → b ≡ true → (a && b) ≡ true
+and-both a b h g = rw (h, g)
+
+-- of both
+module _ (table : List ℕ) (s : Signature) (w : In-table s) (size : 512 ≤ length table) where
+  first : s .word < length table
+  first = omega (arith, w .word)
+
+  second : s .other < length (with-bits table (s .word) (s .bits))
+  second = rw (length-bits table (s .word) (s .bits)) (omega (arith, w .other))
+
+  both-kept : (a b : ℕ) → has-bits table a b ≡ true → has-bits (with table s) a b ≡ true
+  both-kept a b h =
+      bits-kept (with-bits table (s .word) (s .bits)) (s .other) (s .more) second a b
+      (bits-kept table (s .word) (s .bits) first a b h)
+
+  pub has-set : has (with table s) s ≡ true
+  has-set =
+      and-both _ _ (
+      bits-kept (with-bits table (s .word) (s .bits)) (s .other) (s .more) second (s .word) (s .bits)
+      (bits-set table (s .word) (s .bits) first)
+      )
+      (bits-set (with-bits table (s .word) (s .bits)) (s .other) (s .more) second)
+
+  pub has-kept : (t : Signature) → has table t ≡ true → has (with table s) t ≡ true
+  has-kept t h =
+      and-both _ _ (both-kept (t .word) (t .bits) (and-left (has-bits table (t .word) (t .bits)) (has-bits table (t .other) (t .more)) h))
+      (both-kept (t .other) (t .more) (and-right (has-bits table (t .word) (t .bits)) (has-bits table (t .other) (t .more)) h))

@@ -1,0 +1,26 @@
+// A Bloom filter over names, and what is read of a name at once: whether it is a good one, its hash, its bits in the table.
+// A name is read by words of eight bytes. No answer of the store depends on how well the hash spreads.
+pub mod hash;
+pub mod marks;
+pub mod table;
+
+// What a name sets in the table of bits: these bits of one word, and more of another.
+pub struct Signature {
+    pub word: usize,
+    pub bits: u64,
+    pub other: usize,
+    pub more: u64,
+}
+
+// Whether a name is a good one, what it sets in the table, and its hash.
+pub struct NameMarks {
+    pub fine: bool,
+    pub signature: Signature,
+    pub hash: u64,
+}
+
+// What was seen of a name's bytes so far: their hash, and whether all of them can be read.
+pub struct Looked {
+    pub hash: u64,
+    pub readable: bool,
+}
