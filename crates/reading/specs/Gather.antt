@@ -88,7 +88,8 @@ module _ {image : List ℕ} {start : Cursor} {wanted : ℕ} where
         }
 
     -- a file's name tells of the names so far
-    pub fine-file : {ok fine : Bool} → is-file x ≡ true → fine ≡ (t .fine && ok) → ok ≡ name-ok (name-of x) → fine ≡ (t .fine && name-fine x)
+    pub fine-file : {ok fine : Bool} → is-file x ≡ true → fine ≡ (t .fine && ok) → ok ≡ name-ok (name-of x)
+        → fine ≡ (t .fine && name-fine x)
     unfolding name-fine
     fine-file y a o = rw (name-fine, y, ← o) a
 

@@ -40,7 +40,8 @@ returns c =
     let c2 = c .before .before in let c4 = c2 .before .before in let c7 = c4 .before .before .before in
     let p = c7 .before .before .before .before .before .pre in
     let m = c7 .marks-of in (
-      gathering-named (p .1) (m .result .hash) (p .2) (m .ensures .hash) (c .noted-as .ensures) (c2 .repeats-signed .ensures) (c4 .seen-or .ensures),
+      gathering-named (p .1) (m .result .hash) (p .2) (m .ensures .hash) (c .noted-as .ensures) (c2 .repeats-signed .ensures)
+          (c4 .seen-or .ensures),
       refl,
     )
 

@@ -36,8 +36,11 @@ noted-as-requires c κs =
 
 returns-2 : tie.Need-returns-2
 returns-2 c =
-    let p = c .before .before .before .before .before .before .before .pre in
-    (gathering-other (p .1) (flag (c .before .before .before .before .before .is-file .ensures) (c .before .before .before .before .if1 .left)) (c .noted-as .ensures), refl)
+    let c4 = c .before .before .before .before in
+    let c5 = c4 .before in
+    let c7 = c5 .before .before in
+    let p = c7 .pre in
+    (gathering-other (p .1) (flag (c5 .is-file .ensures) (c4 .if1 .left)) (c .noted-as .ensures), refl)
 
 pub gather-one-spec : {M : Type 1} → statement M
 gather-one-spec =
