@@ -32,6 +32,7 @@ use Rattle.chain.specs.Fold.{Passes, passes}
 -- the kind is a record's, it is finished, and it is no mark
 pub record Plainly (s : List ℕ) : Type 0 where
   pub low : low-of s ≡ 0xA5
+  pub high : high-of s ≡ 0x5A
   pub kind : kind (low-of s) (high-of s) (status-of s) (spare-of s) ≡ Kind.Record
   pub finished : is-unfinished (status-of s) ≡ false
 
@@ -49,6 +50,7 @@ plain-if s true a b c e =
     let l : status-of s < 0xFE = ltb-true (status-of s) 0xFE e in
     record {
       low = a;
+      high = b;
       kind = rw (a, b, c) (kind-plain (status-of s) l);
       finished = rw (ne-eqb (status-of s) 0xFF (λ e. omega arith), ne-eqb (status-of s) 0xFE (λ e. omega arith));
     }
@@ -57,8 +59,8 @@ plain-if s false a b c e = tt
 -- ---- the record behind them
 
 abbrev pub Plain-front : List ℕ → Next → Type 0
-Plain-front s (Next.Record n d) = (Next.Record n d ≡ next s) × Within (Next.Record n d) (length s)
-    × (is-unfinished (status-of s) ≡ false) × (low-of s ≡ 0xA5)
+Plain-front s (Next.Record n d) = (Next.Record n d ≡ next s) × Within (Next.Record n d) (length s) × Plainly s
+    × (Next.Record n d ≡ record-at false s)
 Plain-front s Next.Wrap = Unit {0}
 Plain-front s Next.TornWrap = Unit {0}
 Plain-front s Next.Clear = Unit {0}
@@ -70,7 +72,7 @@ unfolding next-at
 arm s l p = next-arm s (status-of s) (kind (low-of s) (high-of s) (status-of s) (spare-of s)) Kind.Record l refl refl (p .kind)
 
 pub plain-front : (s : List ℕ) (r : Next) → 8 ≤ length s → Plainly s → Record-if s r → Plain-front s r
-plain-front s (Next.Record n d) l p e = (e .0 ∙ arm s l p, e .1, p .finished, p .low)
+plain-front s (Next.Record n d) l p e = (e .0 ∙ arm s l p, e .1, p, e .0)
 plain-front s Next.Wrap l p e = tt
 plain-front s Next.TornWrap l p e = tt
 plain-front s Next.Clear l p e = tt
@@ -102,8 +104,8 @@ module _ (image : List ℕ) (c : Cursor) (s : Cursor-sound image c) (free : c .p
       let l : length (take k (drop (c .at) image)) ≤ k = rw length-take (omega arith) in
       let w : Within x k = (p .1 .0, omega (arith, p .1 .1), p .1 .2) in
       let here : x ≡ look image c = look-is image c x x (s .ordered) (p .0) (rw free) in
-      let u : unfinished-at image (c .at) ≡ false = ap is-unfinished (sym (there image (c .at) k 2 (omega (arith, w .1)))) ∙ p .2 in (
+      let u : unfinished-at image (c .at) ≡ false = ap is-unfinished (sym (there image (c .at) k 2 (omega (arith, w .1)))) ∙ p .2 .finished in (
         passes (advanced-here image c x false s here refl (settle image c x) refl refl w)
             (ap₂ (λ (y : ℕ) (b : Bool). Item.Record (record { at = c .at; n = n; d = d }) (past c y b)) (sym e) u),
-        unmarked image (record { at = c .at; n = n; d = d }) (sym (there image (c .at) k 0 (omega (arith, w .1))) ∙ p .3),
+        unmarked image (record { at = c .at; n = n; d = d }) (sym (there image (c .at) k 0 (omega (arith, w .1))) ∙ p .2 .low),
       )

@@ -30,7 +30,7 @@ fn plain_header(part: &[u8]) -> bool
 }
 
 // The record at the front of the part, if it is plain and ends there; anything else is none here.
-fn plain_of(part: &[u8]) -> Next
+pub fn plain_of(part: &[u8]) -> Next
     ensures { λ r. ⌜ Plain-front (now (part .entry)) r ⌝ }
 {
     if part.len() < 8 {
