@@ -5,10 +5,8 @@ use crate::Nearby;
 use crate::Spot;
 use record::plain_record_of;
 use record::size;
-use spec::HIGH;
+use record::words::word_at;
 use spec::Next;
-use spec::RECORD;
-use spec::Status;
 ghost use lib.ListN.{length};
 ghost use Prim.Native.Nat.{_≤_};
 ghost use Rattle.chain.specs.Cursor.{Cursor-sound};
@@ -19,12 +17,9 @@ fn plain_header(part: &[u8]) -> bool
     requires { ⌜ 8 ≤ length (now part) ⌝ }
     ensures { λ r. ⌜ Plain-if (now (part .entry)) r ⌝ }
 {
-    if part[0] == RECORD {
-        if part[1] == HIGH {
-            if part[3] == 0xFF {
-                return part[2] < Status::RESERVED.byte;
-            }
-        }
+    let h = word_at(part, 0);
+    if h & 0xFF00_FFFF == 0xFF00_5AA5 {
+        return h / 0x1_0000 % 256 < 0xFE;
     }
     false
 }

@@ -21,7 +21,9 @@ use chain::scan::noted_plain;
 use chain::walk::advance;
 use filter::NameMarks;
 use filter::marks::both;
+use filter::hash::hash;
 use filter::table::WORDS;
+use filter::table::signature_by;
 ghost use mathlib.Core.Path.{_≡_};
 ghost use mathlib.Core.Bool.{true, false};
 ghost use Prim.Native.Nat.{_≤_};
@@ -53,11 +55,14 @@ fn gather_named(
     let t = g.tally;
     let n = g.repeats;
     let f = g.sight;
-    let name = marks_of(image, e);
-    let s = name.signature;
-    let o = seen_or(name.hash == wanted, f, e);
+    let at = e.at + 8;
+    let end = at + e.n;
+    let h = hash(&image[at..end]);
+    let s = signature_by(h);
+    let o = seen_or(h == wanted, f, e);
     let m = repeats_signed(image, start, t.records, table, n, e, s);
-    let u = noted_as(image, t, e, true, both(t.fine, name.fine), next.pending);
+    let fine = chain::scan::name_fine(image, e);
+    let u = noted_as(image, t, e, true, both(t.fine, fine), next.pending);
     Gathered {
         cursor: next,
         tally: u,
@@ -103,7 +108,7 @@ fn gather_file(
     e: Spot,
     next: Cursor,
     wanted: u64,
-    name: NameMarks,
+    hash: u64,
 ) -> Gathered
     requires { ⌜ Cursor-sound (now image) start × Noting (now image) start wanted e next g (now table)
         × Plain-file (now image) e (g .tally) × Marked-as (name-of (entry-of (now image) e)) name
@@ -114,9 +119,9 @@ fn gather_file(
     let t = g.tally;
     let n = g.repeats;
     let f = g.sight;
-    let s = name.signature;
+    let s = signature_by(hash);
     let m = repeats_signed(image, start, t.records, table, n, e, s);
-    let u = noted_plain(t, e, true, both(t.fine, name.fine), next.pending);
+    let u = noted_plain(t, e, true, t.fine, next.pending);
     Gathered {
         cursor: next,
         tally: u,
@@ -150,7 +155,11 @@ fn gather_plain(
             if name.hash == wanted {
                 return g;
             }
-            g = gather_file(image, start, table, g, e, next, wanted, name);
+            if name.fine {
+                g = gather_file(image, start, table, g, e, next, wanted, name.hash);
+            } else {
+                return g;
+            }
         } else {
             let t = g.tally;
             let n = g.repeats;
