@@ -1,5 +1,5 @@
 -- A plain record: what its four bytes say of it, and the step over it.
-use Prim.Native.Nat.{ℕ, _+_, _-_, _≤_, _<_}
+use Prim.Native.Nat.{ℕ, _+_, _-_, _*_, _/_, _%_, _≤_, _<_}
 use native.Mathlib.Omega.{arith}
 use mathlib.Core.Path.{_≡_, refl, sym, ap, ap₂, _∙_}
 use mathlib.Core.Bool.{Bool, true, false}
@@ -17,6 +17,7 @@ use Rattle.spec.specs.Next.{is-torn-marker, kind, record-at, next-at, next}
 use Rattle.spec.specs.Chain.{allowed}
 use Rattle.laws.specs.Next.{next-arm}
 use Rattle.record.specs.Within.{Within, Record-if}
+use Rattle.record.specs.Digits.{digits}
 use Rattle.chain.specs.declared.Cursor.{Cursor}
 use Rattle.chain.specs.declared.Spot.{Spot}
 use Rattle.chain.specs.declared.Item.{Item}
@@ -55,6 +56,25 @@ plain-if s true a b c e =
       finished = rw (ne-eqb (status-of s) 0xFF (λ e. omega arith), ne-eqb (status-of s) 0xFE (λ e. omega arith));
     }
 plain-if s false a b c e = tt
+
+-- a header's bytes, read as one number with those behind them
+pub header-bytes : (s : List ℕ) (h : ℕ) → digits 8 h ≡ take 8 (drop 0 s)
+    → (low-of s ≡ h % 256) × (high-of s ≡ h / 256 % 256) × (status-of s ≡ h / 0x1_0000 % 256) × (spare-of s ≡ h / 0x100_0000 % 256)
+unfolding digits
+header-bytes s h e =
+    let byte : (i : ℕ) → i < 8 → getD s i 0 ≡ getD (digits 8 h) i 0 =
+    λ i l. sym (getD-take 8 s i 0 l) ∙ ap (λ (t : List ℕ). getD t i 0) (sym e) in
+    let two : h / 256 / 256 % 256 ≡ h / 0x1_0000 % 256 = omega arith in
+    let three : h / 256 / 256 / 256 % 256 ≡ h / 0x100_0000 % 256 = omega arith in
+    (byte 0 (omega arith), byte 1 (omega arith), byte 2 (omega arith) ∙ two, byte 3 (omega arith) ∙ three)
+
+-- the magic's second byte
+pub magic-high : (h : ℕ) → h % 0x1_0000 ≡ 0x5AA5 → h / 256 % 256 ≡ 0x5A
+magic-high h e =
+    let q : ℕ = h / 0x1_0000 in
+    let w : h ≡ 0x5AA5 + 256 * (256 * q) = omega arith in
+    let n : (0x5AA5 + 256 * (256 * q)) / 256 ≡ 0x5A + 256 * q = omega arith in
+    ap (λ (x : ℕ). x / 256 % 256) w ∙ ap (λ (x : ℕ). x % 256) n ∙ (let r : (0x5A + 256 * q) % 256 ≡ 0x5A = omega arith in r)
 
 -- ---- the record behind them
 

@@ -12,14 +12,16 @@ ghost use Prim.Native.Nat.{_≤_};
 ghost use Rattle.chain.specs.Cursor.{Cursor-sound};
 ghost use Rattle.chain.specs.Plain.{Plain-if, Plain-front, Near};
 
-// The first four bytes of a plain record.
+// The first four bytes of a plain record: the magic, a status below that of a reserved one, FF. One load tells them all.
 fn plain_header(part: &[u8]) -> bool
     requires { ⌜ 8 ≤ length (now part) ⌝ }
     ensures { λ r. ⌜ Plain-if (now (part .entry)) r ⌝ }
 {
     let h = word_at(part, 0);
-    if h & 0xFF00_FFFF == 0xFF00_5AA5 {
-        return h / 0x1_0000 % 256 < 0xFE;
+    if h % 0x1_0000 == 0x5AA5 {
+        if h / 0x100_0000 % 256 == 0xFF {
+            return h / 0x1_0000 % 256 < 0xFE;
+        }
     }
     false
 }
