@@ -2,6 +2,7 @@
 // by themselves, so that the compiler keeps most of what is carried along in registers.
 use crate::FullPass;
 use crate::Gathered;
+use crate::marks::hash_of;
 use crate::marks::marks_of;
 use crate::sought::found_of;
 use crate::sought::not_seen;
@@ -15,27 +16,24 @@ use chain::Spot;
 use chain::files::is_file;
 use chain::names::repeats_signed;
 use chain::plain::near;
+use chain::scan::name_fine;
 use chain::scan::none_yet;
 use chain::scan::noted_as;
 use chain::scan::noted_plain;
 use chain::walk::advance;
-use filter::NameMarks;
 use filter::marks::both;
-use filter::hash::hash;
 use filter::table::WORDS;
 use filter::table::signature_by;
 ghost use mathlib.Core.Path.{_≡_};
 ghost use mathlib.Core.Bool.{true, false};
-ghost use Prim.Native.Nat.{_≤_};
+ghost use Prim.Native.Nat.{_≤_, _<_, _^_};
 ghost use lib.ListN.{length};
 ghost use Rattle.chain.specs.Cursor.{Cursor-sound, left};
-ghost use Rattle.spec.specs.Record.{name-of};
 ghost use Rattle.chain.specs.Rest.{rest, entry-of};
 ghost use Rattle.chain.specs.FileLaws.{is-file};
 ghost use Rattle.chain.specs.Tally.{none-yet, passed, Spots, End-inside};
-ghost use Rattle.filter.specs.Marks.{Marked-as};
 ghost use Rattle.chain.specs.Repeats.{repeats-of};
-ghost use Rattle.reading.specs.Sought.{has-hash, Sought};
+ghost use Rattle.reading.specs.Sought.{hash-of, has-hash, Sought};
 ghost use Rattle.reading.specs.Gather.{nothing-yet, Gathering, Noting, Plain-file};
 
 // What is gathered, with one record more, which stands before next and is a file.
@@ -55,13 +53,11 @@ fn gather_named(
     let t = g.tally;
     let n = g.repeats;
     let f = g.sight;
-    let at = e.at + 8;
-    let end = at + e.n;
-    let h = hash(&image[at..end]);
+    let h = hash_of(image, e);
     let s = signature_by(h);
     let o = seen_or(h == wanted, f, e);
     let m = repeats_signed(image, start, t.records, table, n, e, s);
-    let fine = chain::scan::name_fine(image, e);
+    let fine = name_fine(image, e);
     let u = noted_as(image, t, e, true, both(t.fine, fine), next.pending);
     Gathered {
         cursor: next,
@@ -99,7 +95,8 @@ fn gather_one(
     }
 }
 
-// The same for a plain one that is a file, whose name is so and has not the hash that is wanted: what was seen stays.
+// The same for a plain one that is a file, whose name is a good one and has this hash, not the one that is wanted: what was seen stays,
+// and so does whether all names are good.
 fn gather_file(
     image: &[u8],
     start: Cursor,
@@ -111,7 +108,7 @@ fn gather_file(
     hash: u64,
 ) -> Gathered
     requires { ⌜ Cursor-sound (now image) start × Noting (now image) start wanted e next g (now table)
-        × Plain-file (now image) e (g .tally) × Marked-as (name-of (entry-of (now image) e)) name
+        × Plain-file (now image) e (g .tally) × (hash ≡ hash-of (entry-of (now image) e)) × (hash < 2 ^ 32)
         × (has-hash wanted (entry-of (now image) e) ≡ false) ⌝ }
     ensures { λ r. ⌜ Gathering (now (image .entry)) start wanted r (now (table .exit)) × (r .cursor ≡ next)
         × (2 ≤ r .tally .records) ⌝ }
@@ -130,7 +127,8 @@ fn gather_file(
     }
 }
 
-// With the plain records from the cursor on, up to a file whose name has the hash that is wanted: so what was seen is not carried along.
+// With the plain records from the cursor on, up to a file whose name has the hash that is wanted, or is not a good one: so neither what was
+// seen nor whether all names are good is carried along.
 fn gather_plain(
     image: &[u8],
     start: Cursor,
@@ -155,11 +153,10 @@ fn gather_plain(
             if name.hash == wanted {
                 return g;
             }
-            if name.fine {
-                g = gather_file(image, start, table, g, e, next, wanted, name.hash);
-            } else {
+            if !name.fine {
                 return g;
             }
+            g = gather_file(image, start, table, g, e, next, wanted, name.hash);
         } else {
             let t = g.tally;
             let n = g.repeats;
