@@ -4,7 +4,7 @@ ghost use mathlib.Core.Path.{_≡_};
 ghost use Prim.Native.Nat.{_<_, _^_};
 ghost use Rattle.filter.specs.Table.{three-bits, signature-by, In-table, has, with};
 
-// The words of the table, 4 KiB. With 2,048 names about one is taken for added before that was not.
+// The words of the table, 4 KiB. Of 2,048 names one is taken for added before that was not, three times in ten.
 pub const WORDS: usize = 512;
 
 fn bit(k: u64) -> u64

@@ -41,12 +41,12 @@ returns : tie.Need-returns Inv-loop μ-loop
 returns c = c .before .before .before .loop .inv
 
 size-requires : tie.Need-size-requires Inv-loop μ-loop
-size-requires c κs = 
+size-requires c κs =
     let w = rw (c .before .x .given .1) at (c .before .before .before .plain-of .ensures) in
     (omega (arith, w .1 .0), w .1 .2)
 
 add-at : tie.Need-add-at Inv-loop μ-loop
-add-at c = 
+add-at c =
     let c4 = c .before .before .before .before in
     let p = c4 .before .before .loop .inv in
     let w = rw (c .before .before .x .given .1) at (c4 .plain-of .ensures) in
@@ -54,7 +54,7 @@ add-at c =
     omega (arith, c .size .ensures, w .1 .1, l, p .0 .inside, c4 .before .before .before .before .pre .1)
 
 loop-less : tie.Need-loop-less Inv-loop μ-loop
-loop-less c = 
+loop-less c =
     let c4 = c .before .before .before .before in
     let p = c4 .before .before .loop .inv in
     let w = rw (c .before .before .x .given .1) at (c4 .plain-of .ensures) in
@@ -62,7 +62,7 @@ loop-less c =
     omega (arith, c .size .ensures, w .1 .1, l, p .0 .inside)
 
 loop-again : tie.Need-loop-again Inv-loop μ-loop
-loop-again c = 
+loop-again c =
     let c4 = c .before .before .before .before in
     let p = c4 .before .before .loop .inv in
     let s = c4 .before .before .before .before .args .image .now in
