@@ -1,5 +1,5 @@
-//! Mounts of stores with many files over many sets of names: the table by which names are told apart takes one now and then for another, and
-//! a search then follows. How often that is so, and what it costs, depends on the names.
+//! Mounts of stores with many files over many sets of names: the table by which names are told apart takes one now and
+//! then for another, and a search then follows. How often that is so, and what it costs, depends on the names.
 use crate::cases::{case, Kind};
 use crate::images::{settled, Fill};
 use crate::table::{self, number, size, spread};
@@ -78,7 +78,8 @@ mod tests {
     #[test]
     fn lines() {
         let set = |library, baseline, alarms| Set { library, baseline, alarms };
-        let row = NamesRow { n: 1 << 20, fill: Fill::Full, sets: vec![set(3.0, 2.0, 1), set(2.0, 2.0, 0), set(1.0, 2.0, 0)] };
+        let row =
+            NamesRow { n: 1 << 20, fill: Fill::Full, sets: vec![set(3.0, 2.0, 1), set(2.0, 2.0, 0), set(1.0, 2.0, 0)] };
         let line = "| 1 MiB | full | 3 | 1.00 (0.50 to 1.50) | 1.00 | 1 | 1 |\n";
         assert!(table(&[row]).ends_with(line));
     }

@@ -219,8 +219,8 @@ fn agrees(store: &Library, case: &Case, reply: &Reply, after: &[u8]) {
     assert!(img == after, "{}: another image", case.call.kind());
 }
 
-/// The times of a call on these images, by turns; library, C and scan take turns on each, so that they share what else the machine does, and
-/// library and C go first by turns.
+/// The times of a call on these images, by turns; library, C and scan take turns on each, so that they share what else the
+/// machine does, and library and C go first by turns.
 pub fn times(library: &Library, baseline: &Library, cases: &[Case], effort: Effort) -> Times {
     let mut benches: Vec<Bench> = cases.iter().map(|case| Bench::new(library, baseline, case, effort.cold)).collect();
     let mut turns: Vec<(f64, f64, f64)> = Vec::new();

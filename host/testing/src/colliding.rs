@@ -118,7 +118,8 @@ fn covered_group(last: u32) -> Option<[u32; 4]> {
 /// of bits stand there, and the third's lowest bit.
 fn with_bits(bits: u64) -> Vec<u32> {
     let numbers: Vec<u32> = (0..64).filter(|k| bits >> k & 1 == 1).collect();
-    let orders = numbers.iter().flat_map(|&a| numbers.iter().flat_map(move |&b| [0, 1].map(|c| c << 31 | a << 25 | b << 19)));
+    let orders =
+        numbers.iter().flat_map(|&a| numbers.iter().flat_map(move |&b| [0, 1].map(|c| c << 31 | a << 25 | b << 19)));
     let hashes = orders.flat_map(|x| x..=x | 0x7_FFFF).map(|x| x.wrapping_mul(inverse(SPREAD as u32)));
     hashes.filter(|&h| Signature::of_hash(h).bits == bits).collect()
 }
