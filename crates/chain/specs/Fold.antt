@@ -62,7 +62,8 @@ followed-done image (Item.TornWrap t) f z = refl
 followed-done image (Item.Broken t w) f z = refl
 
 pub rest-done : (image : List ℕ) (c : Cursor) (r : Item) → r ≡ advance image c → Not-record r → rest image c ≡ done r
-rest-done image c r e z = rest-step image c ∙ ap (λ (x : Item). followed image x (rest image)) (sym e) ∙ followed-done image r (rest image) z
+rest-done image c r e z = rest-step image c ∙ ap (λ (x : Item). followed image x (rest image)) (sym e)
+    ∙ followed-done image r (rest image) z
 
 -- ---- the fold: f with the state s on what is left is f with the first state on all
 

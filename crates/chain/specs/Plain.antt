@@ -124,7 +124,8 @@ module _ (image : List ℕ) (c : Cursor) (s : Cursor-sound image c) (free : c .p
       let l : length (take k (drop (c .at) image)) ≤ k = rw length-take (omega arith) in
       let w : Within x k = (p .1 .0, omega (arith, p .1 .1), p .1 .2) in
       let here : x ≡ look image c = look-is image c x x (s .ordered) (p .0) (rw free) in
-      let u : unfinished-at image (c .at) ≡ false = ap is-unfinished (sym (there image (c .at) k 2 (omega (arith, w .1)))) ∙ p .2 .finished in (
+      let u : unfinished-at image (c .at) ≡ false = ap is-unfinished (sym (there image (c .at) k 2 (omega (arith, w .1))))
+      ∙ p .2 .finished in (
         passes (advanced-here image c x false s here refl (settle image c x) refl refl w)
             (ap₂ (λ (y : ℕ) (b : Bool). Item.Record (record { at = c .at; n = n; d = d }) (past c y b)) (sym e) u),
         unmarked image (record { at = c .at; n = n; d = d }) (sym (there image (c .at) k 0 (omega (arith, w .1))) ∙ p .2 .low),

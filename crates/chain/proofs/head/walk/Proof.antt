@@ -27,7 +27,11 @@ add-result : tie.Need-add-result Inv-loop μ-loop
 add-result c = omega arith
 
 returns : tie.Need-returns Inv-loop μ-loop
-returns c = (walked-torn _ _ (c .before .before .walk-plain .ensures .0) (flag (c .before .torn-here .ensures) (c .if1 .taken)), omega arith)
+returns c = (
+  walked-torn _ _ (c .before .before .walk-plain .ensures .0)
+      (flag (c .before .torn-here .ensures) (c .if1 .taken)),
+  omega arith,
+)
 
 walk-next-requires : tie.Need-walk-next-requires Inv-loop μ-loop
 walk-next-requires c κs = omega arith
@@ -58,7 +62,8 @@ loop-again c =
     let c2 = c .before .before in let c4 = c2 .before .before in let c5 = c4 .before in let c6 = c5 .before in let c7 = c6 .before in
     let w = rw (c2 .x .given .1) at (c4 .walk-next .ensures .1) in
     rw (c .size .ensures)
-    (walked-step _ _ (c7 .walk-plain .ensures .0) (c4 .walk-next .result) (flag (c6 .torn-here .ensures) (c5 .if1 .left)) (c4 .walk-next .ensures .0)
+    (walked-step _ _ (c7 .walk-plain .ensures .0) (c4 .walk-next .result) (flag (c6 .torn-here .ensures) (c5 .if1 .left))
+    (c4 .walk-next .ensures .0)
     (c2 .x .given .0 .0) (c2 .x .given .0 .1 .0) (c2 .x .given .1) (omega arith))
 
 pub walk-spec : {M : Type 1} → statement M

@@ -1,4 +1,5 @@
--- advance_any: what is looked at stands at the cursor or, where the chain turns, at 0; a cursor that lies in the image still does after the turn.
+-- advance_any: what is looked at stands at the cursor or, where the chain turns, at 0; a cursor that lies in the image still does after
+-- the turn.
 use Rattle.chain.specs.CursorLaws.{sound-turn, advanced-on, advanced-here}
 use borrow.Author.Needs.{needs}
 use Rattle.chain.proofs.walk.advance_any.Statement.{statement}
@@ -17,7 +18,11 @@ look-requires-2 : tie.Need-look-requires-2
 look-requires-2 c κs = rw (c .turn .ensures) (sound-turn _ _ (c .before .before .before .before .before .pre))
 
 settle-requires : tie.Need-settle-requires
-settle-requires c κs = (rw (c .before .turn .ensures) (sound-turn _ _ (c .before .before .before .before .before .before .pre)), c .look2 .ensures .1)
+settle-requires c κs = (
+  rw (c .before .turn .ensures)
+      (sound-turn _ _ (c .before .before .before .before .before .before .pre)),
+  c .look2 .ensures .1,
+)
 
 returns : tie.Need-returns
 returns c =
