@@ -7,6 +7,7 @@ use record::plain_record_of;
 use record::size;
 use record::words::word_at;
 use spec::Next;
+use spec::Status;
 ghost use lib.ListN.{length};
 ghost use Prim.Native.Nat.{_≤_};
 ghost use Rattle.chain.specs.Cursor.{Cursor-sound};
@@ -20,7 +21,7 @@ fn plain_header(part: &[u8]) -> bool
     let h = word_at(part, 0);
     if h % 0x1_0000 == 0x5AA5 {
         if h / 0x100_0000 % 256 == 0xFF {
-            return h / 0x1_0000 % 256 < 0xFE;
+            return h / 0x1_0000 % 256 < Status::RESERVED.byte as u64;
         }
     }
     false

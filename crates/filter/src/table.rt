@@ -21,7 +21,7 @@ fn three_bits(z: u64) -> u64
     bit(z / 0x8000_0000 % 64) | bit(z / 0x200_0000 % 64) | bit(z / 0x8_0000 % 64)
 }
 
-// The words of a name with this hash, and the bits that it sets there.
+// The words of a name with this hash, and the bits that it sets there. One product tells: nine of its bits choose a word, six a bit.
 pub fn signature_by(h: u64) -> Signature
     requires { ⌜ h < 2 ^ 32 ⌝ }
     ensures { λ r. ⌜ (r ≡ signature-by h) × In-table r ⌝ }

@@ -36,7 +36,8 @@ ghost use Rattle.chain.specs.Repeats.{repeats-of};
 ghost use Rattle.reading.specs.Sought.{hash-of, has-hash, Sought};
 ghost use Rattle.reading.specs.Gather.{nothing-yet, Gathering, Noting, Plain-file};
 
-// What is gathered, with one record more, which stands before next and is a file.
+// What is gathered, with one record more, which stands before next and is a file. Its name is read twice: `marks_of` is left to the loop
+// over plain records alone, so that the compiler puts it there.
 fn gather_named(
     image: &[u8],
     start: Cursor,
