@@ -5,7 +5,8 @@ use mathlib.Core.List.{List}
 use Rattle.spec.specs.Step.{Image}
 use Rattle.spec.specs.Basics.{onward}
 use Rattle.spec.specs.Door.{accepted, admitted, admitted-named}
-use Rattle.spec.specs.Answers.{carry-out, mount-of, mount-plan, mount, put-into, put-plan, put, file-of, file-plan, removing, remove-plan, remove, getting, get-plan, get, list-of, list-plan, list, sweep-of, sweep-plan, sweep}
+use Rattle.spec.specs.Answers.{carry-out, mount-of, mount-plan, mount, put-into, put-plan, put, file-of, file-plan, removing, remove-plan}
+use Rattle.spec.specs.Answers.{remove, getting, get-plan, get, list-of, list-plan, list, sweep-of, sweep-plan, sweep}
 
 module _ (image : Image) (k : ℕ) where
   pub mount-is : carry-out image k (onward (accepted image) (mount-of image)) ≡ mount image k
@@ -20,7 +21,8 @@ module _ (image : Image) (k : ℕ) where
   unfolding list-plan
   list-is = refl
 
-  pub put-is : (name content : List ℕ) → carry-out image k (onward (admitted-named name image) (put-into name content image)) ≡ put image name content k
+  pub put-is : (name content : List ℕ) → carry-out image k
+      (onward (admitted-named name image) (put-into name content image)) ≡ put image name content k
   unfolding put-plan
   put-is name content = refl
 
@@ -28,6 +30,7 @@ module _ (image : Image) (k : ℕ) where
   unfolding remove-plan file-plan
   remove-is name = refl
 
-pub get-is : (image : Image) (name : List ℕ) → carry-out image 0 (onward (admitted-named name image) (file-of name getting)) ≡ get image name
+pub get-is : (image : Image) (name : List ℕ) → carry-out image 0
+    (onward (admitted-named name image) (file-of name getting)) ≡ get image name
 unfolding get-plan file-plan
 get-is image name = refl

@@ -53,7 +53,8 @@ module _ (image : List ℕ) (s : Survey) (w : Settled image s) (f : Found) where
   indexed-file i q = q ∙ ap (λ (l : List Entry). getElem? l i) (sym (files-are (reading-of image s .entries) (w .quiet)))
 
   -- and what a call does with it is what the definition does
-  pub plan-with : (name : List ℕ) (g : Entry → Plan) → File-told image name s f → found g (found-in image f) ≡ file-of name g (reading-of image s)
+  pub plan-with : (name : List ℕ) (g : Entry → Plan) → File-told image name s f
+      → found g (found-in image f) ≡ file-of name g (reading-of image s)
   plan-with name g t = ap (found g) (named-file name (t .first))
 
   pub done-with : (k : ℕ) (name : List ℕ) (g : Entry → Plan) → File-told image name s f

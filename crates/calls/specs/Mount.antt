@@ -55,7 +55,8 @@ module _ (image t : Image) (k : ℕ) (s : Survey) (l : Accepted image s) (r : Me
   pub mount-cut : Used-up (r .meter)
       → outcome-of (mounted (Mounted.Cut (r .meter .allowance))) t ≡ carry-out image k (mount-of image (reading-of image s))
   mount-cut h =
-      let short : k < length (mended image (reading-of image s) .steps) = omega (arith, c .begun .cut h, ap (λ (w : Work). length (w .steps)) work-is) in
+      let short : k < length (mended image (reading-of image s) .steps) =
+      omega (arith, c .begun .cut h, ap (λ (w : Work). length (w .steps)) work-is) in
       carried image t k (mount-work (mended image (reading-of image s))) (of-write 4 (r .meter .allowance))
       (plan-cut image k (mended image (reading-of image s)) short ∙ ap (of-write 4) (sym (c .begun .same))) bytes-are
 

@@ -50,7 +50,8 @@ old-named image s p old name content w e =
 
 -- ---- the steps
 
-pub ready : (image : Image) (s : Survey) (n d asked : ℕ) → Settled image s → Name-length n → fits (s .place) (size-of n d) ≡ true → asked ≡ 0
+pub ready : (image : Image) (s : Survey) (n d asked : ℕ) → Settled image s → Name-length n → fits (s .place) (size-of n d) ≡ true
+    → asked ≡ 0
     → Ready (s .place) (length image) n d asked
 ready image s n d asked w l f z =
     record {

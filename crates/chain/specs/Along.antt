@@ -110,10 +110,11 @@ pub reached-less : {image : Image} {c : Cursor} {e : Spot} {next : Cursor} → R
 reached-less r = rw (r .next-is) (omega (arith, r .fits, from-left (r .from)))
 
 -- what holds of a cursor, if it holds of the one past the record that stands there, holds of every cursor
-module _ (image : Image) (P : Cursor → Type 0) (step : (c : Cursor) → ((e : Spot) (next : Cursor) → Reached image c e next → P next) → P c) where
-  by-fuel : (k : ℕ) (c : Cursor) → left c < k → P c
-  by-fuel zero c l = absurd (not-suc-le-zero l)
-  by-fuel (suc k) c l = step c (λ e next r. by-fuel k next (omega (arith, reached-less r)))
+module _ (image : Image) (P : Cursor → Type 0) (step : (c : Cursor) → ((e : Spot) (next : Cursor) → Reached image c e next → P next) → P c)
+  where
+    by-fuel : (k : ℕ) (c : Cursor) → left c < k → P c
+    by-fuel zero c l = absurd (not-suc-le-zero l)
+    by-fuel (suc k) c l = step c (λ e next r. by-fuel k next (omega (arith, reached-less r)))
 
-  pub along : (c : Cursor) → P c
-  along c = by-fuel (suc (left c)) c (omega arith)
+    pub along : (c : Cursor) → P c
+    along c = by-fuel (suc (left c)) c (omega arith)

@@ -25,7 +25,8 @@ look-is image c x y h e f = f ∙ ap (allowed (c .pending)) (e ∙ ap next (part
 -- ---- bounds
 
 module _ (image : List ℕ) where
-  torn-inside : (c : Cursor) (t : Bool) → c .at ≤ length image → ltb 0 (c .room) ≡ t → Inside image c (torn-end (c .room) (c .turned) (c .at))
+  torn-inside : (c : Cursor) (t : Bool) → c .at ≤ length image → ltb 0 (c .room) ≡ t
+      → Inside image c (torn-end (c .room) (c .turned) (c .at))
   unfolding torn-end
   torn-inside c true h e = rw (torn-end, e) h
   torn-inside c false h e = rw (torn-end, e) h
@@ -52,7 +53,15 @@ module _ (image : List ℕ) where
   -- what is less than the turned cursor is less than the cursor
   inside-more : (c d : Cursor) (r : Item) → left d ≤ left c → Inside image d r → Inside image c r
   inside-more c d (Item.Record e next) h o =
-      record { sound = o .sound; less = omega (arith, o .less); name = o .name; data-len = o .data-len; fits = o .fits; pending = o .pending }
+      record {
+        sound = o .sound;
+        less = omega (arith, o .less);
+        name = o .name;
+        data-len = o .data-len;
+        fits = o .fits;
+        pending =
+            o .pending;
+      }
   inside-more c d (Item.End t w) h o = o
   inside-more c d (Item.TornWrap t) h o = o
   inside-more c d (Item.Broken t w) h o = o
@@ -70,7 +79,8 @@ module _ (image : List ℕ) where
     advance-here h = rw (h, advance)
 
     module _ (x : Next) (b : Bool) (s : Cursor-sound image c) (ex : x ≡ look image c) (eb : b ≡ goes-on (c .room) x) where
-      pub advanced-on : (t : Cursor) (y : Next) (r : Item) → b ≡ true → t ≡ turn (c .room) (c .pending) → y ≡ look image t → r ≡ settle image t y
+      pub advanced-on : (t : Cursor) (y : Next) (r : Item) → b ≡ true → t ≡ turn (c .room) (c .pending) → y ≡ look image t
+          → r ≡ settle image t y
           → Within y (t .end - t .at)
           → (r ≡ advance image c) × Inside image c r
       advanced-on t y r h et ey er w =
@@ -82,7 +92,8 @@ module _ (image : List ℕ) where
                 (inside-settle u y (sound-turn c s) (subst (λ (k : Cursor). Within y (k .end - k .at)) et w))),
           )
 
-      pub advanced-here : (r : Item) → b ≡ false → r ≡ settle image c x → Within x (c .end - c .at) → (r ≡ advance image c) × Inside image c r
+      pub advanced-here : (r : Item) → b ≡ false → r ≡ settle image c x → Within x (c .end - c .at)
+          → (r ≡ advance image c) × Inside image c r
       advanced-here r h er w = (
         er ∙ ap (settle image c) ex ∙ sym (advance-here (ap (goes-on (c .room)) (sym ex) ∙ sym eb ∙ h)),
         subst (λ (z : Item). Inside image c z) (sym er) (inside-settle c x s w),

@@ -18,7 +18,8 @@ Stands image e = entry-of image (spot-of e) ≡ e
 
 module _ (image : List ℕ) where
   -- a step stays in the image
-  reached-whole : {c : Cursor} {e : Spot} {next : Cursor} → Cursor-sound image c → Reached image c e next → Whole image e × Cursor-sound image next
+  reached-whole : {c : Cursor} {e : Spot} {next : Cursor} → Cursor-sound image c → Reached image c e next
+      → Whole image e × Cursor-sound image next
   reached-whole s r =
       let v = from-sound (r .from) s in (
         record { fits = omega (arith, r .at, r .fits, v .ordered, v .inside) },

@@ -20,7 +20,8 @@ use Rattle.chain.specs.Fold.{Whole}
 -- ---- two names, byte by byte
 
 module _ (x y : List ℕ) (i : ℕ) where
-  pub same-step : i < length x → i < length y → getD x i 0 ≡ getD y i 0 → same (drop i x) (drop i y) ≡ same (drop (i + 1) x) (drop (i + 1) y)
+  pub same-step : i < length x → i < length y → getD x i 0 ≡ getD y i 0
+      → same (drop i x) (drop i y) ≡ same (drop (i + 1) x) (drop (i + 1) y)
   unfolding same
   same-step h l e = rw (drop-next x i h, drop-next y i l, eq-eqb (getD x i 0) (getD y i 0) e, same)
 

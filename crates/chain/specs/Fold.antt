@@ -40,13 +40,14 @@ pub record Passes (image : List ℕ) (c : Cursor) (e : Spot) (next : Cursor) : T
   pub onward : Onward image c e next
   pub split : rest image c ≡ ahead (entry-of image e) (rest image next)
   pub whole : Whole image e
+  pub step : Item.Record e next ≡ advance image c
 
 -- from what `advance` ensures, where it gave a record
 pub passes : {image : List ℕ} {c : Cursor} {r : Item} {e : Spot} {next : Cursor} → (r ≡ advance image c) × Inside image c r
     → r ≡ Item.Record e next → Passes image c e next
 passes {image} {c} {r} {e} {next} p q =
     let o : Onward image c e next = rw q at (p .1) in
-    record { onward = o; split = rw (rest-step image c, sym (p .0) ∙ q); whole = record { fits = o .fits } }
+    record { onward = o; split = rw (rest-step image c, sym (p .0) ∙ q); whole = record { fits = o .fits }; step = sym q ∙ p .0 }
 
 abbrev pub Not-record : Item → Type 0
 Not-record (Item.Record e next) = ⊥
@@ -61,7 +62,8 @@ followed-done image (Item.TornWrap t) f z = refl
 followed-done image (Item.Broken t w) f z = refl
 
 pub rest-done : (image : List ℕ) (c : Cursor) (r : Item) → r ≡ advance image c → Not-record r → rest image c ≡ done r
-rest-done image c r e z = rest-step image c ∙ ap (λ (x : Item). followed image x (rest image)) (sym e) ∙ followed-done image r (rest image) z
+rest-done image c r e z = rest-step image c ∙ ap (λ (x : Item). followed image x (rest image)) (sym e)
+    ∙ followed-done image r (rest image) z
 
 -- ---- the fold: f with the state s on what is left is f with the first state on all
 

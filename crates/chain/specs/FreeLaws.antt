@@ -41,7 +41,8 @@ module _ (image : List ℕ) (p : Place) (low : ℕ) (e : low ≡ floor (p .head)
   unfolding free-blank
   free-first h q = rw (free-blank, h, ← e, q)
 
-  pub free-both : (r : Bool) → p .turned ≡ false → blank-part 0 low image ≡ true → r ≡ blank-part (p .tail) (p .length) image → r ≡ free-blank image p
+  pub free-both : (r : Bool) → p .turned ≡ false → blank-part 0 low image ≡ true → r ≡ blank-part (p .tail) (p .length) image
+      → r ≡ free-blank image p
   unfolding free-blank
   free-both r h q w = rw (free-blank, h, ← e, q) w
 

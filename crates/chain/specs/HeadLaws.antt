@@ -71,7 +71,8 @@ module _ (image : List ℕ) (at : ℕ) (w : Walked image at) where
 
 -- ---- what the walk finds at an address: r read in the part p from there on
 
-pub walk-next-is : (at : ℕ) (s p : List ℕ) (r : Next) (b : ℕ) → walked-here at s ≡ true → b ≡ status-of s → p ≡ s → r ≡ record-at (eqb b 0xFE) p
+pub walk-next-is : (at : ℕ) (s p : List ℕ) (r : Next) (b : ℕ) → walked-here at s ≡ true → b ≡ status-of s → p ≡ s
+    → r ≡ record-at (eqb b 0xFE) p
     → r ≡ walk-next at s
 unfolding walk-next is-reserved
 walk-next-is at s p r b h q e f = f ∙ ap₂ (λ (x : ℕ) (l : List ℕ). record-at (eqb x 0xFE) l) q e ∙ rw (h, walk-next)

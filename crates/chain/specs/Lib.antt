@@ -6,6 +6,7 @@ pub mod Along
 pub mod Rest
 pub mod Fold
 pub mod Plain
+pub mod HeadPlain
 pub mod FileLaws
 pub mod Seek
 pub mod Sums

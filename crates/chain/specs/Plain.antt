@@ -1,5 +1,5 @@
 -- A plain record: what its four bytes say of it, and the step over it.
-use Prim.Native.Nat.{ℕ, _+_, _-_, _≤_, _<_}
+use Prim.Native.Nat.{ℕ, _+_, _-_, _*_, _/_, _%_, _≤_, _<_}
 use native.Mathlib.Omega.{arith}
 use mathlib.Core.Path.{_≡_, refl, sym, ap, ap₂, _∙_}
 use mathlib.Core.Bool.{Bool, true, false}
@@ -17,6 +17,7 @@ use Rattle.spec.specs.Next.{is-torn-marker, kind, record-at, next-at, next}
 use Rattle.spec.specs.Chain.{allowed}
 use Rattle.laws.specs.Next.{next-arm}
 use Rattle.record.specs.Within.{Within, Record-if}
+use Rattle.record.specs.Digits.{digits}
 use Rattle.chain.specs.declared.Cursor.{Cursor}
 use Rattle.chain.specs.declared.Spot.{Spot}
 use Rattle.chain.specs.declared.Item.{Item}
@@ -32,6 +33,7 @@ use Rattle.chain.specs.Fold.{Passes, passes}
 -- the kind is a record's, it is finished, and it is no mark
 pub record Plainly (s : List ℕ) : Type 0 where
   pub low : low-of s ≡ 0xA5
+  pub high : high-of s ≡ 0x5A
   pub kind : kind (low-of s) (high-of s) (status-of s) (spare-of s) ≡ Kind.Record
   pub finished : is-unfinished (status-of s) ≡ false
 
@@ -49,16 +51,36 @@ plain-if s true a b c e =
     let l : status-of s < 0xFE = ltb-true (status-of s) 0xFE e in
     record {
       low = a;
+      high = b;
       kind = rw (a, b, c) (kind-plain (status-of s) l);
       finished = rw (ne-eqb (status-of s) 0xFF (λ e. omega arith), ne-eqb (status-of s) 0xFE (λ e. omega arith));
     }
 plain-if s false a b c e = tt
 
+-- a header's bytes, read as one number with those behind them
+pub header-bytes : (s : List ℕ) (h : ℕ) → digits 8 h ≡ take 8 (drop 0 s)
+    → (low-of s ≡ h % 256) × (high-of s ≡ h / 256 % 256) × (status-of s ≡ h / 0x1_0000 % 256) × (spare-of s ≡ h / 0x100_0000 % 256)
+unfolding digits
+header-bytes s h e =
+    let byte : (i : ℕ) → i < 8 → getD s i 0 ≡ getD (digits 8 h) i 0 =
+    λ i l. sym (getD-take 8 s i 0 l) ∙ ap (λ (t : List ℕ). getD t i 0) (sym e) in
+    let two : h / 256 / 256 % 256 ≡ h / 0x1_0000 % 256 = omega arith in
+    let three : h / 256 / 256 / 256 % 256 ≡ h / 0x100_0000 % 256 = omega arith in
+    (byte 0 (omega arith), byte 1 (omega arith), byte 2 (omega arith) ∙ two, byte 3 (omega arith) ∙ three)
+
+-- the magic's second byte
+pub magic-high : (h : ℕ) → h % 0x1_0000 ≡ 0x5AA5 → h / 256 % 256 ≡ 0x5A
+magic-high h e =
+    let q : ℕ = h / 0x1_0000 in
+    let w : h ≡ 0x5AA5 + 256 * (256 * q) = omega arith in
+    let n : (0x5AA5 + 256 * (256 * q)) / 256 ≡ 0x5A + 256 * q = omega arith in
+    ap (λ (x : ℕ). x / 256 % 256) w ∙ ap (λ (x : ℕ). x % 256) n ∙ (let r : (0x5A + 256 * q) % 256 ≡ 0x5A = omega arith in r)
+
 -- ---- the record behind them
 
 abbrev pub Plain-front : List ℕ → Next → Type 0
-Plain-front s (Next.Record n d) = (Next.Record n d ≡ next s) × Within (Next.Record n d) (length s)
-    × (is-unfinished (status-of s) ≡ false) × (low-of s ≡ 0xA5)
+Plain-front s (Next.Record n d) = (Next.Record n d ≡ next s) × Within (Next.Record n d) (length s) × Plainly s
+    × (Next.Record n d ≡ record-at false s)
 Plain-front s Next.Wrap = Unit {0}
 Plain-front s Next.TornWrap = Unit {0}
 Plain-front s Next.Clear = Unit {0}
@@ -70,7 +92,7 @@ unfolding next-at
 arm s l p = next-arm s (status-of s) (kind (low-of s) (high-of s) (status-of s) (spare-of s)) Kind.Record l refl refl (p .kind)
 
 pub plain-front : (s : List ℕ) (r : Next) → 8 ≤ length s → Plainly s → Record-if s r → Plain-front s r
-plain-front s (Next.Record n d) l p e = (e .0 ∙ arm s l p, e .1, p .finished, p .low)
+plain-front s (Next.Record n d) l p e = (e .0 ∙ arm s l p, e .1, p, e .0)
 plain-front s Next.Wrap l p e = tt
 plain-front s Next.TornWrap l p e = tt
 plain-front s Next.Clear l p e = tt
@@ -102,8 +124,9 @@ module _ (image : List ℕ) (c : Cursor) (s : Cursor-sound image c) (free : c .p
       let l : length (take k (drop (c .at) image)) ≤ k = rw length-take (omega arith) in
       let w : Within x k = (p .1 .0, omega (arith, p .1 .1), p .1 .2) in
       let here : x ≡ look image c = look-is image c x x (s .ordered) (p .0) (rw free) in
-      let u : unfinished-at image (c .at) ≡ false = ap is-unfinished (sym (there image (c .at) k 2 (omega (arith, w .1)))) ∙ p .2 in (
+      let u : unfinished-at image (c .at) ≡ false = ap is-unfinished (sym (there image (c .at) k 2 (omega (arith, w .1))))
+      ∙ p .2 .finished in (
         passes (advanced-here image c x false s here refl (settle image c x) refl refl w)
             (ap₂ (λ (y : ℕ) (b : Bool). Item.Record (record { at = c .at; n = n; d = d }) (past c y b)) (sym e) u),
-        unmarked image (record { at = c .at; n = n; d = d }) (sym (there image (c .at) k 0 (omega (arith, w .1))) ∙ p .3),
+        unmarked image (record { at = c .at; n = n; d = d }) (sym (there image (c .at) k 0 (omega (arith, w .1))) ∙ p .2 .low),
       )

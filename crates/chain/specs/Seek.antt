@@ -65,7 +65,8 @@ module _ (p : Entry → Bool) {image : List ℕ} {start c : Cursor} {m : ℕ} (w
     pub count-none : p (entry-of image e) ≡ false → Counted p image start next m
     count-none h =
         record {
-          fold = fold-step (count-of p) image start 0 c m (w .fold) e next t m (rw (keep-no p (entry-of image e) (rest image next .entries) h));
+          fold = fold-step (count-of p) image start 0 c m (w .fold) e next t m
+              (rw (keep-no p (entry-of image e) (rest image next .entries) h));
           few = omega (arith, w .few, t .onward .less);
         }
 
@@ -89,7 +90,8 @@ module _ (p q : Entry → Bool) {image : List ℕ} {start c : Cursor} (w : Folde
   first-over r e z = fold-end (first-of p q) image start tt c tt w r e z
 
   module _ {e : Spot} {next : Cursor} (t : Passes image c e next) where
-    kept : q (entry-of image e) ≡ true → keep q (entry-of image e ∷ rest image next .entries) ≡ entry-of image e ∷ keep q (rest image next .entries)
+    kept : q (entry-of image e) ≡ true → keep q (entry-of image e ∷ rest image next .entries) ≡ entry-of image e ∷ keep q
+        (rest image next .entries)
     kept h = keep-yes q (entry-of image e) (rest image next .entries) h
 
     pub first-found : q (entry-of image e) ≡ true → p (entry-of image e) ≡ true
@@ -105,7 +107,8 @@ module _ (p q : Entry → Bool) {image : List ℕ} {start c : Cursor} (w : Folde
 
     pub first-skip : q (entry-of image e) ≡ false → Folded (first-of p q) image start tt next tt
     first-skip h =
-        fold-step (first-of p q) image start tt c tt w e next t tt (ap (first-such p) (keep-no q (entry-of image e) (rest image next .entries) h))
+        fold-step (first-of p q) image start tt c tt w e next t tt
+        (ap (first-such p) (keep-no q (entry-of image e) (rest image next .entries) h))
 
 -- ---- the one with an index, of those kept
 
@@ -128,7 +131,8 @@ module _ (q : Entry → Bool) {image : List ℕ} {start c : Cursor} {i₀ i : �
         (rw (keep-yes q (entry-of image e) (rest image next .entries) h, z))
 
     pub nth-onward : q (entry-of image e) ≡ true → (i ≡ 0 → ⊥) → Folded (nth-of q) image start i₀ next (i - 1)
-    nth-onward h z = fold-step (nth-of q) image start i₀ c i w e next t (i - 1) (nth-less q (entry-of image e) (rest image next .entries) i h z)
+    nth-onward h z = fold-step (nth-of q) image start i₀ c i w e next t (i - 1)
+        (nth-less q (entry-of image e) (rest image next .entries) i h z)
 
     pub nth-skip : q (entry-of image e) ≡ false → Folded (nth-of q) image start i₀ next i
     nth-skip h = fold-step (nth-of q) image start i₀ c i w e next t i (rw (keep-no q (entry-of image e) (rest image next .entries) h))

@@ -89,6 +89,7 @@ module _ (p : Entry → Bool) {image : List ℕ} {start c : Cursor} {m : ℕ} (w
         }
     sum-step false h =
         record {
-          fold = fold-step (sum-of p) image start 0 c m (w .fold) e next t m (rw (keep-no p (entry-of image e) (rest image next .entries) h));
+          fold = fold-step (sum-of p) image start 0 c m (w .fold) e next t m
+              (rw (keep-no p (entry-of image e) (rest image next .entries) h));
           few = omega (arith, w .few, reached-more r);
         }

@@ -75,7 +75,8 @@ pub tally-fine : (t : Tally) (es : List Entry) → tally t es .fine ≡ (t .fine
 unfolding noted
 tally-fine t [] = sym (and-true (t .fine))
 tally-fine t (e ∷ es) =
-    tally-fine (noted t e) es ∙ and-assoc (t .fine) (name-fine e) (all name-fine es) ∙ ap (λ (b : Bool). t .fine && b) (all-and name-fine e es _ refl)
+    tally-fine (noted t e) es ∙ and-assoc (t .fine) (name-fine e) (all name-fine es)
+    ∙ ap (λ (b : Bool). t .fine && b) (all-and name-fine e es _ refl)
 
 -- behind the second record first and second stay, and marks are noticed
 pub record Behind (t : Tally) (es : List Entry) (u : Tally) : Type 0 where
@@ -155,8 +156,10 @@ marks-are image [] t q f h = absurd (omega arith)
 marks-are image (x ∷ []) t q f h = absurd (omega arith)
 marks-are image (x ∷ (y ∷ es)) t q f h =
     let all : List Entry = x ∷ (y ∷ es) in
-    let a : entry-of image (t .first) ≡ x = ap (λ (u : Tally). entry-of image (u .first)) q ∙ ap (entry-of image) (first-is x (y ∷ es)) ∙ f .0 in
-    let b : entry-of image (t .second) ≡ y = ap (λ (u : Tally). entry-of image (u .second)) q ∙ ap (entry-of image) (second-is x y es) ∙ f .1 .0 in
+    let a : entry-of image (t .first) ≡ x = ap (λ (u : Tally). entry-of image (u .first)) q ∙ ap (entry-of image) (first-is x (y ∷ es))
+    ∙ f .0 in
+    let b : entry-of image (t .second) ≡ y = ap (λ (u : Tally). entry-of image (u .second)) q ∙ ap (entry-of image) (second-is x y es)
+    ∙ f .1 .0 in
     let c : t .further ≡ any marked es = ap (λ (u : Tally). u .further) q ∙ further-is x y es in
     ap₂ (λ (v : Bool) (w : Bool). not v && w) c (ap₂ (second-ok all) a b) ∙ and-swap (not (any marked es)) (second-ok all x y)
 

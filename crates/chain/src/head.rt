@@ -2,6 +2,7 @@
 use crate::Headed;
 use crate::Sighting;
 use crate::Stretch;
+use crate::plain::plain_of;
 use record::bytes::is_clean;
 use record::bytes::is_record;
 use record::bytes::is_torn;
@@ -21,7 +22,7 @@ ghost use Rattle.spec.specs.Record.{low-of, high-of, start-here, clean-here};
 ghost use Rattle.spec.specs.Head.{torn-here, walked-here, walk-next, walk, sought, chosen, head};
 ghost use Rattle.laws.specs.Length.{In-range, Addable};
 ghost use Rattle.record.specs.Within.{Within};
-ghost use Rattle.chain.specs.HeadLaws.{headed, Head-inside};
+ghost use Rattle.chain.specs.HeadLaws.{headed, Head-inside, Walked};
 ghost use Rattle.chain.specs.HeadSkip.{Skips, Blank-there};
 
 // The byte i past at, or 0 past the end.
@@ -106,6 +107,21 @@ fn walk_next(image: &[u8], at: usize) -> Next
     Next::Bad
 }
 
+// Past the plain records from here on.
+fn walk_plain(image: &[u8], from: usize) -> usize
+    requires { ⌜ Walked (now image) from × In-range (length (now image)) ⌝ }
+    ensures { λ r. ⌜ Walked (now (image .entry)) r × (from ≤ r) ⌝ }
+{
+    let mut at = from;
+    loop {
+        let x = plain_of(&image[at..]);
+        let Next::Record { n, d } = x else {
+            return at;
+        };
+        at += record::size(n, d);
+    }
+}
+
 // Where the search begins.
 fn walk(image: &[u8]) -> usize
     requires { ⌜ In-range (length (now image)) ⌝ }
@@ -114,6 +130,7 @@ fn walk(image: &[u8]) -> usize
 {
     let mut at = 0;
     loop {
+        at = walk_plain(image, at);
         if torn_here(image, at) {
             return at + 8;
         }

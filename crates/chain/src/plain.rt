@@ -5,32 +5,30 @@ use crate::Nearby;
 use crate::Spot;
 use record::plain_record_of;
 use record::size;
-use spec::HIGH;
+use record::words::word_at;
 use spec::Next;
-use spec::RECORD;
 use spec::Status;
 ghost use lib.ListN.{length};
 ghost use Prim.Native.Nat.{_≤_};
 ghost use Rattle.chain.specs.Cursor.{Cursor-sound};
 ghost use Rattle.chain.specs.Plain.{Plain-if, Plain-front, Near};
 
-// The first four bytes of a plain record.
+// The first four bytes of a plain record: the magic, a status below that of a reserved one, FF. One load tells them all.
 fn plain_header(part: &[u8]) -> bool
     requires { ⌜ 8 ≤ length (now part) ⌝ }
     ensures { λ r. ⌜ Plain-if (now (part .entry)) r ⌝ }
 {
-    if part[0] == RECORD {
-        if part[1] == HIGH {
-            if part[3] == 0xFF {
-                return part[2] < Status::RESERVED.byte;
-            }
+    let h = word_at(part, 0);
+    if h % 0x1_0000 == 0x5AA5 {
+        if h / 0x100_0000 % 256 == 0xFF {
+            return h / 0x1_0000 % 256 < Status::RESERVED.byte as u64;
         }
     }
     false
 }
 
 // The record at the front of the part, if it is plain and ends there; anything else is none here.
-fn plain_of(part: &[u8]) -> Next
+pub fn plain_of(part: &[u8]) -> Next
     ensures { λ r. ⌜ Plain-front (now (part .entry)) r ⌝ }
 {
     if part.len() < 8 {

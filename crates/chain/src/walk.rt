@@ -1,7 +1,9 @@
 // The cursor over the chain: the one place that knows of markers, of the turn and of last things.
 use crate::Cursor;
 use crate::Item;
+use crate::Nearby;
 use crate::Spot;
+use crate::plain::near;
 use spec::Next;
 use spec::Status;
 ghost use mathlib.Core.Path.{_≡_};
@@ -154,8 +156,8 @@ pub fn settle(image: &[u8], c: Cursor, x: Next) -> Item
     }
 }
 
-// What stands at c, the turn made where it is due.
-pub fn advance(image: &[u8], c: Cursor) -> Item
+// What stands at c, whatever it is, the turn made where it is due.
+fn advance_any(image: &[u8], c: Cursor) -> Item
     requires { ⌜ Cursor-sound (now image) c ⌝ }
     ensures { λ r. ⌜ (r ≡ advance (now (image .entry)) c) × Inside (now (image .entry)) c r ⌝ }
 {
@@ -166,4 +168,19 @@ pub fn advance(image: &[u8], c: Cursor) -> Item
         return settle(image, t, y);
     }
     settle(image, c, x)
+}
+
+// The same: a plain record, as most are, is known by the short way.
+pub fn advance(image: &[u8], c: Cursor) -> Item
+    requires { ⌜ Cursor-sound (now image) c ⌝ }
+    ensures { λ r. ⌜ (r ≡ advance (now (image .entry)) c) × Inside (now (image .entry)) c r ⌝ }
+{
+    let s = near(image, c);
+    let Nearby::Record { spot: e, next } = s else {
+        return advance_any(image, c);
+    };
+    Item::Record {
+        spot: e,
+        next: next,
+    }
 }

@@ -119,7 +119,8 @@ or-false false = refl
 module _ (es : List Entry) (q : Entry) where
   has-is : (st : ℕ) → has-named st es q ≡ called st es (name-of q)
   unfolding has-named is-called
-  has-is st = any-alike (named-as st q) (is-called st (name-of q)) es (λ f. ap (λ (b : Bool). named st f && b) (same-swap (name-of q) (name-of f)))
+  has-is st = any-alike (named-as st q) (is-called st (name-of q)) es
+      (λ f. ap (λ (b : Bool). named st f && b) (same-swap (name-of q) (name-of f)))
 
   all-last : named 0xFC q ≡ false → has-named 0xFC (es ++ q ∷ []) q ≡ has-named 0xFC es q
   unfolding has-named
@@ -139,7 +140,8 @@ module _ (es : List Entry) (q : Entry) where
   migrating a b =
       let l : live (es ++ q ∷ []) q ≡ not (called 0xFC es (name-of q)) = rw (live, a, b, all-last a, has-is 0xFC) in
       let r : repeated es q ≡ called 0xF8 es (name-of q) = rw (repeated, a, b, has-is 0xF8) in
-      let g : name-legal (es ++ q ∷ []) q ≡ elim (not (called 0xFC es (name-of q))) as (λ b. Bool) [ true ↦ name-ok (name-of q) | false ↦ true ] =
+      let g : name-legal (es ++ q ∷ []) q ≡ elim (not (called 0xFC es (name-of q))) as
+      (λ b. Bool) [ true ↦ name-ok (name-of q) | false ↦ true ] =
       rw (name-legal, l) in
       ap₂ (λ (x y : Bool). x || not y) r g
       ∙ ap (λ (y : Bool). called 0xF8 es (name-of q) || y) (turned (called 0xFC es (name-of q)) (name-ok (name-of q)))

@@ -22,7 +22,8 @@ checked-as (Checked.Refused n) = refuse (numbered n)
 pub workable : (image : Image) → good-length (length image) ≡ true → Workable image
 workable image e = let g = good (length image) e in (omega (arith, g .two), g .most)
 
-pub check-good : (image : Image) (b : Bool) (v : Verdict) → b ≡ good-length (length image) → b ≡ true → v ≡ verdict image → give v ≡ check image
+pub check-good : (image : Image) (b : Bool) (v : Verdict) → b ≡ good-length (length image) → b ≡ true → v ≡ verdict image
+    → give v ≡ check image
 unfolding check
 check-good image b v q t g = rw (check, sym q ∙ t) (ap give g)
 
@@ -45,7 +46,8 @@ module _ (t : Verdict-numbers) where
   pub told-recovery : (v : Verdict) (k : ℕ) → t ≡ numbers 0 1 k 0 → v ≡ Verdict.Recovery k → t ≡ verdict-told v
   told-recovery v k q e = rw e q
 
-  pub told-broken : (v : Verdict) (rule : Rule) (n a : ℕ) → t ≡ numbers 0 2 n a → n ≡ rule-number rule → v ≡ Verdict.Broken rule a → t ≡ verdict-told v
+  pub told-broken : (v : Verdict) (rule : Rule) (n a : ℕ) → t ≡ numbers 0 2 n a → n ≡ rule-number rule → v ≡ Verdict.Broken rule a
+      → t ≡ verdict-told v
   told-broken v rule n a q g e = rw e (q ∙ ap (λ (m : ℕ). numbers 0 2 m a) g)
 
   pub told-done : (c : Checked) (v : Verdict) → t ≡ verdict-told v → c ≡ Checked.Done v → t ≡ verdict-numbers (checked-as c)

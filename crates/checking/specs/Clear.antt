@@ -14,9 +14,11 @@ use Rattle.spec.specs.Bytes.{is-unfinished}
 use Rattle.spec.specs.Record.{Entry}
 use Rattle.spec.specs.Chain.{Reading}
 use Rattle.spec.specs.Files.{named, has-named, doubled}
-use Rattle.spec.specs.Reading.{limit, blank-part, free-blank, tail-blank, head-clean, free-ok, whole, marked, second-ok, marks-ok, name-legal}
+use Rattle.spec.specs.Reading.{limit, blank-part, free-blank, tail-blank, head-clean, free-ok}
+use Rattle.spec.specs.Reading.{whole, marked, second-ok, marks-ok, name-legal}
 use Rattle.spec.specs.Reading.{names-ok, single}
-use Rattle.spec.specs.Fault.{unfinished-wrong, repeated, name-wrong, mark-wrong, record-fault, chain-fault, dirt, dirt-part, run-fault, free-fault}
+use Rattle.spec.specs.Fault.{unfinished-wrong, repeated, name-wrong, mark-wrong, record-fault, chain-fault}
+use Rattle.spec.specs.Fault.{dirt, dirt-part, run-fault, free-fault}
 use Rattle.chain.specs.Repeats.{doubled-last}
 
 -- nothing was found
@@ -191,7 +193,8 @@ marked-more e es = go (marked e) refl where
   go false h = rw (any, h)
 
 -- behind the second record
-further-clear : (all-of : List Entry) (x y : Entry) (before es : List Entry) → none-marked all-of (x ∷ (y ∷ before)) es ≡ not (any marked es)
+further-clear : (all-of : List Entry) (x y : Entry) (before es : List Entry)
+    → none-marked all-of (x ∷ (y ∷ before)) es ≡ not (any marked es)
 unfolding mark-wrong
 further-clear all-of x y before [] = refl
 further-clear all-of x y before (e ∷ es) =

@@ -114,7 +114,8 @@ pub free-start : (image : Image) (p : Place) (t : Bool) (f : Fault) → t ≡ fa
 unfolding free-fault-by
 free-start image p t f e g = rw (e, free-fault-by) g
 
-pub free-fault-is : (image : Image) (r : Reading) (t : Bool) → t ≡ head-clean (r .entries) → free-fault-by t image (r .place) ≡ free-fault image r
+pub free-fault-is : (image : Image) (r : Reading) (t : Bool) → t ≡ head-clean (r .entries)
+    → free-fault-by t image (r .place) ≡ free-fault image r
 unfolding free-fault free-fault-by sector-fault
 free-fault-is image r true e = rw (free-fault-by, free-fault, ← e)
 free-fault-is image r false e = rw (free-fault-by, free-fault, ← e)

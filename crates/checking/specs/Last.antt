@@ -100,7 +100,8 @@ module _ (image : Image) (r : Reading) (a : Bool) (p : a ≡ head-clean (r .entr
 -- ---- where the chain breaks off, or the free run
 
 module _ (image : Image) (s : Survey) (cut : CutOff) where
-  pub stop-cut : (start : Cursor) (r : Rule) → cut .there ≡ true → start ≡ first-cursor image (s .place .head) → r ≡ cut-rule image start cut
+  pub stop-cut : (start : Cursor) (r : Rule) → cut .there ≡ true → start ≡ first-cursor image (s .place .head)
+      → r ≡ cut-rule image start cut
       → r ≡ stop-rule image (reading-of image s) (cut-list image cut)
   unfolding cut-rule stop-rule
   stop-cut start r t e q = rw t (q ∙ ap (λ (c : Cursor). cut-rule image c cut) e)
@@ -112,7 +113,8 @@ module _ (image : Image) (s : Survey) (cut : CutOff) where
   stop-none r t q = rw t q
 
 module _ (image : Image) (r : Reading) (b : Bool) (p : b ≡ whole (r .ending)) where
-  pub end-free : (t : Bool) (f : Fault) → b ≡ true → t ≡ head-clean (r .entries) → f ≡ free-fault-by t image (r .place) → f ≡ end-fault image r
+  pub end-free : (t : Bool) (f : Fault) → b ≡ true → t ≡ head-clean (r .entries) → f ≡ free-fault-by t image (r .place)
+      → f ≡ end-fault image r
   unfolding end-fault
   end-free t f u q g = rw (end-fault, sym p ∙ u) (g ∙ free-fault-is image r t q)
 

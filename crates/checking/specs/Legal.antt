@@ -49,7 +49,8 @@ module _ (image : Image) (r : Reading) where
       let chain-is : clear chain-part ≡ (names-ok (r .entries) && (single (r .entries) && marks-ok (r .entries))) =
       ap (λ (l : List Entry). clear (chain-fault (r .ending) l [] (r .entries))) all-is ∙ records-clear (r .ending) w (r .entries) in
       let end-is : clear (end-fault image r) ≡ free-ok image r = rw (end-fault, w) (free-clear image r) in
-      let l : legal image r ≡ (((names-ok (r .entries) && single (r .entries)) && marks-ok (r .entries)) && free-ok image r) = rw (legal, w) in
+      let l : legal image r ≡ (((names-ok (r .entries) && single (r .entries)) && marks-ok (r .entries)) && free-ok image r) =
+      rw (legal, w) in
       one-then-other
       ∙ ap₂ (λ (a b : Bool). a && b) (chain-is ∙ and-assoc (names-ok (r .entries)) (single (r .entries)) (marks-ok (r .entries))) end-is
       ∙ sym l

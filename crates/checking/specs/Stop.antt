@@ -41,7 +41,8 @@ name-inside (suc k) reserved (b ∷ s) h = go (ends-name reserved b) refl (λ l.
   go : (t : Bool) → ends-name reserved b ≡ t → (name-length k reserved s < k → name-length k reserved s < length s)
       → name-length (suc k) reserved (b ∷ s) < suc k → name-length (suc k) reserved (b ∷ s) < length (b ∷ s)
   go true e ih l = rw (name-length, e) (omega arith)
-  go false e ih l = let m : suc (name-length k reserved s) < suc k = rw (name-length, e) at l in rw (name-length, e) (let q = ih (omega arith) in omega arith)
+  go false e ih l = let m : suc (name-length k reserved s) < suc k = rw (name-length, e) at l in
+      rw (name-length, e) (let q = ih (omega arith) in omega arith)
 
 -- the part that the code lends
 pub lent : (image : Image) (a : ℕ) → take (length image - a) (drop a image) ≡ drop a image
@@ -150,7 +151,8 @@ pub none-inside : (image : Image) (c : CutOff) → c ≡ record { there = false;
 none-inside image c e = record { name = λ q. wrong (sym (ap (λ (x : CutOff). x .there) e) ∙ q) }
 
 module _ (image : Image) (r : Reading) where
-  pub cut-none-whole : (c : CutOff) → c ≡ record { there = false; at = 0; n = 0 } → whole (r .ending) ≡ true → cut-list image c ≡ cut-off image r
+  pub cut-none-whole : (c : CutOff) → c ≡ record { there = false; at = 0; n = 0 } → whole (r .ending) ≡ true
+      → cut-list image c ≡ cut-off image r
   unfolding cut-off
   cut-none-whole c e w = rw (cut-off, w, e)
 
@@ -175,7 +177,8 @@ module _ (image : Image) (p : Place) (size l : ℕ) (e : l ≡ limit p) (w : In-
   rest-is = rw e (drop-drop size (p .tail) (take (limit p) image))
 
   rest-length : length (part (p .tail + size) l image) ≡ l - (p .tail + size)
-  rest-length = length-drop (p .tail + size) (take l image) ∙ ap (λ (n : ℕ). n - (p .tail + size)) (length-take l image ∙ (let i = within image p l e w in omega arith))
+  rest-length = length-drop (p .tail + size) (take l image)
+      ∙ ap (λ (n : ℕ). n - (p .tail + size)) (length-take l image ∙ (let i = within image p l e w in omega arith))
 
   pub behind-there : (b : Bool) → p .tail + size < l → b ≡ stands (take (l - (p .tail + size)) (drop (p .tail + size) image))
       → b ≡ stands-behind image p size
@@ -207,7 +210,8 @@ module _ (image : Image) (p : Place) (size l : ℕ) (e : l ≡ limit p) (w : In-
 
 module _ (image : Image) (p : Place) (size l : ℕ) (e : l ≡ limit p) (w : In-image image p) where
   stretch : length (part (p .tail) (limit p) image) ≡ l - p .tail
-  stretch = length-drop (p .tail) (take (limit p) image) ∙ ap (λ (n : ℕ). n - p .tail) (length-take (limit p) image ∙ (let i = within image p l e w in omega (arith, e)))
+  stretch = length-drop (p .tail) (take (limit p) image)
+      ∙ ap (λ (n : ℕ). n - p .tail) (length-take (limit p) image ∙ (let i = within image p l e w in omega (arith, e)))
 
   pub spare-there : (b : Bool) → p .tail ≤ l → size ≤ l - p .tail → b ≡ stands-behind image p size → b ≡ true
       → Rule.Unfinished ≡ spare-fault image p size
@@ -256,7 +260,8 @@ module _ (image : Image) (p : Place) (spare : Bool) where
     reserved-end h e = rw (reserved-fault, lt-ltb n 64 h, e)
 
     pub reserved-spare : (d size : ℕ) (r : Rule) → n < 64 → spare ≡ false
-        → d ≡ data-len-of (take (length image - p .tail) (drop (p .tail) image)) → size ≡ size-of n d → r ≡ spare-fault image p size → r ≡ reserved-fault image p spare n
+        → d ≡ data-len-of (take (length image - p .tail) (drop (p .tail) image)) → size ≡ size-of n d → r ≡ spare-fault image p size
+        → r ≡ reserved-fault image p spare n
     unfolding reserved-fault
     reserved-spare d size r h e f g q =
         let v : data-len-of (drop (p .tail) image) ≡ d = sym (f ∙ ap data-len-of (lent image (p .tail))) in
@@ -301,7 +306,8 @@ module _ (image : Image) (p : Place) (r : Rule) (k : Kind) (e : k ≡ shape (dro
     unfolding shape-fault
     at-marker g q = told Kind.Marker g (q ∙ ap marker-fault f)
 
-  pub at-torn-marker : k ≡ Kind.TornMarker → r ≡ Rule.Unfinished → r ≡ shape-fault image p (drop (p .tail) image) (shape (drop (p .tail) image))
+  pub at-torn-marker : k ≡ Kind.TornMarker → r ≡ Rule.Unfinished
+      → r ≡ shape-fault image p (drop (p .tail) image) (shape (drop (p .tail) image))
   unfolding shape-fault
   at-torn-marker g q = told Kind.TornMarker g q
 

@@ -1,4 +1,5 @@
--- K13's theorem, on every image: the check says 22 exactly if mount does; "It is broken exactly if mount refuses with 5 or 6"; it is settled
+-- K13's theorem, on every image: the check says 22 exactly if mount does; "It is broken exactly if mount refuses with 5 or 6"; it is
+-- settled
 -- exactly if mount has no step, and needs the recovery of a number exactly if that is the first repair that has one.
 use Prim.Native.Nat.{ℕ, zero, suc}
 use mathlib.Core.Path.{_≡_, refl, sym, ap, _∙_}
@@ -40,9 +41,11 @@ pub record First (image : Image) (r : Reading) (k : ℕ) : Type 0 where
 -- the four ways; `accepted` is what mount goes by: it refuses as that does, else it repairs that reading
 pub data Agree (image : Image) : Type 0 where
   bad-length : check image ≡ refuse (numbered 22) → accepted image ≡ refuse (numbered 22) → Agree image
-  broken : (rule : Rule) (a : ℕ) (x : Refusal) → check image ≡ give (Verdict.Broken rule a) → Unread x → accepted image ≡ refuse x → Agree image
+  broken : (rule : Rule) (a : ℕ) (x : Refusal) → check image ≡ give (Verdict.Broken rule a) → Unread x → accepted image ≡ refuse x
+      → Agree image
   settled : (r : Reading) → check image ≡ give Verdict.Settled → accepted image ≡ give r → First image r 0 → Agree image
-  recovery : (r : Reading) (k : ℕ) → check image ≡ give (Verdict.Recovery (suc k)) → accepted image ≡ give r → First image r (suc k) → Agree image
+  recovery : (r : Reading) (k : ℕ) → check image ≡ give (Verdict.Recovery (suc k)) → accepted image ≡ give r → First image r (suc k)
+      → Agree image
 
 -- ---- the head's refusals
 

@@ -16,7 +16,7 @@ folded y = y / 0x1_0000_0000 + y % 0x1_0000_0000
 
 -- the hash with one word more
 abbrev pub mixed : ℕ → ℕ → ℕ
-mixed h w = folded ((w % 0x1_0000_0000 + h) * 0x1F13_0137 + w / 0x1_0000_0000 * 0x1DD0_4BBB)
+mixed h w = folded ((w % 0x1_0000_0000 + h) * 0x1656_67B1 + w / 0x1_0000_0000 * 0x27D4_EB2F)
 
 -- with k words more
 unfoldable pub hash-words : ℕ → ℕ → List ℕ → ℕ

@@ -17,16 +17,14 @@ use Rattle.laws.specs.Spaces.{is-readable, ends-in-space, None-bad, all-good}
 use Rattle.filter.specs.declared.NameMarks.{NameMarks}
 use Rattle.filter.specs.declared.Looked.{Looked}
 use Rattle.filter.specs.Hash.{mixed, name-hash, Hashed, hashed-first, hashed-next, hashed-all}
-use Rattle.filter.specs.Table.{signature-by, signature-of, In-table}
 use Rattle.record.specs.Digits.{number}
 use Rattle.record.specs.Filled.{all-append}
 
--- whether the name is a good one, its bits, and its hash
+-- whether the name is a good one, and its hash
 pub record Marked-as (name : List ℕ) (r : NameMarks) : Type 0 where
   pub fine : r .fine ≡ name-ok name
-  pub bits : r .signature ≡ signature-of name
-  pub inside : In-table (r .signature)
   pub hash : r .hash ≡ name-hash name
+  pub small : r .hash < 2 ^ 32
 
 -- with the words before i seen: their hash, and whether all their bytes can be read
 pub record Looked-at (s : List ℕ) (i : ℕ) (x : Looked) : Type 0 where

@@ -16,29 +16,27 @@ use Rattle.filter.specs.Hash.{name-hash}
 
 -- ---- a name's bits
 
-abbrev pub four-bits : ℕ → ℕ
-four-bits x = bitOr (bitOr (bitOr (2 ^ (x / 0x400_0000)) (2 ^ (x / 0x10_0000 % 64))) (2 ^ (x / 0x4000 % 64))) (2 ^ (x / 0x100 % 64))
-
-abbrev pub two-bits : ℕ → ℕ
-two-bits x = bitOr (2 ^ (x / 0x100 % 64)) (2 ^ (x / 4 % 64))
+abbrev pub three-bits : ℕ → ℕ
+three-bits z = bitOr (bitOr (2 ^ (z / 0x8000_0000 % 64)) (2 ^ (z / 0x200_0000 % 64))) (2 ^ (z / 0x8_0000 % 64))
 
 -- of a name with the hash h
 unfoldable pub signature-by : ℕ → Signature
 signature-by h =
     record {
-      word = h * 0x85EB_CA77 % 0x1_0000_0000 / 0x80_0000;
-      bits = four-bits (h * 0xC2B2_AE3D % 0x1_0000_0000);
-      other = h * 0x85EB_CA77 % 0x1_0000_0000 / 0x4000 % 512;
-      more = two-bits (h * 0x85EB_CA77 % 0x1_0000_0000);
+      bits = three-bits (h * 0xC2B2_AE3D);
+      first = h * 0xC2B2_AE3D / 0x80_0000_0000_0000;
+      second = h * 0xC2B2_AE3D / 0x4000_0000_0000 % 512;
+      third = h * 0xC2B2_AE3D / 0x20_0000_0000 % 512;
     }
 
 abbrev pub signature-of : List ℕ → Signature
 signature-of name = signature-by (name-hash name)
 
--- both words are words of the table
+-- all three words are words of the table
 pub record In-table (s : Signature) : Type 0 where
-  pub word : s .word < 512
-  pub other : s .other < 512
+  pub first : s .first < 512
+  pub second : s .second < 512
+  pub third : s .third < 512
 
 -- ---- the table
 
@@ -52,11 +50,11 @@ with-bits table at bits = set table at (bitOr (getD table at 0) bits)
 
 -- all bits are set
 abbrev pub has : List ℕ → Signature → Bool
-has table s = has-bits table (s .word) (s .bits) && has-bits table (s .other) (s .more)
+has table s = has-bits table (s .first) (s .bits) && (has-bits table (s .second) (s .bits) && has-bits table (s .third) (s .bits))
 
 -- with these bits set
 abbrev pub with : List ℕ → Signature → List ℕ
-with table s = with-bits (with-bits table (s .word) (s .bits)) (s .other) (s .more)
+with table s = with-bits (with-bits (with-bits table (s .first) (s .bits)) (s .second) (s .bits)) (s .third) (s .bits)
 
 -- ---- bits that are set stay set
 
@@ -84,7 +82,10 @@ unfolding with-bits
 length-bits table at bits = simp length-set
 
 pub length-with : (table : List ℕ) (s : Signature) → length (with table s) ≡ length table
-length-with table s = length-bits (with-bits table (s .word) (s .bits)) (s .other) (s .more) ∙ length-bits table (s .word) (s .bits)
+length-with table s =
+    let one : List ℕ = with-bits table (s .first) (s .bits) in
+    length-bits (with-bits one (s .second) (s .bits)) (s .third) (s .bits) ∙ length-bits one (s .second) (s .bits)
+    ∙ length-bits table (s .first) (s .bits)
 
 -- of one word
 module _ (table : List ℕ) (at bits : ℕ) (l : at < length table) where
@@ -112,31 +113,46 @@ module _ (table : List ℕ) (at bits : ℕ) (l : at < length table) where
         (eq-eqb (bitAnd v b) b (or-keeps b (getD table at 0) bits (rw q at pending)))
     go false e = rw (getD-set-other table at a v 0 (eqb-false a at e)) h
 
-and-both : (a b : Bool) → a ≡ true → b ≡ true → (a && b) ≡ true
-and-both a b h g = rw (h, g)
+and-all : (a b c : Bool) → a ≡ true → b ≡ true → c ≡ true → (a && (b && c)) ≡ true
+and-all a b c h g f = rw (h, g, f)
 
--- of both
+-- of all three
 module _ (table : List ℕ) (s : Signature) (w : In-table s) (size : 512 ≤ length table) where
-  first : s .word < length table
-  first = omega (arith, w .word)
+  abbrev one : List ℕ
+  one = with-bits table (s .first) (s .bits)
 
-  second : s .other < length (with-bits table (s .word) (s .bits))
-  second = rw (length-bits table (s .word) (s .bits)) (omega (arith, w .other))
+  abbrev two : List ℕ
+  two = with-bits one (s .second) (s .bits)
 
-  both-kept : (a b : ℕ) → has-bits table a b ≡ true → has-bits (with table s) a b ≡ true
-  both-kept a b h =
-      bits-kept (with-bits table (s .word) (s .bits)) (s .other) (s .more) second a b
-      (bits-kept table (s .word) (s .bits) first a b h)
+  in-table : s .first < length table
+  in-table = omega (arith, w .first)
+
+  in-one : s .second < length one
+  in-one = rw (length-bits table (s .first) (s .bits)) (omega (arith, w .second))
+
+  in-two : s .third < length two
+  in-two = rw (length-bits one (s .second) (s .bits), length-bits table (s .first) (s .bits)) (omega (arith, w .third))
+
+  all-kept : (a b : ℕ) → has-bits table a b ≡ true → has-bits (with table s) a b ≡ true
+  all-kept a b h =
+      bits-kept two (s .third) (s .bits) in-two a b
+      (bits-kept one (s .second) (s .bits) in-one a b (bits-kept table (s .first) (s .bits) in-table a b h))
 
   pub has-set : has (with table s) s ≡ true
   has-set =
-      and-both _ _ (
-      bits-kept (with-bits table (s .word) (s .bits)) (s .other) (s .more) second (s .word) (s .bits)
-      (bits-set table (s .word) (s .bits) first)
+      let kept = bits-kept two (s .third) (s .bits) in-two in
+      and-all _ _ _ (
+      kept (s .first) (s .bits)
+      (bits-kept one (s .second) (s .bits) in-one (s .first) (s .bits) (bits-set table (s .first) (s .bits) in-table))
       )
-      (bits-set (with-bits table (s .word) (s .bits)) (s .other) (s .more) second)
+      (kept (s .second) (s .bits) (bits-set one (s .second) (s .bits) in-one))
+      (bits-set two (s .third) (s .bits) in-two)
 
   pub has-kept : (t : Signature) → has table t ≡ true → has (with table s) t ≡ true
   has-kept t h =
-      and-both _ _ (both-kept (t .word) (t .bits) (and-left (has-bits table (t .word) (t .bits)) (has-bits table (t .other) (t .more)) h))
-      (both-kept (t .other) (t .more) (and-right (has-bits table (t .word) (t .bits)) (has-bits table (t .other) (t .more)) h))
+      let a : Bool = has-bits table (t .first) (t .bits) in
+      let b : Bool = has-bits table (t .second) (t .bits) in
+      let c : Bool = has-bits table (t .third) (t .bits) in
+      let more : (b && c) ≡ true = and-right a (b && c) h in
+      and-all _ _ _ (all-kept (t .first) (t .bits) (and-left a (b && c) h)) (all-kept (t .second) (t .bits) (and-left b c more))
+      (all-kept (t .third) (t .bits) (and-right b c more))

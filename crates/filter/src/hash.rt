@@ -23,12 +23,12 @@ fn folded(y: u64) -> u64
 }
 
 // The hash with one word more: its halves are multiplied each by its own factor, so that neither product waits for the other, and the
-// halves of the sum are added.
+// halves of the sum are added. The factors, as that of the table, are primes that xxHash has; they are small enough for every sum to fit.
 pub fn mixed(h: u64, w: u64) -> u64
     requires { ⌜ h < 2 ^ 33 ⌝ }
     ensures { λ r. ⌜ (r ≡ mixed h w) × (r < 2 ^ 33) ⌝ }
 {
-    folded((w % HASH_LIMIT + h) * 0x1F13_0137 + w / HASH_LIMIT * 0x1DD0_4BBB)
+    folded((w % HASH_LIMIT + h) * 0x1656_67B1 + w / HASH_LIMIT * 0x27D4_EB2F)
 }
 
 // The first k bytes as one number, from the last of them down.

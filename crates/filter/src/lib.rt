@@ -4,18 +4,17 @@ pub mod hash;
 pub mod marks;
 pub mod table;
 
-// What a name sets in the table of bits: these bits of one word, and more of another.
+// What a name sets in the table of bits: the same bits of three words.
 pub struct Signature {
-    pub word: usize,
     pub bits: u64,
-    pub other: usize,
-    pub more: u64,
+    pub first: usize,
+    pub second: usize,
+    pub third: usize,
 }
 
-// Whether a name is a good one, what it sets in the table, and its hash.
+// Whether a name is a good one, and its hash.
 pub struct NameMarks {
     pub fine: bool,
-    pub signature: Signature,
     pub hash: u64,
 }
 

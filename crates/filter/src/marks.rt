@@ -1,9 +1,8 @@
-// A file's name in one pass over its words: whether it is a good one, its bits in the table, and its hash.
+// A file's name in one pass over its words: whether it is a good one, and its hash.
 use crate::Looked;
 use crate::NameMarks;
 use crate::hash::HASH_LIMIT;
 use crate::hash::mixed;
-use crate::table::signature_by;
 use record::words::all_readable;
 use record::words::filled;
 use record::words::low_bytes;
@@ -100,11 +99,8 @@ pub fn marks(part: &[u8], n: usize) -> NameMarks
 {
     let x = look_all(part, n);
     let fine = both(x.readable, ends_fine(&part[..n]));
-    let h = x.hash % HASH_LIMIT;
-    let s = signature_by(h);
     NameMarks {
         fine: fine,
-        signature: s,
-        hash: h,
+        hash: x.hash % HASH_LIMIT,
     }
 }

@@ -36,4 +36,5 @@ erased-all s a = refl
 
 pub length-erased : (s : Image) (a i : ℕ) → a + i ≤ length s → length (erased s a i) ≡ length s
 unfolding erased
-length-erased s a i h = rw (length-append, length-append, length-replicate, length-take-le a s (omega arith), length-drop, length-drop) (omega arith)
+length-erased s a i h = rw (length-append, length-append, length-replicate, length-take-le a s (omega arith), length-drop, length-drop)
+    (omega arith)

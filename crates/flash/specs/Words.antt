@@ -1,4 +1,5 @@
--- The run of FF bytes at the front, measured eight words at a time, then word by word, then byte by byte, with the turns of the three loops.
+-- The run of FF bytes at the front, measured eight words at a time, then word by word, then byte by byte, with the turns of the three
+-- loops.
 use Prim.Native.Nat.{ℕ, zero, suc, _+_, _*_, _/_, _%_, _≤_, _<_, _^_}
 use native.Mathlib.Omega.{arith}
 use native.Mathlib.Nat.{zero-add, suc-add, not-suc-le-zero}
@@ -34,7 +35,8 @@ abbrev pub one : Bool → ℕ
 one true = 1
 one false = 0
 
--- up to the place p of a part of L bytes: one for each eight words of FF and one where eight words end the run, then the same for words, and
+-- up to the place p of a part of L bytes: one for each eight words of FF and one where eight words end the run, then the same for words,
+-- and
 -- for bytes
 unfoldable pub turns-of : ℕ → ℕ → ℕ
 turns-of L p = p / 64 + one (leb (p / 64 * 64 + 64) L) + (p % 64 / 8 + one (leb (p / 8 * 8 + 8) L)) + (p % 8 + one (ltb p L))
@@ -65,11 +67,13 @@ pub record By-words (s : List ℕ) (r : BlankRun) : Type 0 where
   pub even : r .place % 8 ≡ 0
   pub whole : blank-run s ≡ r .place + blank-run (drop (r .place) s)
   pub left : blank-run (drop (r .place) s) < 8
-  pub turns : r .turns ≡ r .place / 64 + one (leb (r .place / 64 * 64 + 64) (length s)) + (r .place % 64 / 8 + one (leb (r .place + 8) (length s)))
+  pub turns : r .turns ≡ r .place / 64 + one (leb (r .place / 64 * 64 + 64) (length s)) +
+      (r .place % 64 / 8 + one (leb (r .place + 8) (length s)))
   pub few : r .turns ≤ length s / 8 + 8
 
 -- some words further, by as many turns, where the run or the part ends
-pub by-words : {s : List ℕ} {r : BlankRun} (at turns : ℕ) → By-lines s r → at ≤ length s → at % 8 ≡ 0 → blank-run s ≡ at + blank-run (drop at s)
+pub by-words : {s : List ℕ} {r : BlankRun} (at turns : ℕ) → By-lines s r → at ≤ length s → at % 8 ≡ 0
+    → blank-run s ≡ at + blank-run (drop at s)
     → blank-run (drop at s) < 8 → r .place ≤ at → turns * 8 + r .place ≡ r .turns * 8 + at + one (leb (at + 8) (length s)) * 8
     → By-words s (record { place = at; turns = turns })
 by-words {s} {r} at turns w h e f l o c =
@@ -97,7 +101,8 @@ run-of {s} {r} at turns w h e f =
     let rest : r .place % 64 / 8 ≡ at % 64 / 8 = omega arith in
     let split : at ≡ r .place + at % 8 = omega arith in
     let count : turns ≡ turns-of L at =
-    sum-of turns (r .place) (r .turns) (r .place / 64 + one (leb (r .place / 64 * 64 + 64) L)) (r .place % 64 / 8 + one (leb (r .place + 8) L)) (at % 8)
+    sum-of turns (r .place) (r .turns) (r .place / 64 + one (leb (r .place / 64 * 64 + 64) L))
+    (r .place % 64 / 8 + one (leb (r .place + 8) L)) (at % 8)
     (one (ltb at L)) (f ∙ ap (λ (n : ℕ). r .turns + n + one (ltb at L)) split) (w .turns)
     ∙ (λ i. line i + one (leb (line i * 64 + 64) L) + (rest i + one (leb (base i + 8) L)) + (at % 8 + one (ltb at L))) in
     record { place = sym e; inside = h; turns = count; few = omega (arith, w .few, w .whole, w .left, one-most (ltb at L), f) }

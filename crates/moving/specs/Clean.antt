@@ -33,7 +33,8 @@ unfolding clean-steps
 enough zero j a s h g = sym (clean-empty j a s h)
 enough (suc k) zero a s h g = clean-empty (suc k) a s g
 enough (suc k) (suc j) a s h g =
-    ap (λ (l : List Step). mark-steps a s ++ l) (enough k j (a + 8) (drop 8 s) (rw length-drop (omega arith)) (rw length-drop (omega arith)))
+    ap (λ (l : List Step). mark-steps a s ++ l) (enough k j (a + 8) (drop 8 s) (rw length-drop (omega arith))
+    (rw length-drop (omega arith)))
 
 -- two bytes that could be taken for a head's magic, or for a record's
 abbrev pub is-mark : ℕ → ℕ → Bool
@@ -81,7 +82,8 @@ pub unmarked : (s : List ℕ) (at : ℕ) → mark-here (drop at s) ≡ false →
 unmarked s at e = ap (marked-steps at) e
 
 -- is the one at entry
-pub mark-as-was : (s : List ℕ) (at d i : ℕ) → i + 1 < d → mark-steps (at + i) (drop (at + i) s) ≡ mark-steps (at + i) (drop i (take d (drop at s)))
+pub mark-as-was : (s : List ℕ) (at d i : ℕ) → i + 1 < d
+    → mark-steps (at + i) (drop (at + i) s) ≡ mark-steps (at + i) (drop i (take d (drop at s)))
 mark-as-was s at d i h = ap₂ (λ (b c : ℕ). marked-steps (at + i) (is-mark b c)) (same 0 (omega arith)) (same 1 (omega arith)) where
   same : (j : ℕ) → i + j < d → getD (drop (at + i) s) j 0 ≡ getD (drop i (take d (drop at s))) j 0
   same j l =

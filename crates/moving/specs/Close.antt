@@ -93,7 +93,8 @@ module _ (s : Image) (x y : Spot) (low : ℕ) where
   close-same t l e =
       let starts : List ℕ = left-behind s x y in
       ap₂ (λ (a : List Step) (b : List ℕ). a ++ vacate-steps (entry-of t x) (entry-of t y) low b) e (vacated-same s t x y l)
-      ∙ ap (λ (f : List Step). cleaned-steps (entry-of s x) ++ (map erase starts ++ (start-steps (y .at) low ++ f))) (forget-same s t x starts)
+      ∙ ap (λ (f : List Step). cleaned-steps (entry-of s x) ++ (map erase starts ++ (start-steps (y .at) low ++ f)))
+      (forget-same s t x starts)
 
 -- ---- Y's first byte is START then
 

@@ -16,7 +16,8 @@ use Rattle.record.specs.Within.{Name-length}
 use Rattle.chain.specs.Rest.{entry-of}
 use Rattle.chain.specs.Fold.{name-length-is, content-length-is}
 use Rattle.writing.specs.WriteSteps.{length-name}
-use Rattle.moving.specs.Untouched.{Apart, off-part, length-part, Avoids, kept, Writes-in, writes-bytes, writes-append, writes-shifted, writes-avoids}
+use Rattle.moving.specs.Untouched.{Apart, off-part, length-part, Avoids, kept, Writes-in}
+use Rattle.moving.specs.Untouched.{writes-bytes, writes-append, writes-shifted, writes-avoids}
 use Rattle.laws.specs.Parts.{part-first}
 
 -- the record at this address, with n name bytes and d data bytes, as it is read
@@ -55,12 +56,14 @@ pub copy-more : {s t u : Image} {m q r : Meter} (from to n j : ℕ) → Apart fr
     → Did s m (bytes-at to (take j (take n (drop from s)))) t q → Did t q (program (to + j) (getD t (from + j) 0) ∷ []) u r
     → Did s m (bytes-at to (take (j + 1) (take n (drop from s)))) u r
 copy-more {s} from to n j o h l d e =
-    rw (bytes-more to (take n (drop from s)) j (omega (arith, length-part from n s l))) (did-both d (rw (copy-next from to n j o h l d) at e))
+    rw (bytes-more to (take n (drop from s)) j (omega (arith, length-part from n s l)))
+    (did-both d (rw (copy-next from to n j o h l d) at e))
 
 -- ---- the name and the data, as steps of the whole image
 
 pub copied-name : (s : Image) (from to n : ℕ) → from + 8 + n ≤ length s
-    → bytes-at (to + 8) (take n (drop (from + 8) s)) ++ name-end-steps (to + 8 + n) ≡ shifted to (name-steps (take n (drop 8 (drop from s))))
+    → bytes-at (to + 8) (take n (drop (from + 8) s)) ++ name-end-steps (to + 8 + n) ≡ shifted to
+    (name-steps (take n (drop 8 (drop from s))))
 copied-name s from to n h =
     let w = take n (drop (from + 8) s) in
     let e : to + (8 + length w) ≡ to + 8 + n = omega (arith, length-part (from + 8) n s h) in
@@ -74,7 +77,8 @@ copied-data s from to n d = rw (drop-drop (up8 (n + 1)) 8 (drop from s), drop-dr
     (sym (shifted-bytes to (8 + up8 (n + 1)) (take d (drop (from + (8 + up8 (n + 1))) s))))
 
 -- how many steps they are
-pub name-count : (s : Image) (from to n : ℕ) → from + 8 + n ≤ length s → length (shifted to (name-steps (take n (drop 8 (drop from s))))) ≡ n + 2
+pub name-count : (s : Image) (from to n : ℕ) → from + 8 + n ≤ length s
+    → length (shifted to (name-steps (take n (drop 8 (drop from s))))) ≡ n + 2
 name-count s from to n h =
     let w = take n (drop 8 (drop from s)) in
     omega (arith, length-shifted to (name-steps w), length-name w, length-take-le n (drop 8 (drop from s)) (simp length-drop (omega arith)))
@@ -129,7 +133,8 @@ writes-name b w h =
 pub writes-record : (name content : List ℕ) (z : ℕ) → z ≡ size-of (length name) (length content) → Writes-in 0 z (record-steps name content)
 writes-record name content z e =
     let d : List Step = data-steps (length name) content in
-    writes-append 0 z (header-steps (length content)) (name-steps name ++ (d ++ commit-steps)) (writes-header z (length content) (omega arith))
+    writes-append 0 z (header-steps (length content)) (name-steps name ++ (d ++ commit-steps))
+    (writes-header z (length content) (omega arith))
     (writes-append 0 z (name-steps name) (d ++ commit-steps) (writes-name z name (omega arith))
     (writes-append 0 z d commit-steps (writes-bytes 0 z (8 + up8 (length name + 1)) content (omega arith) (omega arith))
     (omega arith, omega arith, tt)))
@@ -140,7 +145,8 @@ copy-keeps : {s t : Image} {m r : Meter} (ss : List Step) (from to n d e : ℕ) 
     → body n d (drop from t) ≡ body n d (drop from s)
 copy-keeps ss from to n d e o h did p =
     same-body from n d did (writes-avoids (to + 0) (to + e) (from + 8) (up8 (n + 1) + up8 d) (shifted to ss)
-    (off-part to (to + size-of n d) from (size-of n d) 8 (up8 (n + 1) + up8 d) (to + 0) (to + e) o (omega arith) (omega arith) (omega arith))
+    (off-part to (to + size-of n d) from (size-of n d) 8 (up8 (n + 1) + up8 d) (to + 0) (to + e) o (omega arith) (omega arith)
+    (omega arith))
     (writes-shifted to 0 e ss p))
 
 -- the steps of a record with n name bytes and d data bytes, phase by phase
@@ -155,7 +161,8 @@ record-shifted to name content n d e f =
     ∙ ap (λ (i : ℕ). shifted to (data-steps i content) ++ (program (to + 2) 0xFC ∷ [])) e))
 
 -- the phases of a copy, each reading the image that the one before it left
-module _ {s s₁ s₂ s₃ t : Image} {m a b c r : Meter} (from to n d : ℕ) (fits : from + size-of n d ≤ length s) (apart : Apart from to (size-of n d))
+module _ {s s₁ s₂ s₃ t : Image} {m a b c r : Meter} (from to n d : ℕ) (fits : from + size-of n d ≤ length s)
+    (apart : Apart from to (size-of n d))
   where
     pub copied-record : Did s m (shifted to (header-steps d)) s₁ a
         → Did s₁ a (shifted to (name-steps (name-of (entry-at s₁ from n d)))) s₂ b
@@ -170,7 +177,8 @@ module _ {s s₁ s₂ s₃ t : Image} {m a b c r : Meter} (from to n d : ℕ) (f
         copy-keeps (header-steps d) from to n d 8 apart (omega arith) header (writes-header 8 d (omega arith)) in
         let name′ : Did s₁ a (shifted to (name-steps (name-of own))) s₂ b = rw (same-name n d (drop from s) (drop from s₁) first) at name in
         let second : body n d (drop from s₂) ≡ body n d (drop from s₁) =
-        copy-keeps (name-steps (name-of own)) from to n d (9 + n) apart (omega arith) name′ (writes-name (9 + n) (name-of own) (omega arith)) in
+        copy-keeps (name-steps (name-of own)) from to n d (9 + n) apart (omega arith) name′
+        (writes-name (9 + n) (name-of own) (omega arith)) in
         let content′ : Did s₂ b (shifted to (data-steps n (content-of own))) s₃ c =
         rw (same-content n d (drop from s) (drop from s₂) (second ∙ first)) at content in
         rw (record-shifted to (name-of own) (content-of own) n d named filled) (did-both header (did-both name′ (did-both content′ commit)))

@@ -125,11 +125,13 @@ unfolding put-steps
 copy-avoids p x e h f =
     let z : ℕ = size x in
     let a : ℕ = address p z in
-    let off : Off (a + 0) (a + z) (x .at) 1 = ⊎-elim (λ (l : p .head + z ≤ a). inl (omega arith)) (λ (l : a + z ≤ p .head). inr (omega arith))
+    let off : Off (a + 0) (a + z) (x .at) 1 = ⊎-elim (λ (l : p .head + z ≤ a). inl (omega arith))
+    (λ (l : a + z ≤ p .head). inr (omega arith))
     (copy-apart p z h f) in
     let written : List Step = shifted a (record-steps (name-of x) (content-of x)) in
     let marked : with-marker p z ≡ true → x .at + 1 ≤ p .tail = λ m. omega (arith, h .before (marker-before-turn p z f m .0)) in
-    avoids-append (x .at) 1 (migrate-steps (some x)) (turn-steps p z ++ (written ++ delete-steps (some x))) (migrate-avoids x (x .at) 1 (inr (omega arith)))
+    avoids-append (x .at) 1 (migrate-steps (some x)) (turn-steps p z ++ (written ++ delete-steps (some x)))
+    (migrate-avoids x (x .at) 1 (inr (omega arith)))
     (avoids-append (x .at) 1 (turn-steps p z) (written ++ delete-steps (some x)) (marks-avoid (x .at) 1 (p .tail) (with-marker p z) marked)
     (avoids-append (x .at) 1 written (delete-steps (some x))
     (writes-avoids (a + 0) (a + z) (x .at) 1 written off

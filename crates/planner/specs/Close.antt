@@ -13,7 +13,8 @@ use Rattle.spec.specs.Step.{Image, Step, program}
 use Rattle.spec.specs.Geometry.{floor, sectors}
 use Rattle.spec.specs.Record.{Entry}
 use Rattle.spec.specs.Planner.{Slices}
-use Rattle.spec.specs.Move.{mark-steps, clean-steps, vacated-end, vacated, vacated-steps, start-steps, forget-steps, vacate-steps, close-steps}
+use Rattle.spec.specs.Move.{mark-steps, clean-steps, vacated-end, vacated, vacated-steps}
+use Rattle.spec.specs.Move.{start-steps, forget-steps, vacate-steps, close-steps}
 use Rattle.laws.specs.Sectors.{sectors-none, sectors-more}
 use Rattle.moving.specs.Clean.{cleaning, clean-next, clean-none, mark-as-was, data-from, cleaned-steps}
 use Rattle.window.specs.declared.Window.{Window}
@@ -74,5 +75,6 @@ close-at N x y low =
 pub close-same : (N : ℕ) (x y z : Entry) (low : ℕ) → y .at ≡ z .at → close-steps N x y low ≡ close-steps N x z low
 close-same N x y z low e =
     close-at N x y low
-    ∙ ap (λ (a : ℕ). cleaned-steps x ++ vacate-steps (standing (x .at)) (standing a) low (sectors (floor (x .at)) (vacated-end N (standing a)))) e
+    ∙ ap (λ (a : ℕ). cleaned-steps x ++ vacate-steps (standing (x .at)) (standing a) low
+    (sectors (floor (x .at)) (vacated-end N (standing a)))) e
     ∙ sym (close-at N x z low)

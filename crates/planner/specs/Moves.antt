@@ -57,12 +57,14 @@ moves-left image k all v = walked k all (v .place) (rest image (v .cursor) .entr
 
 -- ---- what (b) to (f) leave
 
-pub record On-handed (image : Image) (x : Spot) (past : Cursor) (p : Place) (c : Copied) (s : Slices) (w : Window) (t : Slices) (v : Walk) (r : Window)
+pub record On-handed (image : Image) (x : Spot) (past : Cursor) (p : Place) (c : Copied) (s : Slices) (w : Window) (t : Slices) (v : Walk)
+    (r : Window)
     : Type 0 where
   pub steps : List Step
   pub handed : Handed s w steps t r
   pub moves : (k : ℕ) (all : List Entry) (ss : List Step)
-      → going-on k all (length image) (entry-of image x) (rest image past .entries) p (copy-entry c) ss ≡ (ss ++ steps) ∷ moves-left image k all v
+      → going-on k all (length image) (entry-of image x) (rest image past .entries) p (copy-entry c) ss ≡
+      (ss ++ steps) ∷ moves-left image k all v
   pub known : Known image v
   pub few : r .passed ≤ w .passed + (2 * length image + 4)
 
@@ -73,7 +75,8 @@ Over-handed image x past p c s w t (Moved.On v r) = On-handed image x past p c s
 
 -- ---- what a move of a live X leaves
 
-pub record Live-went (image : Image) (x : Spot) (past : Cursor) (p : Place) (c : Copied) (s : Slices) (w : Window) (t : Slices) (v : Walk) (r : Window)
+pub record Live-went (image : Image) (x : Spot) (past : Cursor) (p : Place) (c : Copied) (s : Slices) (w : Window) (t : Slices) (v : Walk)
+    (r : Window)
     : Type 0 where
   pub steps : List Step
   pub handed : Handed s w steps t r
@@ -175,12 +178,17 @@ never-ends k all N x [] p Copied.None a ss e = let z : _≡_ {A = ℕ} 0 1 = cc 
 never-ends k all N x [] p (Copied.At b) a ss e = let z : _≡_ {A = ℕ} 0 1 = cc in omega arith
 never-ends k all N x (y ∷ xs) p c a ss e = let z : _≡_ {A = ℕ} 0 1 = cc in omega arith
 
-module _ (image : Image) (x : Spot) (past : Cursor) (p : Place) (c : Copied) (whole : Whole image x) (good : Walkable (length image) p) where
+module _ (image : Image) (x : Spot) (past : Cursor) (p : Place) (c : Copied) (whole : Whole image x)
+    (good : Walkable (length image) p) where
   size-is : size (entry-of image x) ≡ size-of (x .n) (x .d)
   size-is = ap₂ size-of (name-length-is image x whole) (content-length-is image x whole)
 
   pub live-full : (s : Slices) (w : Window) → fits p (size-of (x .n) (x .d)) ≡ false → Live-handed image x past p c s w s Moved.Stop
-  live-full s w f = (refl, λ k all l. walked-full k all p (entry-of image x) (rest image past .entries) (copy-entry c) l (ap (fits p) size-is ∙ f))
+  live-full s w f = (
+    refl,
+    λ k all l. walked-full k all p (entry-of image x) (rest image past .entries) (copy-entry c) l
+        (ap (fits p) size-is ∙ f),
+  )
 
   module _ (f : fits p (size-of (x .n) (x .d)) ≡ true) (a : ℕ) (at : address p (size-of (x .n) (x .d)) ≡ a) (q : Place)
       (after : place-after p (size-of (x .n) (x .d)) ≡ q) where
@@ -248,7 +256,8 @@ module _ (image : Image) (all : List Entry) (v : Walk) (good : Known image v) wh
         ≡ going-on k all (length image) (entry-of image x) (rest image past .entries) (v .place) (copy-entry (v .copy)) []
     dead-walked k l =
         here k ∙ walked-dead k all (v .place) (entry-of image x) (rest image past .entries) (copy-entry (v .copy)) l
-        ∙ ap (λ (N : ℕ). going-on k all N (entry-of image x) (rest image past .entries) (v .place) (copy-entry (v .copy)) []) (good .place .whole)
+        ∙ ap (λ (N : ℕ). going-on k all N (entry-of image x) (rest image past .entries) (v .place) (copy-entry (v .copy)) [])
+        (good .place .whole)
 
     pub move-dead : (s t : Slices) (w : Window) (r : Moved) → live all (entry-of image x) ≡ false
         → Over-handed image x past (v .place) (v .copy) s w t r → Move-handed image all v s w t r

@@ -48,8 +48,10 @@ and-true false = refl
 module _ (p : Place) (y : ℕ) where
   pub led-zero : y ≡ 0 → led-place p y ≡ come-round (with-head p y false)
   unfolding led-place
-  led-zero h = ap (λ (t : Bool). come-round (with-head p y t)) (ap (λ (t : Bool). p .turned && not t) (eq-eqb y 0 h) ∙ and-false (p .turned))
+  led-zero h = ap (λ (t : Bool). come-round (with-head p y t))
+      (ap (λ (t : Bool). p .turned && not t) (eq-eqb y 0 h) ∙ and-false (p .turned))
 
   pub led-other : (y ≡ 0 → ⊥) → led-place p y ≡ come-round (with-head p y (p .turned))
   unfolding led-place
-  led-other h = ap (λ (t : Bool). come-round (with-head p y t)) (ap (λ (t : Bool). p .turned && not t) (ne-eqb y 0 h) ∙ and-true (p .turned))
+  led-other h = ap (λ (t : Bool). come-round (with-head p y t))
+      (ap (λ (t : Bool). p .turned && not t) (ne-eqb y 0 h) ∙ and-true (p .turned))

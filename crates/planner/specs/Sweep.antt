@@ -23,7 +23,8 @@ pub record Moves-handed (s : Slices) (w : Window) (ms : List (List Step)) (t : S
   pub count : n ≡ length ms
 
 -- n of the moves ms are handed out, and at most `left` may follow from the walk v on
-pub record Walking (image : Image) (all : List Entry) (ms : List (List Step)) (s : Slices) (w : Window) (t : Slices) (q : Window) (left n : ℕ) (v : Walk)
+pub record Walking (image : Image) (all : List Entry) (ms : List (List Step)) (s : Slices) (w : Window) (t : Slices) (q : Window)
+    (left n : ℕ) (v : Walk)
     : Type 0 where
   pub leads : Leads s w (concat ms) t q (concat (moves-left image left all v))
   pub count : n + length (moves-left image left all v) ≡ length ms
@@ -53,7 +54,8 @@ module _ {image : Image} {all : List Entry} where
     pub walking-more : (k : ℕ) → left ≡ suc k → (u : Slices) (x : Walk) (r : Window) → Went image all v t q u x r
         → Walking image all ms s w u r k (n + 1) x
     walking-more k z u x r o =
-        let e : moves-left image left all v ≡ o .steps ∷ moves-left image k all x = ap (λ (i : ℕ). moves-left image i all v) z ∙ o .moves k in
+        let e : moves-left image left all v ≡ o .steps ∷ moves-left image k all x = ap (λ (i : ℕ). moves-left image i all v) z
+        ∙ o .moves k in
         record {
           leads = leads-more (g .leads) (ap concat e) (o .handed);
           count = omega (arith, g .count, ap length e);

@@ -65,7 +65,8 @@ module _ (k : ℕ) (all : List Entry) (p : Place) (x : Entry) (xs : List Entry) 
   walked-full l f = rw (walked, l, f)
 
   walked-copy : live all x ≡ true → fits p (size x) ≡ true → walked (suc k) all p (x ∷ xs) c
-      ≡ going-on k all (p .length) x xs (copied-place p (size x)) (first-copy c (copy-of p x)) (put-steps p (some x) (name-of x) (content-of x))
+      ≡ going-on k all (p .length) x xs (copied-place p (size x)) (first-copy c (copy-of p x))
+      (put-steps p (some x) (name-of x) (content-of x))
   unfolding walked
   walked-copy l f = rw (walked, l, f)
 
@@ -112,7 +113,8 @@ first-is (Copied.At b) p x a e = refl
 
 module _ (k : ℕ) (all : List Entry) (p : Place) (x : Entry) (xs : List Entry) (c : Copied) (a : ℕ) where
   pub walked-live : live all x ≡ true → fits p (size x) ≡ true → address p (size x) ≡ a → walked (suc k) all p (x ∷ xs) (copy-entry c)
-      ≡ going-on k all (p .length) x xs (copied-place p (size x)) (copy-entry (first-of c a)) (put-steps p (some x) (name-of x) (content-of x))
+      ≡ going-on k all (p .length) x xs (copied-place p (size x)) (copy-entry (first-of c a))
+      (put-steps p (some x) (name-of x) (content-of x))
   walked-live l f e =
       let q : Place = copied-place p (size x) in
       let ss : List Step = put-steps p (some x) (name-of x) (content-of x) in

@@ -15,7 +15,8 @@ use Rattle.spec.specs.Geometry.{floor, up8}
 use Rattle.spec.specs.Bytes.{is-unfinished}
 use Rattle.spec.specs.Record.{size-of, rec-of, status-of, Entry}
 use Rattle.spec.specs.Next.{next}
-use Rattle.spec.specs.Chain.{Chain, add, stop, allowed, chain, Reading, ended, read, read-turned, joined, from-head, from-zero, read-on, reading-from}
+use Rattle.spec.specs.Chain.{Chain, add, stop, allowed, chain, Reading, ended, read}
+use Rattle.spec.specs.Chain.{read-turned, joined, from-head, from-zero, read-on, reading-from}
 use Rattle.chain.specs.declared.Cursor.{Cursor}
 use Rattle.chain.specs.declared.Item.{Item}
 use Rattle.chain.specs.Cursor.{start, window, look, goes-on, turn, past, torn-end, stops, unfinished-at, settle, advance}
@@ -73,7 +74,8 @@ module _ (image : List ℕ) where
   rest-turn : (c : Cursor) → goes-on (c .room) (look image c) ≡ true → rest image c ≡ rest image (turn (c .room) (c .pending))
   rest-turn c h =
       let u : Cursor = turn (c .room) (c .pending) in
-      rest-step image c ∙ ap (λ (r : Item). followed image r (rest image)) (advance-on image c h ∙ sym (advance-here image u (never (look image u))))
+      rest-step image c ∙ ap (λ (r : Item). followed image r (rest image))
+      (advance-on image c h ∙ sym (advance-here image u (never (look image u))))
       ∙ sym (rest-step image u)
 
   torn-done : (c : Cursor) (t : Bool) → ltb 0 (c .room) ≡ t
@@ -95,7 +97,8 @@ module _ (image : List ℕ) where
   stopped : (c : Cursor) (x : Next) (k : ℕ) → look image c ≡ x → Not-record x → Chained (suc k) c
   unfolding finish look
   stopped c x k e z =
-      go (goes-on (c .room) x) refl ∙ ap (finish (c .room) (c .turned)) (sym (chain-stop k (c .pending) (c .at) (window image c) x z e)) where
+      go (goes-on (c .room) x) refl ∙ ap (finish (c .room) (c .turned))
+      (sym (chain-stop k (c .pending) (c .at) (window image c) x z e)) where
         go : (t : Bool) → goes-on (c .room) x ≡ t → rest image c ≡ finish (c .room) (c .turned) (stop (c .pending) (c .at) x)
         go true q = rw (finish, q) (rest-turn c (ap (goes-on (c .room)) e ∙ q))
         go false q =
@@ -113,7 +116,8 @@ module _ (image : List ℕ) where
       let u : Cursor = past c z (unfinished-at image (c .at)) in
       let l : z ≤ c .end - c .at = look-inside image c n d e in
       let p : w ≡ take (c .end - c .at) (drop (c .at) image) = sym (part-window (c .at) (c .end) image o) in
-      let st : status-of w ≡ status-of (drop (c .at) image) = ap status-of p ∙ getD-take (c .end - c .at) (drop (c .at) image) 2 0 (omega arith) in
+      let st : status-of w ≡ status-of (drop (c .at) image) = ap status-of p
+      ∙ getD-take (c .end - c .at) (drop (c .at) image) 2 0 (omega arith) in
       let r : rec-of w n d ≡ rec-of (drop (c .at) image) n d = ap (λ (l : List ℕ). rec-of l n d) p
       ∙ rec-part (c .end - c .at) n d (drop (c .at) image) l in
       let q : window image u ≡ drop z w = sym (drop-drop z (c .at) (take (c .end) image)) in
@@ -178,9 +182,11 @@ module _ (image : List ℕ) where
       entries = from-zero image h pending .entries;
       ending = stops 0 true (from-zero image h pending .tail) (from-zero image h pending .last);
     }
-    after-turn pending = chained (suc (length image)) (turn (floor h) pending) (omega arith) (omega arith) ∙ finish-last true (from-zero image h pending)
+    after-turn pending = chained (suc (length image)) (turn (floor h) pending) (omega arith) (omega arith)
+        ∙ finish-last true (from-zero image h pending)
 
-    turned-is : (c : Chain) → read-of (length image) h (joint (c .entries) (rest image (turn (floor h) (c .pending)))) ≡ read-turned (length image) h c
+    turned-is : (c : Chain) → read-of (length image) h (joint (c .entries) (rest image (turn (floor h) (c .pending)))) ≡ read-turned
+        (length image) h c
         (from-zero image h (c .pending))
     turned-is c =
         let d : Chain = from-zero image h (c .pending) in
@@ -197,7 +203,8 @@ module _ (image : List ℕ) where
     joined-is c Next.Over e p = rw (joined, finish, e, lt-ltb 0 (floor h) p) (turned-is c)
     joined-is c Next.Bad e p = rw (joined, finish, e) (rw e)
 
-    by-room : (t : Bool) → eqb (floor h) 0 ≡ t → read-of (length image) h (rest image (start h (floor h) (length image))) ≡ reading-from image h
+    by-room : (t : Bool) → eqb (floor h) 0 ≡ t → read-of (length image) h
+        (rest image (start h (floor h) (length image))) ≡ reading-from image h
     unfolding read-on
     by-room true e =
         let c : Chain = from-head image h in

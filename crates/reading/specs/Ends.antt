@@ -53,9 +53,11 @@ module _ (image : List ℕ) where
   onward-ends c d (Item.Broken a w) u o = λ q. (u (o q .0) .0, omega (arith, u (o q .0) .1, o q .1))
 
   pub rest-closes : (c : Cursor) → Closes image c (rest image c .ending)
-  rest-closes = along image (λ (c : Cursor). Closes image c (rest image c .ending)) (λ c ih. rw (rest-step image c) (go c (advance image c) (way image c) ih))
+  rest-closes = along image (λ (c : Cursor). Closes image c (rest image c .ending))
+      (λ c ih. rw (rest-step image c) (go c (advance image c) (way image c) ih))
     where
-      go : (c : Cursor) (r : Item) → Way image c r → ((e : Spot) (next : Cursor) → Reached image c e next → Closes image next (rest image next .ending))
+      go : (c : Cursor) (r : Item) → Way image c r
+          → ((e : Spot) (next : Cursor) → Reached image c e next → Closes image next (rest image next .ending))
           → Closes image c (followed image r (rest image) .ending)
       go c (Item.Record e next) w ih = onward-ends c next (rest image next .ending) (next-up w) (ih e next w)
       go c (Item.End t u) w ih = stop-up w

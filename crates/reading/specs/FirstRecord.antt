@@ -13,7 +13,8 @@ use Rattle.spec.specs.declared.Kind.{Kind}
 use Rattle.spec.specs.Step.{Image}
 use Rattle.spec.specs.Basics.{long}
 use Rattle.spec.specs.Geometry.{floor}
-use Rattle.spec.specs.Bytes.{clears, on-way, under-way, is-record, is-wrap, is-start, is-clean, is-record-begun, is-wrap-begun, is-high, is-erased, is-reserved, is-spare}
+use Rattle.spec.specs.Bytes.{clears, on-way, under-way, is-record, is-wrap, is-start, is-clean}
+use Rattle.spec.specs.Bytes.{is-record-begun, is-wrap-begun, is-high, is-erased, is-reserved, is-spare}
 use Rattle.spec.specs.Record.{low-of, high-of, status-of, spare-of, data-len-of, size-of, name-length}
 use Rattle.spec.specs.Next.{is-torn-marker, kind, sized, next-at, next}
 use Rattle.laws.specs.Tests.{wrong}
@@ -42,7 +43,8 @@ either true a b p q = p
 either false a b p q = q
 
 -- the first byte is on no way to a record's or a marker's, is not FF and not a marker's
-module _ (b c st spare : ℕ) (r : is-record-begun b ≡ false) (w : is-wrap-begun b ≡ false) (f : eqb b 0xFF ≡ false) (m : is-wrap b ≡ false) where
+module _ (b c st spare : ℕ) (r : is-record-begun b ≡ false) (w : is-wrap-begun b ≡ false) (f : eqb b 0xFF ≡ false)
+    (m : is-wrap b ≡ false) where
   kind-plain : Plain (kind b c st spare)
   unfolding kind is-torn-marker
   kind-plain =
@@ -90,7 +92,8 @@ module _ (image : Image) (h : ℕ) (l : h < length image) (b : Low (getD image h
       let s : List ℕ = drop h image in
       let e : low-of s ≡ getD image h 0 = getD-drop h image 0 0 ∙ ap (λ (i : ℕ). getD image i 0) (add-zero h) in
       ap (λ (t : List ℕ). goes-on (floor h) (next (drop h t))) (take-length image)
-      ∙ next-plain (floor h) s _ (low-plain (low-of s) (high-of s) (status-of s) (spare-of s) (rw e b)) (long-le 1 s (rw length-drop (omega arith)))
+      ∙ next-plain (floor h) s _ (low-plain (low-of s) (high-of s) (status-of s) (spare-of s) (rw e b))
+      (long-le 1 s (rw length-drop (omega arith)))
       refl
 
   from-here : (d : Cursor) → From image (first-cursor image h) d → d ≡ first-cursor image h
@@ -127,4 +130,5 @@ module _ (image : Image) (h : ℕ) (l : h < length image) (b : Low (getD image h
 
     pub second-even : h % 8 ≡ 0 → (y : Spot) (d : Cursor) → Reached image c y d → y .at % 8 ≡ 0
     second-even e y d q =
-        ap (λ (i : ℕ). i % 8) (q .at) ∙ from-on image (length image) h (h + size-of (x .n) (x .d)) c (q .seen) (q .from) (past-on-way e) .even
+        ap (λ (i : ℕ). i % 8) (q .at) ∙ from-on image (length image) h (h + size-of (x .n) (x .d)) c (q .seen) (q .from)
+        (past-on-way e) .even

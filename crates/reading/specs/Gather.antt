@@ -43,11 +43,12 @@ pub record Noting (image : List ℕ) (start : Cursor) (wanted : ℕ) (e : Spot) 
   pub state : Gathering image start wanted g table
   pub passes : Passes image (g .cursor) e next
 
--- e is no mark and stands behind the second record, and it is a file
+-- e is no mark and stands behind the second record, and it is a file with a good name
 pub record Plain-file (image : List ℕ) (e : Spot) (t : Tally) : Type 0 where
   pub two : 2 ≤ t .records
   pub unmarked : marked (entry-of image e) ≡ false
   pub file : is-file (entry-of image e) ≡ true
+  pub fine : name-ok (name-of (entry-of image e)) ≡ true
 
 module _ {image : List ℕ} {start : Cursor} {wanted : ℕ} where
   pub gathering-start : {table : List ℕ} → Cursor-sound image start → 16 ≤ length image → 512 ≤ length table

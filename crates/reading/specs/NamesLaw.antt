@@ -68,7 +68,8 @@ module _ (es : List Entry) where
   all-fine : (xs : List Entry) → all (name-legal es) es ≡ true → all (name-legal es) xs ≡ true → all name-fine xs ≡ true
   all-fine [] h l = refl
   all-fine (x ∷ xs) h l =
-      all-both name-fine x xs (fine-one x h (all-first (name-legal es) x xs _ refl l)) (all-fine xs h (all-rest (name-legal es) x xs _ refl l))
+      all-both name-fine x xs (fine-one x h (all-first (name-legal es) x xs _ refl l))
+      (all-fine xs h (all-rest (name-legal es) x xs _ refl l))
 
   all-legal : (xs : List Entry) → all name-fine xs ≡ true → all (name-legal es) xs ≡ true
   all-legal [] h = refl
@@ -96,7 +97,8 @@ module _ (es : List Entry) where
     go : (s t : Bool) → superseded es x ≡ s → is-file x ≡ t → (any (superseded es) xs ≡ false → keep (live es) xs ≡ keep is-file xs)
         → keep (live es) (x ∷ xs) ≡ keep is-file (x ∷ xs)
     go true t p q ih = wrong (sym (rw (p, any) at h))
-    go false true p q ih = let l : live es x ≡ true = live-one x p ∙ q in rw (keep, l, q) (ap (λ (k : List Entry). x ∷ k) (ih (rw (p, any) at h)))
+    go false true p q ih = let l : live es x ≡ true = live-one x p ∙ q in
+        rw (keep, l, q) (ap (λ (k : List Entry). x ∷ k) (ih (rw (p, any) at h)))
     go false false p q ih = let l : live es x ≡ false = live-one x p ∙ q in rw (keep, l, q) (ih (rw (p, any) at h))
 
   pub files-are : any (superseded es) es ≡ false → files es ≡ keep is-file es

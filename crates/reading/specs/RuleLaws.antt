@@ -48,7 +48,8 @@ module _ (es : List Entry) (x y : Entry) where
   unfolding second-ok
   second-clean m l k = rw (second-ok, m, l, k)
 
-  pub second-start : marked y ≡ true → live es x ≡ false → is-clean (y .it .low) ≡ false → eqb (floor (y .at)) (floor (x .at)) ≡ second-ok es x y
+  pub second-start : marked y ≡ true → live es x ≡ false → is-clean (y .it .low) ≡ false
+      → eqb (floor (y .at)) (floor (x .at)) ≡ second-ok es x y
   unfolding second-ok
   second-start m l k = rw (second-ok, m, l, k)
 
@@ -60,7 +61,8 @@ module _ {image : List ℕ} {start : Cursor} {t : Tally} (w : Tallied image star
 
   pub count-is : t .records ≡ length (rest image start .entries)
   count-is =
-      ap (λ (u : Tally). u .records) (w .same) ∙ tally-records none-yet (rest image start .entries) ∙ zero-add (length (rest image start .entries))
+      ap (λ (u : Tally). u .records) (w .same) ∙ tally-records none-yet (rest image start .entries)
+      ∙ zero-add (length (rest image start .entries))
 
   -- the FC and F8 records with a name are the live files, where none is superseded
   pub files-counted : any (superseded (rest image start .entries)) (rest image start .entries) ≡ false
@@ -93,7 +95,8 @@ module _ {image : List ℕ} {start : Cursor} {t : Tally} (w : Tallied image star
   marks-further h e = rw e at (marks-all h)
 
   pub marks-second : 2 ≤ t .records → t .further ≡ false
-      → second-ok (rest image start .entries) (entry-of image (t .first)) (entry-of image (t .second)) ≡ marks-ok (rest image start .entries)
+      → second-ok (rest image start .entries) (entry-of image (t .first)) (entry-of image (t .second)) ≡ marks-ok
+      (rest image start .entries)
   marks-second h e = rw e at (marks-all h)
 
   pub second-none : t .records < 2 → false ≡ second-marked (rest image start .entries)
@@ -105,7 +108,8 @@ module _ {image : List ℕ} {start : Cursor} {t : Tally} (w : Tallied image star
 
   pub second-low : 2 ≤ t .records → marked (entry-of image (t .second)) ≡ second-marked (rest image start .entries)
   second-low h = go (rest image start .entries) (w .same) stands (omega (arith, count-is)) where
-    go : (es : List Entry) → t ≡ tally none-yet es → Each (Stands image) es → 2 ≤ length es → marked (entry-of image (t .second)) ≡ second-marked es
+    go : (es : List Entry) → t ≡ tally none-yet es → Each (Stands image) es → 2 ≤ length es
+        → marked (entry-of image (t .second)) ≡ second-marked es
     go [] q f l = absurd (omega arith)
     go (x ∷ []) q f l = absurd (omega arith)
     go (x ∷ (y ∷ es)) q f l =
@@ -170,7 +174,8 @@ module _ (image : List ℕ) (r : Reading) where
         unfolding calm
         unsettled-wrap d = sym (settled-is image r ∙ rw (calm, a, b, c, d))
 
-        pub settled-but : (x : Bool) → wrap-torn (r .ending) ≡ false → any (superseded (r .entries)) (r .entries) ≡ x → not x ≡ settled image r
+        pub settled-but : (x : Bool) → wrap-torn (r .ending) ≡ false → any (superseded (r .entries)) (r .entries) ≡ x
+            → not x ≡ settled image r
         unfolding calm
         settled-but x d s = sym (settled-is image r ∙ rw (calm, a, b, c, d, s))
 
@@ -184,7 +189,8 @@ and-last false b c d h = absurd (let z : _≡_ {A = ℕ} 0 1 = cc in omega arith
 pub settled-quiet : (image : List ℕ) (r : Reading) → settled image r ≡ true → any (superseded (r .entries)) (r .entries) ≡ false
 unfolding calm
 settled-quiet image r h =
-    and-last (not (head-clean (r .entries))) (not (second-marked (r .entries))) (not (last-open (r .entries)) && not (wrap-torn (r .ending)))
+    and-last (not (head-clean (r .entries))) (not (second-marked (r .entries)))
+    (not (last-open (r .entries)) && not (wrap-torn (r .ending)))
     (any (superseded (r .entries)) (r .entries)) (sym (settled-is image r) ∙ h)
 
 -- ---- the whole reading
@@ -204,7 +210,8 @@ settled-none image x e = ap (λ (a : Answer Reading). onward a (if-settled image
 pub settled-by : (image : List ℕ) (r : Reading) (t : Bool) → give r ≡ reading image → settled image r ≡ t
     → checked t (numbered 16) (give r) ≡ settled-reading image
 unfolding settled-reading if-settled
-settled-by image r t e s = ap (λ (b : Bool). checked b (numbered 16) (give r)) (sym s) ∙ ap (λ (a : Answer Reading). onward a (if-settled image)) e
+settled-by image r t e s = ap (λ (b : Bool). checked b (numbered 16) (give r)) (sym s)
+    ∙ ap (λ (a : Answer Reading). onward a (if-settled image)) e
 
 -- a judgement, as the reading of a settled image or 16
 pub settled-told : (image : List ℕ) (j : Judged) (b : Bool) → j .settled ≡ b → give (reading-of image (j .survey)) ≡ reading image

@@ -40,7 +40,8 @@ pub record Taken (s : Image) (c : Cursor) (x : Spot) (next : Cursor) : Type 0 wh
   pub passes : Passes s c x next
   pub step : advance s c ≡ Item.Record x next
 
-pub taken : {s : Image} {c k : Cursor} {r : Item} {x : Spot} {next : Cursor} → k ≡ c → r ≡ advance s k → Inside s k r → r ≡ Item.Record x next
+pub taken : {s : Image} {c k : Cursor} {r : Item} {x : Spot} {next : Cursor} → k ≡ c → r ≡ advance s k → Inside s k r
+    → r ≡ Item.Record x next
     → Taken s c x next
 taken {s} {c} {k} {r} {x} {next} q e i f =
     record { passes = subst (λ (v : Cursor). Passes s v x next) q (passes (e, i) f); step = ap (advance s) (sym q) ∙ sym e ∙ f }
@@ -98,7 +99,8 @@ module _ (image : Image) (h : ℕ) (w : Led image h) where
       stands-by h (ends-on image (length image) h h (first-cursor image h) o)
 
   -- the records, as far as the code has looked
-  pub none-listed : {k : Cursor} (q : Item) → k ≡ first-cursor image h → q ≡ advance image k → Not-record q → reading-from image h .entries ≡ []
+  pub none-listed : {k : Cursor} (q : Item) → k ≡ first-cursor image h → q ≡ advance image k → Not-record q
+      → reading-from image h .entries ≡ []
   none-listed q f e z = entries-are ∙ ap (λ (r : Run). r .entries) (rest-done image (first-cursor image h) q (e ∙ ap (advance image) f) z)
 
   module _ {x : Spot} {c : Cursor} (t : Taken image (first-cursor image h) x c) where
@@ -119,5 +121,6 @@ module _ (image : Image) (h : ℕ) (w : Led image h) where
     pub stands-past : Standing (length image) h (h + size-of (x .n) (x .d)) (reading-from image h .place)
     stands-past =
         let lo : ℕ = h + size-of (x .n) (x .d) in
-        let o : On (length image) h lo c = past-on-way image h (w .inside) (w .low) x c (reached image (first-cursor image h) x c (t .step)) (w .even) in
+        let o : On (length image) h lo c = past-on-way image h (w .inside) (w .low) x c
+        (reached image (first-cursor image h) x c (t .step)) (w .even) in
         stands-by lo (rw (t .passes .split) (ends-on image (length image) h lo c o))

@@ -52,13 +52,16 @@ pub first-sound : (image : Image) (h : ℕ) → h ≤ length image → In-range 
 first-sound image h l s = record { ordered = l; inside = omega arith; room = omega arith; small = s }
 
 module _ (image : Image) (h : ℕ) (l : h ≤ length image) (small : In-range (length image)) (p : Pass)
-    (q : p ≡ passed none-yet (rest image (first-cursor image h))) (spots : Spots image (p .tally)) (inside : End-inside image (p .end)) where
+    (q : p ≡ passed none-yet (rest image (first-cursor image h))) (spots : Spots image (p .tally))
+    (inside : End-inside image (p .end)) where
   read-as : (s : Item) → p .end ≡ s → shown image (length image) h (rest image (first-cursor image h) .entries) s ≡ reading-from image h
   read-as s d =
-      ap (shown image (length image) h (rest image (first-cursor image h) .entries)) (sym d ∙ ap (λ (x : Pass). x .end) q) ∙ reading-is image h l
+      ap (shown image (length image) h (rest image (first-cursor image h) .entries)) (sym d ∙ ap (λ (x : Pass). x .end) q)
+      ∙ reading-is image h l
 
   seen-as : (t : ℕ) (w : Bool) (x : Ending) → t ≤ length image
-      → reading-of image (told (length image) h t w x (p .tally)) ≡ reading-from image h → (w ≡ false → h ≤ t) → Torn-inside (length image) x
+      → reading-of image (told (length image) h t w x (p .tally)) ≡ reading-from image h → (w ≡ false → h ≤ t)
+      → Torn-inside (length image) x
       → Seen image h (told (length image) h t w x (p .tally))
   seen-as t w x i same up torn =
       record {
@@ -78,7 +81,8 @@ module _ (image : Image) (h : ℕ) (l : h ≤ length image) (small : In-range (l
   by-end (Item.Record x d) f i o = absurd o
   by-end (Item.End t w) f i o = seen-as t w Ending.Tail i (read-as (Item.End t w) f) (λ z. o z .1) tt
   by-end (Item.TornWrap t) f i o =
-      seen-as 0 true (Ending.TornWrap t) (omega arith) (read-as (Item.TornWrap t) f) (λ z. absurd (let y : _≡_ {A = ℕ} 0 1 = cc in omega arith)) o
+      seen-as 0 true (Ending.TornWrap t) (omega arith) (read-as (Item.TornWrap t) f)
+      (λ z. absurd (let y : _≡_ {A = ℕ} 0 1 = cc in omega arith)) o
   by-end (Item.Broken t w) f i o = seen-as t w Ending.Broken i (read-as (Item.Broken t w) f) (λ z. o z .1) tt
 
   pub seen : Seen image h (survey-of (length image) h (p .end) (p .tally))

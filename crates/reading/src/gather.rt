@@ -2,6 +2,7 @@
 // by themselves, so that the compiler keeps most of what is carried along in registers.
 use crate::FullPass;
 use crate::Gathered;
+use crate::marks::hash_of;
 use crate::marks::marks_of;
 use crate::sought::found_of;
 use crate::sought::not_seen;
@@ -15,28 +16,28 @@ use chain::Spot;
 use chain::files::is_file;
 use chain::names::repeats_signed;
 use chain::plain::near;
+use chain::scan::name_fine;
 use chain::scan::none_yet;
 use chain::scan::noted_as;
 use chain::scan::noted_plain;
 use chain::walk::advance;
-use filter::NameMarks;
 use filter::marks::both;
 use filter::table::WORDS;
+use filter::table::signature_by;
 ghost use mathlib.Core.Path.{_≡_};
 ghost use mathlib.Core.Bool.{true, false};
-ghost use Prim.Native.Nat.{_≤_};
+ghost use Prim.Native.Nat.{_≤_, _<_, _^_};
 ghost use lib.ListN.{length};
 ghost use Rattle.chain.specs.Cursor.{Cursor-sound, left};
-ghost use Rattle.spec.specs.Record.{name-of};
 ghost use Rattle.chain.specs.Rest.{rest, entry-of};
 ghost use Rattle.chain.specs.FileLaws.{is-file};
 ghost use Rattle.chain.specs.Tally.{none-yet, passed, Spots, End-inside};
-ghost use Rattle.filter.specs.Marks.{Marked-as};
 ghost use Rattle.chain.specs.Repeats.{repeats-of};
-ghost use Rattle.reading.specs.Sought.{has-hash, Sought};
+ghost use Rattle.reading.specs.Sought.{hash-of, has-hash, Sought};
 ghost use Rattle.reading.specs.Gather.{nothing-yet, Gathering, Noting, Plain-file};
 
-// What is gathered, with one record more, which stands before next and is a file.
+// What is gathered, with one record more, which stands before next and is a file. Its name is read twice: `marks_of` is left to the loop
+// over plain records alone, so that the compiler puts it there.
 fn gather_named(
     image: &[u8],
     start: Cursor,
@@ -53,11 +54,12 @@ fn gather_named(
     let t = g.tally;
     let n = g.repeats;
     let f = g.sight;
-    let name = marks_of(image, e);
-    let s = name.signature;
-    let o = seen_or(name.hash == wanted, f, e);
+    let h = hash_of(image, e);
+    let s = signature_by(h);
+    let o = seen_or(h == wanted, f, e);
     let m = repeats_signed(image, start, t.records, table, n, e, s);
-    let u = noted_as(image, t, e, true, both(t.fine, name.fine), next.pending);
+    let fine = name_fine(image, e);
+    let u = noted_as(image, t, e, true, both(t.fine, fine), next.pending);
     Gathered {
         cursor: next,
         tally: u,
@@ -94,7 +96,8 @@ fn gather_one(
     }
 }
 
-// The same for a plain one that is a file, whose name is so and has not the hash that is wanted: what was seen stays.
+// The same for a plain one that is a file, whose name is a good one and has this hash, not the one that is wanted: what was seen stays,
+// and so does whether all names are good.
 fn gather_file(
     image: &[u8],
     start: Cursor,
@@ -103,10 +106,10 @@ fn gather_file(
     e: Spot,
     next: Cursor,
     wanted: u64,
-    name: NameMarks,
+    hash: u64,
 ) -> Gathered
     requires { ⌜ Cursor-sound (now image) start × Noting (now image) start wanted e next g (now table)
-        × Plain-file (now image) e (g .tally) × Marked-as (name-of (entry-of (now image) e)) name
+        × Plain-file (now image) e (g .tally) × (hash ≡ hash-of (entry-of (now image) e)) × (hash < 2 ^ 32)
         × (has-hash wanted (entry-of (now image) e) ≡ false) ⌝ }
     ensures { λ r. ⌜ Gathering (now (image .entry)) start wanted r (now (table .exit)) × (r .cursor ≡ next)
         × (2 ≤ r .tally .records) ⌝ }
@@ -114,9 +117,9 @@ fn gather_file(
     let t = g.tally;
     let n = g.repeats;
     let f = g.sight;
-    let s = name.signature;
+    let s = signature_by(hash);
     let m = repeats_signed(image, start, t.records, table, n, e, s);
-    let u = noted_plain(t, e, true, both(t.fine, name.fine), next.pending);
+    let u = noted_plain(t, e, true, t.fine, next.pending);
     Gathered {
         cursor: next,
         tally: u,
@@ -125,7 +128,8 @@ fn gather_file(
     }
 }
 
-// With the plain records from the cursor on, up to a file whose name has the hash that is wanted: so what was seen is not carried along.
+// With the plain records from the cursor on, up to a file whose name has the hash that is wanted, or is not a good one: so neither what was
+// seen nor whether all names are good is carried along.
 fn gather_plain(
     image: &[u8],
     start: Cursor,
@@ -150,7 +154,10 @@ fn gather_plain(
             if name.hash == wanted {
                 return g;
             }
-            g = gather_file(image, start, table, g, e, next, wanted, name);
+            if !name.fine {
+                return g;
+            }
+            g = gather_file(image, start, table, g, e, next, wanted, name.hash);
         } else {
             let t = g.tally;
             let n = g.repeats;

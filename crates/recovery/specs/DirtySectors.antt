@@ -28,7 +28,8 @@ erase-behind s a k h l =
     ∙ drop-append-add front (drop 4096 (drop a s)) (k - (a + 4096))
     ∙ drop-drop (k - (a + 4096)) 4096 (drop a s) ∙ drop-drop (4096 + (k - (a + 4096))) a s ∙ ap (λ (n : ℕ). drop n s) i
 
-pub erased-behind : {s t : Image} {m r : Meter} (a k : ℕ) → a + 4096 ≤ k → a + 4096 ≤ length s → Did s m (erase a ∷ []) t r → drop k t ≡ drop k s
+pub erased-behind : {s t : Image} {m r : Meter} (a k : ℕ) → a + 4096 ≤ k → a + 4096 ≤ length s → Did s m (erase a ∷ []) t r
+    → drop k t ≡ drop k s
 erased-behind {s} a k h l d = ⊎-elim (λ e. ap (drop k) e ∙ erase-behind s a k h l) (λ e. ap (drop k) e) (did-one d)
 
 -- ---- a sector that is not all FF

@@ -128,7 +128,8 @@ module _ (t : Image) (start c : Cursor) (before : List Entry) (e : Spot) (behind
         let v : Image = set t (e .at + 2) 0 in
         let new : rest v start .entries ≡ before ++ (entry-of v e ∷ rest t behind .entries) =
         rest-path (path-kept t (e .at + 2) 0 p tidy ahead .1)
-        ∙ ap (λ (l : List Entry). before ++ l) (rest-here v c e behind done-again ∙ ap (λ (r : Run). entry-of v e ∷ r .entries) rest-same) in
+        ∙ ap (λ (l : List Entry). before ++ l) (rest-here v c e behind done-again ∙ ap (λ (r : Run). entry-of v e ∷ r .entries) rest-same)
+        in
         let was : rest t start .entries ≡ before ++ (entry-of t e ∷ rest t behind .entries) =
         rest-path p ∙ ap (λ (l : List Entry). before ++ l) (rest-here t c e behind h) in
         let no : named-as 0xFC x (entry-of v e) ≡ named-as 0xFC x (entry-of t e) =
@@ -148,7 +149,8 @@ module _ (t : Image) (start c : Cursor) (before : List Entry) (e : Spot) (behind
 -- ---- the loop
 
 pub record Dropping (s : Image) (start : Cursor) (m : Meter) (t : Image) (c : Cursor) (q : Meter) : Type 0 where
-  pub left : Toward s m (drop-steps (rest s start .entries)) t q (map delete-step (keep (superseded (rest s start .entries)) (rest t c .entries)))
+  pub left : Toward s m (drop-steps (rest s start .entries)) t q
+      (map delete-step (keep (superseded (rest s start .entries)) (rest t c .entries)))
   pub same : (x : Entry) → has-named 0xFC (rest t start .entries) x ≡ has-named 0xFC (rest s start .entries) x
   pub before : List Entry
   pub path : Path t start before c
@@ -162,15 +164,18 @@ module _ {s t : Image} {start c : Cursor} {m q : Meter} (w : Dropping s start m 
   unfolding superseded
   judged x = ap (λ (b : Bool). named 0xF8 x && b) (w .same x)
 
-  dropping-on : {u : Image} {r : Meter} (e : Spot) (behind : Cursor) → advance t c ≡ Item.Record e behind → Still t u start (w .before) e behind
+  dropping-on : {u : Image} {r : Meter} (e : Spot) (behind : Cursor) → advance t c ≡ Item.Record e behind
+      → Still t u start (w .before) e behind
       → Did t q (map delete-step (keep (superseded (rest t start .entries)) (entry-of t e ∷ []))) u r → Dropping s start m u behind r
   dropping-on {u} {r} e behind h k d =
       let p = superseded (rest s start .entries) in
-      let f : map delete-step (keep p (rest t c .entries)) ≡ map delete-step (keep (superseded (rest t start .entries)) (entry-of t e ∷ [])) ++ map
+      let f : map delete-step (keep p (rest t c .entries)) ≡ map delete-step
+      (keep (superseded (rest t start .entries)) (entry-of t e ∷ [])) ++ map
       delete-step (keep p (rest u behind .entries)) =
       ap (λ (l : List Entry). map delete-step (keep p l)) (rest-here t c e behind h)
       ∙ pick-first (p (entry-of t e)) (entry-of t e) (keep p (rest t behind .entries))
-      ∙ ap₂ (λ (b : Bool) (l : List Entry). map delete-step (pick b (entry-of t e) []) ++ map delete-step (keep p l)) (sym (judged (entry-of t e)))
+      ∙ ap₂ (λ (b : Bool) (l : List Entry). map delete-step (pick b (entry-of t e) []) ++ map delete-step (keep p l))
+      (sym (judged (entry-of t e)))
       (sym (k .later)) in
       record {
         left = toward-more (w .left) f d;
@@ -200,7 +205,8 @@ module _ {s t : Image} {start c : Cursor} {m q : Meter} (w : Dropping s start m 
 
   pub dropping-end : (r : Item) → r ≡ advance t c → Not-record r → Did s m (drop-steps (rest s start .entries)) t q
   dropping-end r e z =
-      toward-end (w .left) (ap (λ (x : Run). map delete-step (keep (superseded (rest s start .entries)) (x .entries))) (rest-done t c r e z))
+      toward-end (w .left) (ap (λ (x : Run). map delete-step (keep (superseded (rest s start .entries)) (x .entries)))
+      (rest-done t c r e z))
 
 -- ---- from the head on
 

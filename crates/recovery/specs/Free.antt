@@ -44,7 +44,8 @@ module _ (s t : Image) (low : ℕ) (same : drop low t ≡ drop low s) where
     go : (c : Bool) → leb (a + 4096) b ≡ c → keep (dirty t) (sectors-by k (a + 4096) b) ≡ keep (dirty s) (sectors-by k (a + 4096) b)
         → keep (dirty t) (sectors-by (suc k) a b) ≡ keep (dirty s) (sectors-by (suc k) a b)
     go true e ih =
-        rw (sectors-by, e) (ap₂ (λ (c : Bool) (l : List ℕ). elim c [ true ↦ a ∷ l | false ↦ l ]) (dirty-same s t a (later-on low a s t h same)) ih)
+        rw (sectors-by, e) (ap₂ (λ (c : Bool) (l : List ℕ). elim c [ true ↦ a ∷ l | false ↦ l ])
+        (dirty-same s t a (later-on low a s t h same)) ih)
     go false e ih = rw (sectors-by, e)
 
   judged : (a b : ℕ) → low ≤ a → keep (dirty t) (sectors a b) ≡ keep (dirty s) (sectors a b)
@@ -57,14 +58,16 @@ module _ (s : Image) (p : Place) where
   unfolding erase-steps free-sectors
   run-turned e = rw (erase-steps, free-sectors, e)
 
-  pub run-both : p .turned ≡ false → erase-steps s p ≡ dirty-erased s (sectors 0 (floor (p .head)) ++ sectors (ceiling (p .tail)) (p .length))
+  pub run-both : p .turned ≡ false → erase-steps s p ≡ dirty-erased s
+      (sectors 0 (floor (p .head)) ++ sectors (ceiling (p .tail)) (p .length))
   unfolding erase-steps free-sectors
   run-both e = rw (erase-steps, free-sectors, e)
 
   -- with the addresses that the code has
   pub run-unturned : {t u : Image} {m q r : Meter} {low from : ℕ} → low ≡ floor (p .head) → from ≡ ceiling (p .tail)
       → p .turned ≡ false → p .head ≤ p .tail → drop low t ≡ drop low s
-      → Did s m (dirty-erased s (sectors 0 low)) t q → Did t q (dirty-erased t (sectors from (p .length))) u r → Did s m (erase-steps s p) u r
+      → Did s m (dirty-erased s (sectors 0 low)) t q → Did t q (dirty-erased t (sectors from (p .length))) u r
+      → Did s m (erase-steps s p) u r
   run-unturned {t} {low = low} {from = from} a b e h k f g =
       let j : keep (dirty t) (sectors from (p .length)) ≡ keep (dirty s) (sectors from (p .length)) =
       judged s t low k from (p .length) (omega arith) in
@@ -91,7 +94,8 @@ module _ {s : Image} {h : ℕ} {v : Survey} (w : Seen s h v) where
     pub head-other : is-clean (entry-of s (v .tally .first) .it .low) ≡ false → steps-1 s (reading-from s h) ≡ []
     head-other e = steps-as false (sym (first-clean (w .surveyed .tallied) n) ∙ e)
 
-    pub head-cleaned : {t u : Image} {m q r : Meter} → is-clean (entry-of s (v .tally .first) .it .low) ≡ true → Did s m (erase-steps s (v .place)) t q
+    pub head-cleaned : {t u : Image} {m q r : Meter} → is-clean (entry-of s (v .tally .first) .it .low) ≡ true
+        → Did s m (erase-steps s (v .place)) t q
         → Did t q (start-steps h (entry-of s (v .tally .first) .it .low)) u r → Did s m (steps-1 s (reading-from s h)) u r
     head-cleaned e f g =
         rw (steps-as true (sym (first-clean (w .surveyed .tallied) n) ∙ e), ← first-low (w .surveyed .tallied) n) (did-both f g)

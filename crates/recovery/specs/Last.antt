@@ -90,10 +90,12 @@ module _ {s : Image} {c : Cursor} {t : Tally} (w : Tallied s c t) where
 
 -- ---- the whole repair
 
-pub ended-last : {s t u : Image} {m q r : Meter} (h : ℕ) (v : Survey) → Seen s h v → Did s m (last-steps s (rest s (first-cursor s h) .entries)) t q
+pub ended-last : {s t u : Image} {m q r : Meter} (h : ℕ) (v : Survey) → Seen s h v
+    → Did s m (last-steps s (rest s (first-cursor s h) .entries)) t q
     → Did t q (torn-wrap-steps (v .ending)) u r → Did s m (steps-3 s (reading-from s h)) u r
 ended-last {s} {t} {u} {m} {q} {r} h v w f g =
     let all : List Step = last-steps s (rest s (first-cursor s h) .entries) ++ torn-wrap-steps (v .ending) in
     let e : all ≡ steps-3 s (reading-from s h) =
-    ap (λ (i : ℕ). last-steps s (rest s (first-cursor s i) .entries) ++ torn-wrap-steps (v .ending)) (sym (w .head)) ∙ ap (steps-3 s) (w .same) in
+    ap (λ (i : ℕ). last-steps s (rest s (first-cursor s i) .entries) ++ torn-wrap-steps (v .ending)) (sym (w .head))
+    ∙ ap (steps-3 s) (w .same) in
     rw (← e) (did-both f g)

@@ -20,7 +20,8 @@ use Rattle.chain.specs.Rest.{rest}
 use Rattle.reading.specs.Bridge.{shown, reading-is}
 use Rattle.laws.specs.Settled.{close-filled}
 use Rattle.reading.specs.Read.{first-cursor}
-use Rattle.planning.specs.Repairs.{steps-1, pair-steps, pair-head, steps-2, head-2, steps-3, repair-1-is, repair-2-is, repair-3-is, repair-4-is}
+use Rattle.planning.specs.Repairs.{steps-1, pair-steps, pair-head, steps-2, head-2, steps-3}
+use Rattle.planning.specs.Repairs.{repair-1-is, repair-2-is, repair-3-is, repair-4-is}
 use Rattle.recovery.specs.Pair.{Move-finished}
 use Rattle.recovery.specs.Mending.{Mending, mending-more, mending-stop}
 
@@ -84,7 +85,8 @@ module _ {s t : Image} {m r : Meter} {w : Work} {h : ℕ} (v : Mending s m w t h
     pub repaired-4 : Did t r (drop-steps (reading-from t h .entries)) u q → Mending s m (repair-4 w) u h q
     repaired-4 d =
         rw (repair-4-is w ∙ ap (after w (drop-steps (w .reading .entries))) (head-is l i))
-        (mending-more v (drop-steps (w .reading .entries)) h l (rw (ap (λ (x : Reading). drop-steps (x .entries)) (v .reading l)) d) (inr refl))
+        (mending-more v (drop-steps (w .reading .entries)) h l (rw (ap (λ (x : Reading). drop-steps (x .entries)) (v .reading l)) d)
+        (inr refl))
 
     pub repaired-2 : (k : ℕ) → Move-finished t h r u k q → Mending s m (repair-2-on w) u k q
     repaired-2 k d =
@@ -113,7 +115,8 @@ module _ {s t : Image} {m r : Meter} {w : Work} {h : ℕ} (v : Mending s m w t h
 pub record Mends (s : Image) (h : ℕ) (m : Meter) (t : Image) (k : ℕ) (r : Meter) : Type 0 where
   pub mending : Mending s m (mended s (reading-from s h)) t k r
 
-pub all-four : {s t : Image} {h k : ℕ} {m r : Meter} → Mending s m (repair-4 (repair-3 (repair-2-on (repair-1 (begin s (reading-from s h)))))) t k r
+pub all-four : {s t : Image} {h k : ℕ} {m r : Meter}
+    → Mending s m (repair-4 (repair-3 (repair-2-on (repair-1 (begin s (reading-from s h)))))) t k r
     → Mends s h m t k r
 unfolding mended
 all-four v = record { mending = v }

@@ -34,7 +34,11 @@ pub record Move-finished (s : Image) (h : ℕ) (m : Meter) (t : Image) (head : �
 
 module _ (N h : ℕ) (x y : Entry) where
   pub pair-by : (t u : Bool) → is-clean (y .it .low) ≡ t → is-start (y .it .low) ≡ u
-      → (pair-steps N x y ≡ elim t [ true ↦ close-steps N x y (y .it .low) | false ↦ elim u [ true ↦ program (x .at + 1) 0x00 ∷ [] | false ↦ [] ] ])
+      → (pair-steps N x y ≡ elim t [
+        | true ↦ close-steps N x y
+            (y .it .low)
+        | false ↦ elim u [ true ↦ program (x .at + 1) 0x00 ∷ [] | false ↦ [] ]
+      ])
       × (pair-head h y ≡ elim t [ true ↦ y .at | false ↦ elim u [ true ↦ y .at | false ↦ h ] ])
   unfolding pair-steps pair-head
   pair-by true u e f = (rw (pair-steps, e), rw (pair-head, e))
@@ -89,22 +93,26 @@ module _ {s : Image} {h : ℕ} {v : Survey} (w : Seen s h v) where
         two s (length s) h (rest s (first-cursor s (v .place .head)) .entries) (v .tally) (w .surveyed .tallied .same)
         (faithful s (first-cursor s (v .place .head)) (w .surveyed .tallied .sound)) (omega (arith, count-is (w .surveyed .tallied)))
 
-    finish-pair : {m r : Meter} {t : Image} (ss : List Step) (head : ℕ) → Did s m ss t r → (pair-steps (length s) x y ≡ ss) × (pair-head h y ≡ head)
+    finish-pair : {m r : Meter} {t : Image} (ss : List Step) (head : ℕ) → Did s m ss t r
+        → (pair-steps (length s) x y ≡ ss) × (pair-head h y ≡ head)
         → Move-finished s h m t head r
     finish-pair ss head d e = finish-by ss head d (both .0 ∙ e .0, both .1 ∙ e .1)
 
     pub finish-clean : {m r : Meter} {t : Image} → is-clean (entry-of s (v .tally .second) .it .low) ≡ true
-        → Did s m (close-steps (length s) (entry-of s (v .tally .first)) (entry-of s (v .tally .second)) (entry-of s (v .tally .second) .it .low)) t r
+        → Did s m (close-steps (length s) (entry-of s (v .tally .first)) (entry-of s (v .tally .second))
+        (entry-of s (v .tally .second) .it .low)) t r
         → Move-finished s h m t (v .tally .second .at) r
     unfolding x y
     finish-clean e d = finish-pair _ _ d (pair-by (length s) h x y true _ e refl)
 
     pub finish-start : {m r : Meter} {t : Image} → is-clean (entry-of s (v .tally .second) .it .low) ≡ false
-        → entry-of s (v .tally .second) .it .low ≡ 0x00 → Did s m (program (v .tally .first .at + 1) 0x00 ∷ []) t r → Move-finished s h m t (v .tally .second .at) r
+        → entry-of s (v .tally .second) .it .low ≡ 0x00 → Did s m (program (v .tally .first .at + 1) 0x00 ∷ []) t r
+        → Move-finished s h m t (v .tally .second .at) r
     unfolding x y is-start
     finish-start c e d = finish-pair _ _ d (pair-by (length s) h x y false true c (eq-eqb (y .it .low) 0x00 e))
 
-    pub finish-plain : {m : Meter} → is-clean (entry-of s (v .tally .second) .it .low) ≡ false → (entry-of s (v .tally .second) .it .low ≡ 0x00 → ⊥)
+    pub finish-plain : {m : Meter} → is-clean (entry-of s (v .tally .second) .it .low) ≡ false
+        → (entry-of s (v .tally .second) .it .low ≡ 0x00 → ⊥)
         → Move-finished s h m s h m
     unfolding x y is-start
     finish-plain {m} c f = finish-pair [] h (did-none s m) (pair-by (length s) h x y false false c (ne-eqb (y .it .low) 0x00 f))

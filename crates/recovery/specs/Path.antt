@@ -28,7 +28,8 @@ pub data Path (image : Image) : Cursor → List Entry → Cursor → Type 0 wher
   there : {c behind d : Cursor} {es : List Entry} (e : Spot) → advance image c ≡ Item.Record e behind → Path image behind es d
       → Path image c (entry-of image e ∷ es) d
 
-pub path-snoc : {image : Image} {c d behind : Cursor} {es : List Entry} (e : Spot) → Path image c es d → advance image d ≡ Item.Record e behind
+pub path-snoc : {image : Image} {c d behind : Cursor} {es : List Entry} (e : Spot) → Path image c es d
+    → advance image d ≡ Item.Record e behind
     → Path image c (es ++ (entry-of image e ∷ [])) behind
 path-snoc e here h = there e h here
 path-snoc e (there f g p) h = there f g (path-snoc e p h)

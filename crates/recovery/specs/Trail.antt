@@ -92,7 +92,8 @@ module _ (s : Image) (a b : ℕ) where
   -- a byte of the window, elsewhere
   byte-kept : (c : Cursor) (i : ℕ) → c .at + i < c .end → (c .at + i ≡ a → ⊥) → getD (window (set s a b) c) i 0 ≡ getD (window s c) i 0
   byte-kept c i l h =
-      getD-drop (c .at) (take (c .end) (set s a b)) i 0 ∙ getD-take (c .end) (set s a b) (c .at + i) 0 l ∙ getD-set-other s a (c .at + i) b 0 h
+      getD-drop (c .at) (take (c .end) (set s a b)) i 0 ∙ getD-take (c .end) (set s a b) (c .at + i) 0 l
+      ∙ getD-set-other s a (c .at + i) b 0 h
       ∙ sym (getD-drop (c .at) (take (c .end) s) i 0 ∙ getD-take (c .end) s (c .at + i) 0 l)
 
   window-long : (c : Cursor) → length (window (set s a b) c) ≡ length (window s c)
@@ -136,10 +137,18 @@ module _ (s : Image) (c : Cursor) (n d : ℕ) (h : look s c ≡ Next.Record n d)
       → getD (window t c) i 0 ≡ getD (window s c) i 0 = λ i g o. byte-kept s a 0 c i (omega (arith, fits)) (λ q. o (omega arith)) in
       let now : status-of (window t c) ≡ 0 =
       getD-drop (c .at) (take (c .end) t) 2 0 ∙ getD-take (c .end) t a 0 (omega (arith, fits)) ∙ getD-set-same s a 0 0 l in
-      let was : status-of (window s c) ≡ 0xF8 = getD-drop (c .at) (take (c .end) s) 2 0 ∙ getD-take (c .end) s a 0 (omega (arith, fits)) ∙ f in
+      let was : status-of (window s c) ≡ 0xF8 = getD-drop (c .at) (take (c .end) s) 2 0 ∙ getD-take (c .end) s a 0 (omega (arith, fits))
+      ∙ f in
       p .1 (next (window t c))
       (next-kept (window s c) (window t c) n d (window-long s a 0 c) (λ i g m. same i m (λ q. omega arith))
-      (λ here. rw (same 0 (omega arith) (λ q. omega arith), same 1 (omega arith) (λ q. omega arith), same 3 (omega arith) (λ q. omega arith), now, was)
+      (λ here. rw (
+        same 0 (omega arith) (λ q. omega arith),
+        same 1 (omega arith) (λ q. omega arith),
+        same 3 (omega arith)
+            (λ q. omega arith),
+        now,
+        was,
+      )
       (kind-dropped (low-of (window s c)) (high-of (window s c)) (spare-of (window s c)) (window s c) (rw was at here))) (p .0))
 
 -- ---- the step is the same

@@ -99,7 +99,8 @@ module _ {s : Image} {h : ℕ} (w : Led s h) (m : Meter) where
             led = λ n.
                 record {
                   even =
-                      second-even s h (w .inside) (w .low) x c (reached s (first-cursor s h) x c (t .step)) (w .even) y d (reached s c y d (u .step));
+                      second-even s h (w .inside) (w .low) x c (reached s (first-cursor s h) x c (t .step)) (w .even) y d
+                      (reached s c y d (u .step));
                   inside = omega (arith, u .passes .whole .fits);
                   low = inl (low n);
                   eights = rw k (w .eights);

@@ -76,7 +76,8 @@ full (Plan.Stop b) = b
 full Plan.Leave = false
 full (Plan.Copy n d) = false
 
-pub full-is : (s : Image) (p : Place) (x : Plan) → Planned s p x → full x ≡ no-room (reading-from s (p .head)) (reading-from s (p .head) .entries)
+pub full-is : (s : Image) (p : Place) (x : Plan) → Planned s p x
+    → full x ≡ no-room (reading-from s (p .head)) (reading-from s (p .head) .entries)
 full-is s p (Plan.Stop b) w = sym (w .room)
 full-is s p Plan.Leave w = sym (room-on (reading-from s (p .head)) (w .0))
 full-is s p (Plan.Copy n d) w = sym (room-on (reading-from s (p .head)) (w .on))
@@ -108,7 +109,8 @@ module _ {s : Image} {p : Place} (w : Place-of s p) where
       e : b ≡ live (rest s (first-cursor s (p .head)) .entries) (entry-of s x)
       e = f ∙ ap (λ (v : Cursor). live (rest s v .entries) (entry-of s x)) q
 
-      pub plan-full : {z : ℕ} {a : Placed} → b ≡ true → z ≡ size-of (x .n) (x .d) → a ≡ placed p z → a ≡ placed-as.Full → No-move s (p .head) true
+      pub plan-full : {z : ℕ} {a : Placed} → b ≡ true → z ≡ size-of (x .n) (x .d) → a ≡ placed p z → a ≡ placed-as.Full
+          → No-move s (p .head) true
       plan-full l g i j =
           let r : Reading = reading-from s (p .head) in
           let no : fits (r .place) (size (entry-of s x)) ≡ false = fitting false
@@ -142,11 +144,13 @@ module _ {s : Image} {p : Place} (w : Place-of s p) where
       plan-last l r g z =
           let v : Reading = reading-from s (p .head) in
           record {
-            stop = stuck-last v (entry-of s x) (rest s c .entries) first (ap (λ (i : Run). i .entries) (rest-done s c r g z)) (living b e ∙ l);
+            stop = stuck-last v (entry-of s x) (rest s c .entries) first (ap (λ (i : Run). i .entries) (rest-done s c r g z))
+                (living b e ∙ l);
             room = ap (no-room v) first ∙ room-dead v (entry-of s x) (rest s c .entries) (living b e ∙ l);
           }
 
-      pub plan-leave : {y : Spot} {d : Cursor} → b ≡ false → Taken s c y d → (stuck (reading-from s (p .head)) ≡ false) × (copying s (p .head) ≡ [])
+      pub plan-leave : {y : Spot} {d : Cursor} → b ≡ false → Taken s c y d
+          → (stuck (reading-from s (p .head)) ≡ false) × (copying s (p .head) ≡ [])
       unfolding copying
       plan-leave {y} {d} l u =
           let r : Reading = reading-from s (p .head) in
@@ -190,7 +194,8 @@ module _ {s : Image} {p : Place} (w : Place-of s p) where
     pub copied : {n d : ℕ} → Copies s p n d → Did s m (copy-of p (entry-at s (p .head) n d)) t r → Copied s p m t r
     copied {n} {d} c f =
         let x : Spot = record { at = p .head; n = n; d = d } in
-        let long : p .length ≡ length s = subst (Standing (length s) (p .head) (p .head)) (sym (w .same)) (stands s (p .head) (w .led)) .whole in
+        let long : p .length ≡ length s = subst (Standing (length s) (p .head) (p .head)) (sym (w .same))
+        (stands s (p .head) (w .led)) .whole in
         let v : Whole s x = record { fits = omega (arith, c .ends .inside) } in
         let nl : length (name-of (entry-of s x)) ≡ n = name-length-is s x v in
         let dl : length (content-of (entry-of s x)) ≡ d = content-length-is s x v in

@@ -19,7 +19,8 @@ module _ (r : Reading) where
   room-empty = refl
 
   module _ (x : Entry) where
-    pub stuck-live : (es : List Entry) (t : Bool) → r .entries ≡ x ∷ es → live (x ∷ es) x ≡ true → fits (r .place) (size x) ≡ t → stuck r ≡ not t
+    pub stuck-live : (es : List Entry) (t : Bool) → r .entries ≡ x ∷ es → live (x ∷ es) x ≡ true → fits (r .place) (size x) ≡ t
+        → stuck r ≡ not t
     stuck-live es t e l f = stuck-room r (ap at-end e ∙ end-live x es l) ∙ ap (no-room r) e ∙ room-live r x es t l f
 
     pub stuck-last : (es : List Entry) → r .entries ≡ x ∷ es → es ≡ [] → live (x ∷ es) x ≡ false → stuck r ≡ true

@@ -68,7 +68,8 @@ pub record Sweeping (s : Image) (m : Meter) (k h : ℕ) (t : Image) (q : Meter) 
   pub headed : Place-of t p
   pub few : q .asked + left * 2 ^ 26 ≤ 2 ^ 30
 
-pub sweeping-start : {s : Image} {m : Meter} {k : ℕ} (p : Place) → Place-of s p → k ≤ 5 → m .asked ≤ 2 ^ 16 → Sweeping s m k (p .head) s m k p 0
+pub sweeping-start : {s : Image} {m : Meter} {k : ℕ} (p : Place) → Place-of s p → k ≤ 5 → m .asked ≤ 2 ^ 16
+    → Sweeping s m k (p .head) s m k p 0
 sweeping-start p w l f = record { onward = λ u i r v. rw zero-add v; headed = w; few = omega arith }
 
 module _ {s : Image} {m : Meter} {k h : ℕ} {t : Image} {q : Meter} {left : ℕ} {p : Place} {n : ℕ} (w : Sweeping s m k h t q left p n) where
@@ -84,7 +85,8 @@ module _ {s : Image} {m : Meter} {k h : ℕ} {t : Image} {q : Meter} {left : ℕ
 
   module _ (i : ℕ) (l : left ≡ suc i) where
     next-is : stuck (reading-from t (p .head)) ≡ false
-        → moves left t (reading-from t (p .head)) ≡ whole-move t (p .head) .steps ∷ moves i (whole-move t (p .head) .image) (whole-move t (p .head) .reading)
+        → moves left t (reading-from t (p .head)) ≡ whole-move t (p .head) .steps ∷ moves i (whole-move t (p .head) .image)
+        (whole-move t (p .head) .reading)
     next-is e = ap (λ (j : ℕ). moves j t (reading-from t (p .head))) l ∙ moves-next t (reading-from t (p .head)) i e
 
     pub sweeping-cut : {u : Image} {r : Meter} → Move-cut t (p .head) q u r → Moves s m (moves k s (reading-from s h)) u n r
@@ -94,12 +96,14 @@ module _ {s : Image} {m : Meter} {k h : ℕ} {t : Image} {q : Meter} {left : ℕ
 
     pub sweeping-more : {u : Image} {r : Meter} {v : Place} → Move-done t (p .head) q u v r → Sweeping s m k h u r i v (n + 1)
     sweeping-more {u} {r} {v} c =
-        let e : moves i (whole-move t (p .head) .image) (whole-move t (p .head) .reading) ≡ moves i u (reading-from u (v .head)) = ap₂ (moves i)
+        let e : moves i (whole-move t (p .head) .image) (whole-move t (p .head) .reading) ≡ moves i u (reading-from u (v .head)) =
+        ap₂ (moves i)
         (c .left .image) (c .left .reading) in
         record {
           onward = λ x j y g.
               let o : n + suc j ≡ n + 1 + j = omega arith in
-              rw o at (w .onward x (suc j) y (rw (next-is (c .on), e) (moves-more (moves i u (reading-from u (v .head))) (c .begun) (c .within) g)));
+              rw o at (w .onward x (suc j) y (rw (next-is (c .on), e)
+              (moves-more (moves i u (reading-from u (v .head))) (c .begun) (c .within) g)));
           headed = c .headed;
           few = omega (arith, w .few, c .few);
         }

@@ -59,7 +59,8 @@ module _ {s t : Image} {h : ℕ} {m a : Meter} (w : Led s h) (d : Did s m (copyi
   moved-over {u} {r} l k v =
       let e : t ≡ run s (copying s h) = did-all d l in
       record {
-        begun = rw steps-are (began-both (began-did d) l (began-did (subst (λ (i : Image). Did t a (handing i h) u (r .meter)) e (v .did))));
+        begun = rw steps-are (began-both (began-did d) l
+            (began-did (subst (λ (i : Image). Did t a (handing i h) u (r .meter)) e (v .did))));
         left = λ n.
             let j : u ≡ run (run s (copying s h)) (handing (run s (copying s h)) h) = did-all (v .did) n
             ∙ ap (λ (i : Image). run i (handing i h)) e in

@@ -20,14 +20,16 @@ module _ (a : ℕ) where
   header-at d =
       shifted-append a (bytes-at 0 (0xA5 ∷ 0x5A ∷ [])) (bytes-at 4 (four d) ++ (program 2 0xFE ∷ []))
       ∙ ap₂ _++_ (shifted-bytes a 0 (0xA5 ∷ 0x5A ∷ []) ∙ ap (λ (i : ℕ). bytes-at i (0xA5 ∷ 0x5A ∷ [])) (add-zero a))
-      (shifted-append a (bytes-at 4 (four d)) (program 2 0xFE ∷ []) ∙ ap (λ (l : List Step). l ++ (program (a + 2) 0xFE ∷ [])) (shifted-bytes a 4 (four d)))
+      (shifted-append a (bytes-at 4 (four d)) (program 2 0xFE ∷ [])
+      ∙ ap (λ (l : List Step). l ++ (program (a + 2) 0xFE ∷ [])) (shifted-bytes a 4 (four d)))
 
   pub name-at : (name : List ℕ) → shifted a (name-steps name) ≡ bytes-at (a + 8) name ++ name-end-steps (a + (8 + length name))
   name-at name =
       shifted-append a (bytes-at 8 name) (name-end-steps (8 + length name))
       ∙ ap (λ (l : List Step). l ++ name-end-steps (a + (8 + length name))) (shifted-bytes a 8 name)
 
-  pub opening-at : (d : ℕ) (name : List ℕ) → shifted a (header-steps d ++ name-steps name) ≡ shifted a (header-steps d) ++ shifted a (name-steps name)
+  pub opening-at : (d : ℕ) (name : List ℕ) → shifted a (header-steps d ++ name-steps name) ≡ shifted a (header-steps d) ++ shifted a
+      (name-steps name)
   opening-at d name = shifted-append a (header-steps d) (name-steps name)
 
   pub closing-at : (n : ℕ) (content : List ℕ) → shifted a (data-steps n content ++ commit-steps)

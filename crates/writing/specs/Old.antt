@@ -28,7 +28,8 @@ abbrev pub old-entry : Old → Option Entry
 old-entry None = none
 old-entry (At a st) = some (bare a st)
 
-pub put-old : (p : Place) (o : Option Entry) (name content : List ℕ) → put-steps p (old-entry (old-of o)) name content ≡ put-steps p o name content
+pub put-old : (p : Place) (o : Option Entry) (name content : List ℕ)
+    → put-steps p (old-entry (old-of o)) name content ≡ put-steps p o name content
 unfolding put-steps
 put-old p none name content = refl
 put-old p (some e) name content = refl

@@ -14,7 +14,8 @@ use Rattle.spec.specs.Placed.{placed, Place-sound}
 
 -- ---- the three parts of an answer
 
-fits-of : (t : Bool) (a : ℕ) (k : Bool) (q : Place) (x : ℕ) (l : Bool) (r : Place) → elim t [ true ↦ At a k q | false ↦ Full ] ≡ At x l r → (t ≡ true)
+fits-of : (t : Bool) (a : ℕ) (k : Bool) (q : Place) (x : ℕ) (l : Bool) (r : Place) → elim t [ true ↦ At a k q | false ↦ Full ] ≡ At x l r
+    → (t ≡ true)
     × (a ≡ x) × (k ≡ l) × (q ≡ r)
 fits-of true a k q x l r e = (refl, cc, cc, cc)
 fits-of false a k q x l r e = let z : _≡_ {A = ℕ} 0 1 = cc in absurd (omega arith)

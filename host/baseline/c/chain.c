@@ -28,9 +28,8 @@ static size_t size_at(const uint8_t *m, size_t n, const Cursor *c, Header h, siz
     }
     if (status_of(h) == ERASED || !(magic == RECORD || magic == START || magic == CLEAN))
         return 0;
-    if (!name_end(m, n, c->at, h, name_length))
+    if (!name_end(m, n, c->at, h, name_length, &before))
         return 0;
-    before = size_before_data(*name_length);
     if (before > c->end - c->at || data_length_of(h) > c->end - c->at - before)
         return 0;
     return before + up8(data_length_of(h));

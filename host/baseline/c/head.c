@@ -11,10 +11,10 @@ static bool walked(size_t p, Header h)
 /* The end of the record at p; p itself if it has no name, or ends past N. */
 static size_t walk_over(const uint8_t *m, size_t n, size_t p, Header h)
 {
-    size_t length, data;
-    if (!name_end(m, n, p, h, &length))
+    size_t length, before, data;
+    if (!name_end(m, n, p, h, &length, &before))
         return p;
-    data = p + size_before_data(length);
+    data = p + before;
     return data <= n && data_length_of(h) <= n - data ? data + up8(data_length_of(h)) : p;
 }
 
@@ -24,7 +24,7 @@ static size_t walk(const uint8_t *m, size_t n)
     size_t p = 0, next;
     while (p < n) {
         Header h = word_at(m, p);
-        if (torn(h))
+        if (!is_plain(h) && torn(h))
             return p + 8;
         next = is_plain(h) || walked(p, h) ? walk_over(m, n, p, h) : p;
         if (next == p)

@@ -13,8 +13,11 @@
 /* The top bits of a word's 00 bytes; behind the first of them it may have others. */
 static inline uint64_t zeros(uint64_t word) { return (word - EACH_BYTE) & ~word & TOP_BITS; }
 
-/* The first 00 in the 64 bytes from byte 8, up to N; in a reserved record a byte of 80 or more counts too. */
-static inline bool name_end(const uint8_t *m, size_t n, size_t at, Header h, size_t *length)
+/*
+ * The first 00 in the 64 bytes from byte 8, up to N; in a reserved record a byte of 80 or more counts too. `before` is what
+ * stands before the data, by the words that were read: so the next record's place doesn't wait for the length.
+ */
+static inline bool name_end(const uint8_t *m, size_t n, size_t at, Header h, size_t *length, size_t *before)
 {
     size_t from = at + 8, a = from, to = n - from < 8 * NAME_WORDS ? n : from + 8 * NAME_WORDS;
     uint64_t also = status_of(h) == RESERVED ? TOP_BITS : 0;
@@ -22,6 +25,7 @@ static inline bool name_end(const uint8_t *m, size_t n, size_t at, Header h, siz
         uint64_t word = word_at(m, a), ends = zeros(word) | (word & also);
         if (ends != 0) {
             *length = a - from + (size_t)__builtin_ctzll(ends) / 8;
+            *before = a + 8 - at;
             return true;
         }
     }
@@ -68,8 +72,8 @@ static inline bool name_key(const uint8_t *name, size_t length, uint64_t *key)
 }
 
 /*
- * Which keys were seen: three bits for each in one word, two in another. One that wasn't is seldom taken for one that was:
- * among 2,048 of them once or not at all, among 256 hardly ever.
+ * Which keys were seen: the same three bits for each in three words. One that wasn't is seldom taken for one that was:
+ * of 2,048 of them three times in ten one is, of 256 hardly ever.
  */
 typedef struct {
     uint64_t bits[512];
@@ -80,12 +84,12 @@ static inline uint64_t bit_of(uint64_t key, int by) { return UINT64_C(1) << (key
 /* Whether the key was perhaps seen before; from now on it was. */
 static inline bool seen(Seen *s, uint64_t key)
 {
-    uint64_t *one = &s->bits[key >> 55], *other = &s->bits[key >> 46 & 511];
-    uint64_t in_one = bit_of(key, 0) | bit_of(key, 6) | bit_of(key, 12), in_other = bit_of(key, 18) | bit_of(key, 24);
-    bool before = (in_one & ~*one) == 0 && (in_other & ~*other) == 0;
-    *one |= in_one;
-    *other |= in_other;
-    return before;
+    uint64_t *one = &s->bits[key >> 55], *two = &s->bits[key >> 46 & 511], *three = &s->bits[key >> 37 & 511];
+    uint64_t bits = bit_of(key, 0) | bit_of(key, 6) | bit_of(key, 12), missing = bits & ~(*one & *two & *three);
+    *one |= bits;
+    *two |= bits;
+    *three |= bits;
+    return missing == 0;
 }
 
 #endif

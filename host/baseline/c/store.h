@@ -91,9 +91,8 @@ Step bl_next_thing(const uint8_t *m, size_t n, Cursor *c, Record *r);
 static inline Step next_plain(const uint8_t *m, size_t n, Cursor *c, Header h, Record *r)
 {
     size_t room = c->end - c->at, name_length, before;
-    if (!name_end(m, n, c->at, h, &name_length))
+    if (!name_end(m, n, c->at, h, &name_length, &before))
         return A_BREACH;
-    before = size_before_data(name_length);
     if (before > room || data_length_of(h) > room - before)
         return A_BREACH;
     r->at = c->at;

@@ -1,5 +1,5 @@
 //! What is measured: a call on an image.
-use crate::images::{name, Fill, CONTENT};
+use crate::images::{Fill, Settled, CONTENT};
 use model::{floor, read_image, Step, SECTOR};
 use testing::call::Call;
 use testing::ALL;
@@ -73,9 +73,9 @@ pub struct Case {
     pub call: Call,
 }
 
-/// The case of a settled image with so many files; none if there is no room for it.
-pub fn case(kind: Kind, img: &[u8], files: usize) -> Option<Case> {
-    let last = name(files - 1);
+/// The case of a settled image; none if there is no room for it.
+pub fn case(kind: Kind, settled: &Settled) -> Option<Case> {
+    let (img, last, files) = (&settled.img, settled.last(), settled.names.len());
     let put = Call::Put(last.clone(), CONTENT.to_vec(), ALL);
     let (img, call) = match kind {
         Kind::Mount => (img.to_vec(), Call::Mount(ALL)),
@@ -134,9 +134,9 @@ mod tests {
     fn each_case_does_what_its_title_says() {
         for fill in [Fill::Empty, Fill::Full] {
             for files in [1, 16, 2048] {
-                let img = settled(64 * 1024, files, fill).expect("it fits");
+                let img = settled(64 * 1024, files, fill, 0).expect("it fits");
                 for kind in Kind::ALL {
-                    let Some(Case { mut img, call }) = case(kind, &img, files) else {
+                    let Some(Case { mut img, call }) = case(kind, &img) else {
                         assert!(kind == Kind::PutLong && (fill == Fill::Full || files == 2048), "{kind:?}");
                         continue;
                     };

@@ -3,6 +3,7 @@
 mod cases;
 mod colliding;
 mod images;
+mod names;
 mod options;
 mod papers;
 mod plans;
@@ -12,6 +13,7 @@ mod timing;
 
 use cases::{case, Case, Kind, Shape};
 use colliding::Names;
+use images::Settled;
 use options::{Options, What, USAGE};
 use std::time::Instant;
 use table::{CollidingRow, Row, StackRow};
@@ -23,8 +25,11 @@ const QUICK: Effort = Effort { runs: 5, seconds: 0.0005, cold: false };
 /// For calls that may take half a second.
 const FEW: Effort = Effort { runs: 5, seconds: 0.0005, cold: false };
 
+/// Sets of names, each with an image of its own, that the runs of a row go through.
+const SETS: u64 = 7;
+
 /// The sections of docs/BENCHMARKS.md that are written.
-const SECTIONS: [&str; 7] = ["run", "aim", "summary", "cold", "colliding", "stack", "plans"];
+const SECTIONS: [&str; 8] = ["run", "aim", "summary", "names", "cold", "colliding", "stack", "plans"];
 
 /// The library and what it is measured against.
 struct Both {
@@ -32,14 +37,14 @@ struct Both {
     baseline: Library,
 }
 
-/// The images that are asked for; those whose files don't fit are left out.
-fn shapes(o: &Options) -> Vec<(Shape, Vec<u8>)> {
+/// The images that are asked for, one for each set of names; those whose files don't fit are left out.
+fn shapes(o: &Options) -> Vec<(Shape, Vec<Settled>)> {
     let mut shapes = Vec::new();
     for &n in &o.sizes {
         for &fill in &o.fills {
             for &files in &o.files {
-                let img = images::settled(n, files, fill);
-                shapes.extend(img.map(|img| (Shape { n, files, fill }, img)));
+                let images: Option<Vec<Settled>> = (0..SETS).map(|set| images::settled(n, files, fill, set)).collect();
+                shapes.extend(images.map(|images| (Shape { n, files, fill }, images)));
             }
         }
     }
@@ -59,9 +64,10 @@ fn measure_times(o: &Options, both: &Both, calls: &[Kind], effort: Effort) -> Ve
     let mut rows = Vec::new();
     for &kind in calls {
         eprintln!("{}", kind.title());
-        for (shape, img) in &shapes {
-            let Some(case) = case(kind, img, shape.files) else { continue };
-            let times = times(&both.library, &both.baseline, &case, effort);
+        for (shape, images) in &shapes {
+            let cases: Option<Vec<Case>> = images.iter().map(|img| case(kind, img)).collect();
+            let Some(cases) = cases else { continue };
+            let times = times(&both.library, &both.baseline, &cases, effort);
             rows.push(Row { kind, shape: *shape, times });
         }
     }
@@ -79,7 +85,7 @@ fn measure_colliding(both: &Both) -> Vec<CollidingRow> {
         for names in Names::ALL {
             eprintln!("{}, names: {}", kind.title(), names.title());
             for files in colliding::FILES {
-                let case = colliding::case(kind, names, files);
+                let case = [colliding::case(kind, names, files)];
                 rows.push(CollidingRow { kind, names, files, times: times(&both.library, &both.baseline, &case, FEW) });
             }
         }
@@ -93,7 +99,7 @@ fn measure_stack(o: &Options, both: &Both) -> Vec<StackRow> {
     let shapes = shapes(o);
     let row = |&kind: &Kind| {
         let small = shapes.iter().filter(|(shape, _)| shape.n <= 1 << 20);
-        let cases: Vec<Case> = small.filter_map(|(shape, img)| case(kind, img, shape.files)).collect();
+        let cases: Vec<Case> = small.filter_map(|(_, images)| case(kind, &images[0])).collect();
         let mut most = |store| cases.iter().map(|case| gauge.bytes(store, case)).max().unwrap_or(0);
         StackRow { kind, library: most(&both.library), baseline: most(&both.baseline) }
     };
@@ -113,6 +119,7 @@ fn write_papers(o: &Options, both: &Both, commit: &str) {
     let (wall, cpu) = (Instant::now(), now());
     let rows = measure_times(o, both, &Kind::ALL, effort(o));
     let share = 100.0 * (now() - cpu) / wall.elapsed().as_secs_f64();
+    let names = names::measured(&both.library, &both.baseline);
     let cold = measure_cold(o, both);
     let colliding = measure_colliding(both);
     let stack = measure_stack(o, both);
@@ -124,6 +131,7 @@ fn write_papers(o: &Options, both: &Both, commit: &str) {
     let page = format!(
         "# Rows of the benchmark\n\n{run}\
          Medians of {} runs, with the least and the most; library, plain C and scan by turns. Processor time.\n\
+         The runs of a row go through {SETS} sets of names.\n\
          The caches are warm but in the last table. docs/BENCHMARKS.md says what is measured.\n{}{}",
         effort(o).runs,
         table::rows(&rows),
@@ -133,6 +141,7 @@ fn write_papers(o: &Options, both: &Both, commit: &str) {
         run,
         table::aim(&rows),
         table::summary(&rows),
+        names::table(&names),
         table::aim(&cold),
         table::colliding(&colliding),
         table::stack(&stack),
@@ -152,6 +161,7 @@ fn print_tables(o: &Options, both: &Both) {
         What::Cold => println!("{}", table::rows(&measure_cold(o, both))),
         What::Colliding => println!("{}", table::colliding(&measure_colliding(both))),
         What::Stack => println!("{}", table::stack(&measure_stack(o, both))),
+        What::Names => println!("{}", names::table(&names::measured(&both.library, &both.baseline))),
         What::Plans => println!("{}", plans::table(&plans::measured(&both.library, &shapes(o), effort(o)))),
     }
 }

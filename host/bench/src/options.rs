@@ -2,13 +2,14 @@
 use crate::cases::Kind;
 use crate::images::Fill;
 
-pub const USAGE: &str = "bench [--quick] [--papers COMMIT] [--cold | --colliding | --stack | --plans]
+pub const USAGE: &str = "bench [--quick] [--papers COMMIT] [--cold | --colliding | --names | --stack | --plans]
       [--size 64K|1M|16M] [--files N] [--fill empty|full] [--call CALL]
   --quick       fewer and shorter runs
   --papers      measures everything and writes docs/BENCHMARKS-ROWS.md and the tables of docs/BENCHMARKS.md; COMMIT is
                 the one that the library was built of
   --cold        times with cold caches, in place of warm ones
   --colliding   times on images of colliding names
+  --names       mounts of images with 2,048 files, over many sets of names
   --stack       the stack that each call needs
   --plans       a sweep planned in windows (K1) against the direct one
   the others keep those rows alone; several go with a comma between, as in --size 64K,1M
@@ -24,6 +25,7 @@ pub enum What {
     Warm,
     Cold,
     Colliding,
+    Names,
     Stack,
     Plans,
 }
@@ -61,6 +63,7 @@ impl Options {
                 "--papers" => o.papers = Some(list()?),
                 "--cold" => o.what = What::Cold,
                 "--colliding" => o.what = What::Colliding,
+                "--names" => o.what = What::Names,
                 "--stack" => o.what = What::Stack,
                 "--plans" => o.what = What::Plans,
                 "--size" => o.sizes = each(&list()?, size)?,

@@ -1,5 +1,6 @@
 //! Planning a sweep in windows (K1) against the direct sweep.
 use crate::cases::{case, Case, Kind, Shape};
+use crate::images::Settled;
 use crate::table::{self, micros, number, size, spread};
 use crate::timing::{now, Effort, Spread, Undo};
 use library::Plans;
@@ -103,13 +104,13 @@ pub struct PlanRow {
     times: Times,
 }
 
-/// One row for each image whose sweep isn't too long.
-pub fn measured(library: &Library, shapes: &[(Shape, Vec<u8>)], effort: Effort) -> Vec<PlanRow> {
+/// One row for each shape whose sweep isn't too long, on its first image.
+pub fn measured(library: &Library, shapes: &[(Shape, Vec<Settled>)], effort: Effort) -> Vec<PlanRow> {
     let plans = Plans::default();
     let mut rows = Vec::new();
     eprintln!("sweeps planned in windows");
-    for (shape, img) in shapes {
-        let Some(case) = case(Kind::Sweep, img, shape.files) else { continue };
+    for (shape, images) in shapes {
+        let Some(case) = case(Kind::Sweep, &images[0]) else { continue };
         let plan = case.call.plan(&case.img).expect("the sweep has room");
         let windows = plan.steps.len().div_ceil(SLOTS);
         if windows <= MOST_WINDOWS {

@@ -206,8 +206,8 @@ mod tests {
     fn a_known_depth() {
         let mut gauge = Gauge::new();
         let store = Library::new(Functions { mount: deep, ..baseline::functions() });
-        let img = settled(64 * 1024, 1, Fill::Empty).expect("it fits");
-        let bytes = gauge.bytes(&store, &case(Kind::Mount, &img, 1).expect("a mount is done"));
+        let img = settled(64 * 1024, 1, Fill::Empty, 0).expect("it fits");
+        let bytes = gauge.bytes(&store, &case(Kind::Mount, &img).expect("a mount is done"));
         assert!((4980..5100).contains(&bytes), "{bytes}");
     }
 }

@@ -4,7 +4,7 @@ use crate::colliding::Names;
 use crate::timing::{Spread, Times};
 
 /// The most that a call may take, in times of the C and in scans (docs/DECISIONS.md, 39).
-const AIM: f64 = 1.3;
+pub const AIM: f64 = 1.3;
 
 /// What was measured of a call on an image.
 pub struct Row {

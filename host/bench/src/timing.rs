@@ -219,11 +219,13 @@ fn agrees(store: &Library, case: &Case, reply: &Reply, after: &[u8]) {
     assert!(img == after, "{}: another image", case.call.kind());
 }
 
-/// The times; the three take turns, so that they share what else the machine does. Library and C go first by turns.
-pub fn times(library: &Library, baseline: &Library, case: &Case, effort: Effort) -> Times {
-    let mut bench = Bench::new(library, baseline, case, effort.cold);
+/// The times of a call on these images, by turns; library, C and scan take turns on each, so that they share what else the
+/// machine does, and library and C go first by turns.
+pub fn times(library: &Library, baseline: &Library, cases: &[Case], effort: Effort) -> Times {
+    let mut benches: Vec<Bench> = cases.iter().map(|case| Bench::new(library, baseline, case, effort.cold)).collect();
     let mut turns: Vec<(f64, f64, f64)> = Vec::new();
     for turn in 0..=effort.runs {
+        let bench = &mut benches[turn % cases.len()];
         let stores = if turn % 2 == 0 { [library, baseline] } else { [baseline, library] };
         let mut both = stores.map(|store| bench.run(store, effort.seconds));
         both.rotate_left(turn % 2);

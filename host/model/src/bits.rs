@@ -4,11 +4,10 @@ use std::collections::BTreeSet;
 
 pub const WORDS: usize = 512;
 
-/// The factors of a word's lower and upper half, of the table's words and of the bits.
-pub const LOW: u64 = 0x1F13_0137;
-pub const HIGH: u64 = 0x1DD0_4BBB;
-pub const WORD: u32 = 0x85EB_CA77;
-pub const BITS: u32 = 0xC2B2_AE3D;
+/// The factors of a word's lower and upper half, and of the hash; primes that xxHash has.
+pub const LOW: u64 = 0x1656_67B1;
+pub const HIGH: u64 = 0x27D4_EB2F;
+pub const SPREAD: u64 = 0xC2B2_AE3D;
 
 /// Up to eight bytes as one number, the first the lowest.
 pub fn number(bytes: &[u8]) -> u64 {
@@ -31,28 +30,19 @@ pub fn hash(name: &[u8]) -> u32 {
     long_hash(name) as u32
 }
 
-/// What a name sets: up to four bits of one word, and up to two of another.
+/// What a name sets: up to three bits, in each of three words.
 #[derive(Clone, Copy, PartialEq, Eq, Debug)]
 pub struct Signature {
-    pub word: usize,
     pub bits: u64,
-    pub other: usize,
-    pub more: u64,
-}
-
-/// The bits with these numbers, each of six bits of x.
-fn numbered<const N: usize>(x: u32, by: [u32; N]) -> u64 {
-    by.into_iter().fold(0, |all, by| all | 1 << (x >> by & 63))
+    pub words: [usize; 3],
 }
 
 impl Signature {
     pub fn of_hash(hash: u32) -> Signature {
-        let (x, y) = (hash.wrapping_mul(BITS), hash.wrapping_mul(WORD));
+        let z = u64::from(hash) * SPREAD;
         Signature {
-            word: (y >> 23) as usize,
-            bits: numbered(x, [26, 20, 14, 8]),
-            other: (y >> 14 & 511) as usize,
-            more: numbered(y, [8, 2]),
+            bits: [31, 25, 19].into_iter().fold(0, |all, by| all | 1 << (z >> by & 63)),
+            words: [55, 46, 37].map(|by| (z >> by & 511) as usize),
         }
     }
 
@@ -62,14 +52,17 @@ impl Signature {
 
     /// The bits that it sets in a word.
     pub fn sets(self, word: usize) -> u64 {
-        let of = |is: bool, bits: u64| if is { bits } else { 0 };
-        of(self.word == word, self.bits) | of(self.other == word, self.more)
+        if self.words.contains(&word) {
+            self.bits
+        } else {
+            0
+        }
     }
 
     /// These others set all its bits.
     pub fn is_set_by(self, others: &[Signature]) -> bool {
         let set = |word: usize| others.iter().fold(0, |all, other| all | other.sets(word));
-        self.bits & !set(self.word) == 0 && self.more & !set(self.other) == 0
+        self.words.iter().all(|&word| self.bits & !set(word) == 0)
     }
 }
 
@@ -80,9 +73,8 @@ pub fn colliding<'a>(names: impl Iterator<Item = &'a [u8]>) -> usize {
     let mut count = 0;
     for name in names {
         let s = Signature::of(name);
-        let set = s.bits & !table[s.word] == 0 && s.more & !table[s.other] == 0;
-        table[s.word] |= s.bits;
-        table[s.other] |= s.more;
+        let set = s.words.iter().all(|&word| s.bits & !table[word] == 0);
+        s.words.iter().for_each(|&word| table[word] |= s.bits);
         count += (passed.insert(name) && set) as usize;
     }
     count
@@ -92,15 +84,16 @@ pub fn colliding<'a>(names: impl Iterator<Item = &'a [u8]>) -> usize {
 mod tests {
     use super::*;
 
-    /// Worked out with numbers of any length: 61 hex times 1F130137 is B:C63375D7, 6261 times it BF1:0CAA83D7, and 64636261 times it and
-    /// 68676665 times 1DD04BBB are 18582643:3286E69E, of which the halves are added. In "abcdefgh" no byte comes before the word.
+    /// Worked out with numbers of any length: 61 hex times 165667B1 is 8:76BD4A11, 6261 times it 895:8A6F0C11, and 64636261 times it and
+    /// 68676665 times 27D4EB2F are 190102A5:0C808F9C, of which the halves are added. In "abcdefgh" no byte comes before the word.
+    /// 76BD4A19 times C2B2AE3D is 5A4E5295:6AD9A5F5, 8A6F14A6 times it 6948CD1A:A3ECBF8E.
     #[test]
     fn the_formula() {
-        assert_eq!((hash(b""), hash(b"a"), hash(b"ab")), (0, 0xC633_75E2, 0x0CAA_8FC8));
-        assert_eq!((hash(b"abcdefgh"), hash(b"night basal")), (0x4ADF_0CE1, 0x399D_A5F7));
+        assert_eq!((hash(b""), hash(b"a"), hash(b"ab")), (0, 0x76BD_4A19, 0x8A6F_14A6));
+        assert_eq!((hash(b"abcdefgh"), hash(b"night basal")), (0x2581_9241, 0xBDAC_9562));
         let bits = |numbers: &[u32]| numbers.iter().fold(0, |all, k| all | 1u64 << k);
-        let a = Signature { word: 186, bits: bits(&[27, 56, 26, 50]), other: 408, more: bits(&[32, 3]) };
-        let ab = Signature { word: 186, bits: bits(&[30, 54, 56, 50]), other: 338, more: bits(&[37, 62]) };
+        let a = Signature { bits: bits(&[42, 53, 27]), words: [180, 313, 148] };
+        let ab = Signature { bits: bits(&[53, 17, 61]), words: [210, 291, 104] };
         assert_eq!((Signature::of(b"a"), Signature::of(b"ab")), (a, ab));
     }
 }

@@ -2,7 +2,7 @@
 //! depend on it.
 use crate::maker::Maker;
 use crate::rng::Rng;
-use model::bits::{long_hash, number, Signature, BITS, HIGH, LOW, WORD, WORDS};
+use model::bits::{long_hash, number, Signature, HIGH, LOW, SPREAD};
 use model::good_name;
 use std::collections::BTreeSet;
 use std::fmt;
@@ -15,19 +15,18 @@ const LONGEST: usize = 60;
 pub enum Kind {
     /// one hash
     Hash,
-    /// of every second name behind the first, the first sets the bits in one word, and the name before it those in the
-    /// other
+    /// of every fourth name the three before it set the bits, each in one of its words
     Covered,
-    /// the same two words, whose bits are soon all set
+    /// the same three words, whose bits are soon all set
     Words,
-    /// three names of three bytes, the bits of the last set by the others
+    /// four names of three bytes, the bits of the last set by the others
     Short,
 }
 
 impl Kind {
     pub const ALL: [Kind; 4] = [Kind::Hash, Kind::Covered, Kind::Words, Kind::Short];
 
-    /// So many names, three if they are short; all different, of 3 or of 6 to 60 bytes.
+    /// So many names, four if they are short; all different, of 3 or of 6 to 60 bytes.
     pub fn names(self, r: &mut Rng, count: usize) -> Vec<Vec<u8>> {
         if self == Kind::Short {
             return r.of(short_names()).to_vec();
@@ -60,8 +59,8 @@ impl Kind {
         match self {
             Kind::Covered => covered(r, count),
             Kind::Words => {
-                let same = first.wrapping_mul(WORD) & !0x3FFF;
-                (0..count).map(|_| (same | r.below(0x4000) as u32).wrapping_mul(inverse(WORD))).collect()
+                let (from, to) = same_words(first);
+                (0..count).map(|_| from + r.below(u64::from(to - from + 1)) as u32).collect()
             }
             _ => vec![first; count],
         }
@@ -69,68 +68,65 @@ impl Kind {
 }
 
 impl Maker {
-    /// With this chance as many names that collide, three at least.
+    /// With this chance as many names that collide, four at least.
     pub fn sometimes_colliding(self, r: &mut Rng, percent: u64) -> Maker {
         if !r.chance(percent) {
             return self;
         }
-        let (kind, count) = (r.of(&Kind::ALL), self.names.len().max(3));
+        let (kind, count) = (r.of(&Kind::ALL), self.names.len().max(4));
         Maker { names: kind.names(r, count), ..self }
     }
 }
 
-/// A hash of four bits, and by turns one that sets the other word of the next, and that next one.
+/// The first and the last hash of these three words: they are the upper 27 bits of a hash times SPREAD, and the hashes stand side by side.
+fn same_words(hash: u32) -> (u32, u32) {
+    const BELOW: u64 = 1 << 37;
+    let words = u64::from(hash) * SPREAD / BELOW;
+    let last = u128::from(words + 1) * u128::from(BELOW) - 1;
+    let last = (last / u128::from(SPREAD)).min(u128::from(u32::MAX));
+    ((words * BELOW).div_ceil(SPREAD) as u32, last as u32)
+}
+
+/// Groups of four hashes, the last of which the others cover, taken by chance.
 fn covered(r: &mut Rng, count: usize) -> Vec<u32> {
-    let four = |hash: &u32| Signature::of_hash(*hash).bits.count_ones() == 4;
-    let first = std::iter::repeat_with(|| r.bits() as u32).find(four).expect("most hashes are so");
-    let within: Vec<u32> = within(Signature::of_hash(first)).into_iter().filter(|&h| h != first).collect();
-    let mut hashes = vec![first];
+    static GROUPS: OnceLock<Vec<[u32; 4]>> = OnceLock::new();
+    let groups = GROUPS.get_or_init(|| {
+        let mut r = Rng::new(1);
+        std::iter::repeat_with(|| covered_group(r.bits() as u32)).flatten().take(12).collect()
+    });
+    let mut hashes = Vec::new();
     while hashes.len() < count {
-        let last = r.of(&within);
-        hashes.extend([setting_other(r, Signature::of_hash(last)), last]);
+        hashes.extend(r.of(groups));
     }
     hashes.truncate(count);
     hashes
 }
 
-/// The hashes of the same word whose bits there are among these. The four numbers of bits are the upper 24 bits of a
-/// hash times BITS.
-fn within(s: Signature) -> Vec<u32> {
-    let numbers: Vec<u32> = (0..64).filter(|k| s.bits >> k & 1 == 1).collect();
-    let four = (0..numbers.len().pow(4))
-        .map(|i| (0..4).fold((0, i), |(x, i), _| (x << 6 | numbers[i % numbers.len()], i / numbers.len())).0 << 8);
-    let hashes = four.flat_map(|x| x..=x | 255).map(|x| x.wrapping_mul(inverse(BITS)));
-    hashes.filter(|&h| Signature::of_hash(h).word == s.word).collect()
+/// Three hashes, each of which sets the bits of the last in one of its words alone; none if a word has none.
+fn covered_group(last: u32) -> Option<[u32; 4]> {
+    let s = Signature::of_hash(last);
+    let all = with_bits(s.bits);
+    let only = |word: usize| {
+        let sets = |h: &&u32| s.words.iter().all(|&w| (Signature::of_hash(**h).sets(w) != 0) == (w == word));
+        all.iter().find(sets).copied()
+    };
+    let [a, b, c] = s.words.map(only);
+    Some([a?, b?, c?, last])
 }
 
-/// A hash that sets the bits of s in its other word: two of the four numbers are those of s.
-fn setting_other(r: &mut Rng, s: Signature) -> u32 {
-    let (low, high) = (s.more.trailing_zeros(), 63 - s.more.leading_zeros());
-    loop {
-        let x = high << 26 | low << 20 | r.below(1 << 20) as u32;
-        let hash = x.wrapping_mul(inverse(BITS));
-        if Signature::of_hash(hash).word == s.other {
-            return hash;
-        }
-    }
+/// The hashes that set these three bits, in any words. A hash is known by the lower 32 bits of its product with SPREAD: two of the numbers
+/// of bits stand there, and the third's lowest bit.
+fn with_bits(bits: u64) -> Vec<u32> {
+    let numbers: Vec<u32> = (0..64).filter(|k| bits >> k & 1 == 1).collect();
+    let orders =
+        numbers.iter().flat_map(|&a| numbers.iter().flat_map(move |&b| [0, 1].map(|c| c << 31 | a << 25 | b << 19)));
+    let hashes = orders.flat_map(|x| x..=x | 0x7_FFFF).map(|x| x.wrapping_mul(inverse(SPREAD as u32)));
+    hashes.filter(|&h| Signature::of_hash(h).bits == bits).collect()
 }
 
 /// What an odd factor is undone by, modulo 2^32: each turn doubles the bits that are right, of which three are at first.
 fn inverse(factor: u32) -> u32 {
     (0..4).fold(factor, |x, _| x.wrapping_mul(2u32.wrapping_sub(factor.wrapping_mul(x))))
-}
-
-/// The good names of three bytes, by the word of the table that they set four bits of.
-fn triples() -> &'static [Vec<[u8; 3]>] {
-    static TRIPLES: OnceLock<Vec<Vec<[u8; 3]>>> = OnceLock::new();
-    TRIPLES.get_or_init(|| {
-        let good = 0x21..=0x7E;
-        let pairs = good.clone().flat_map(|a| good.clone().map(move |b| (a, b)));
-        let all = pairs.flat_map(|(a, b)| good.clone().map(move |c| [a, b, c])).filter(|name| good_name(name));
-        let mut words = vec![Vec::new(); WORDS];
-        all.for_each(|name| words[Signature::of(&name).word].push(name));
-        words
-    })
 }
 
 /// A number and the sum of its halves are equal modulo this.
@@ -166,24 +162,34 @@ fn with_hash(r: &mut Rng, length: usize, hash: u32) -> Vec<u8> {
     }
 }
 
-/// Three names of three bytes, some times, of which the first two set the bits of the last.
-fn short_names() -> &'static [[Vec<u8>; 3]] {
-    static NAMES: OnceLock<Vec<[Vec<u8>; 3]>> = OnceLock::new();
-    NAMES.get_or_init(|| (0..WORDS).step_by(64).flat_map(short_names_of).collect())
+/// Four names of three bytes, some times, of which the first three set the bits of the last, each in one of its words.
+fn short_names() -> &'static [[Vec<u8>; 4]] {
+    static NAMES: OnceLock<Vec<[Vec<u8>; 4]>> = OnceLock::new();
+    NAMES.get_or_init(|| {
+        let single = |(_, s): &&([u8; 3], Signature)| s.bits.count_ones() == 1;
+        triples().iter().filter(single).filter_map(|last| short_names_of(*last)).take(64).collect()
+    })
 }
 
-/// Those whose first and last have this word.
-fn short_names_of(word: usize) -> Vec<[Vec<u8>; 3]> {
-    let signed = |word: usize| triples()[word].iter().map(|name| (name, Signature::of(name)));
-    let here: Vec<(&[u8; 3], Signature)> = signed(word).collect();
-    let mut found = Vec::new();
-    for (first, s) in &here {
-        for (last, t) in here.iter().filter(|(last, t)| last != first && t.bits & !s.bits == 0) {
-            let second = signed(t.other).find(|(name, u)| name != last && t.is_set_by(&[*s, *u]));
-            found.extend(second.map(|(second, _)| [*first, second, *last].map(|name| name.to_vec())));
-        }
-    }
-    found
+/// The good names of three bytes.
+fn triples() -> &'static [([u8; 3], Signature)] {
+    static TRIPLES: OnceLock<Vec<([u8; 3], Signature)>> = OnceLock::new();
+    TRIPLES.get_or_init(|| {
+        let good = 0x21..=0x7E;
+        let pairs = good.clone().flat_map(|a| good.clone().map(move |b| (a, b)));
+        let all = pairs.flat_map(|(a, b)| good.clone().map(move |c| [a, b, c])).filter(|name| good_name(name));
+        all.map(|name| (name, Signature::of(&name))).collect()
+    })
+}
+
+/// Those of this last one, whose words are three.
+fn short_names_of((last, s): ([u8; 3], Signature)) -> Option<[Vec<u8>; 4]> {
+    let only = |word: usize| {
+        let sets = |t: &Signature| s.words.iter().all(|&w| (t.sets(w) & s.bits != 0) == (w == word));
+        triples().iter().find(|(_, t)| sets(t)).map(|(name, _)| name.to_vec())
+    };
+    let [a, b, c] = s.words.map(only);
+    Some([a?, b?, c?, last.to_vec()])
 }
 
 /// Images by how many of their names collide.

@@ -16,7 +16,8 @@ good-length-requires : tie.Need-good-length-requires
 good-length-requires c κs = search needs
 
 read-settled-requires : tie.Need-read-settled-requires
-read-settled-requires c κs = let g = good (length (c .before .before .before .args .image .now)) (flag (c .before .good-length .ensures) (c .if1 .taken)) in omega (arith, g .two, g .most)
+read-settled-requires c κs = let g = good (length (c .before .before .before .args .image .now))
+    (flag (c .before .good-length .ensures) (c .if1 .taken)) in omega (arith, g .two, g .most)
 
 returns : tie.Need-returns
 returns c =

@@ -53,8 +53,11 @@ same-length c = search needs
 
 returns : tie.Need-returns Inv-loop μ-loop
 returns c =
-    let inv = c .before .loop .inv in
-    (toward-end (inv .4) (ap (map erase) (sectors-none (c .before .loop .a) (c .before .before .before .args .to) (omega arith))), omega arith)
+    let inv = c .before .loop .inv in (
+      toward-end (inv .4) (ap (map erase) (sectors-none (c .before .loop .a) (c .before .before .before .args .to) (omega arith))),
+      omega
+          arith,
+    )
 
 pub erase-sectors-spec : {M : Type 1} → statement M
 erase-sectors-spec =

@@ -12,7 +12,8 @@ use Rattle.flash.proofs.program_bytes.Statement.{statement}
 use Rattle.flash.proofs.program_bytes.Tie as tie
 
 abbrev Inv-loop : tie.InvT-loop
-Inv-loop image₀ at bytes q₀ i₀ image q i = (i ≤ length bytes) × (length image ≡ length image₀) × Did image₀ q₀ (bytes-at at (take i bytes)) image q
+Inv-loop image₀ at bytes q₀ i₀ image q i = (i ≤ length bytes) × (length image ≡ length image₀)
+    × Did image₀ q₀ (bytes-at at (take i bytes)) image q
 
 abbrev μ-loop : tie.MeasureT-loop
 μ-loop image₀ at bytes q₀ i₀ image q i = length bytes - i
@@ -51,7 +52,8 @@ same-length : tie.Need-same-length Inv-loop μ-loop
 same-length c = search needs
 
 returns : tie.Need-returns Inv-loop μ-loop
-returns c = rw (take-all (c .before .loop .i) (c .before .before .before .before .args .bytes .now) (omega arith)) at (c .before .loop .inv .2)
+returns c = rw (take-all (c .before .loop .i) (c .before .before .before .before .args .bytes .now) (omega arith)) at
+    (c .before .loop .inv .2)
 
 pub program-bytes-spec : {M : Type 1} → statement M
 program-bytes-spec =

@@ -29,7 +29,8 @@ count-files-requires : tie.Need-count-files-requires
 count-files-requires c κs =
     let c10 = c .before .before .before .before .before .before .before .before .before .before in let c13 = c10 .before .before .before in
     rw (c .first-cursor .ensures)
-    (first-sound (c10 .repair .last .0) (c10 .repair .result .head) (omega (arith, c10 .repair .ensures .1)) (omega (arith, c13 .pre .0 .1 .1)))
+    (first-sound (c10 .repair .last .0) (c10 .repair .result .head) (omega (arith, c10 .repair .ensures .1))
+    (omega (arith, c13 .pre .0 .1 .1)))
 
 same-length-2 : tie.Need-same-length-2
 same-length-2 c = search needs

@@ -18,7 +18,8 @@ returns c =
     let l = c .if1 .taken in
     let h = c7 .args .head in (
       all-four (skipped-4 (skipped-3
-          (skipped-2 (repaired-1 (mending-start (c7 .args .image .now) (c7 .args .head) (c7 .args .m)) (c7 .pre .1 .1) (omega (arith, c7 .pre .0 .0))
+          (skipped-2 (repaired-1 (mending-start (c7 .args .image .now) (c7 .args .head) (c7 .args .m)) (c7 .pre .1 .1)
+          (omega (arith, c7 .pre .0 .0))
           (c4 .erase-free .ensures .0)) l h) l h) l h),
       c7 .pre .0 .0,
     )
@@ -36,8 +37,10 @@ returns-2 c =
     let l = c .if2 .taken in
     let h = c5 .finish-move .result .head in (
       all-four (skipped-4 (skipped-3
-          (repaired-2 (repaired-1 (mending-start (c14 .args .image .now) (c14 .args .head) (c14 .args .m)) (c14 .pre .1 .1) (omega (arith, c14 .pre .0 .0))
-          (c11 .erase-free .ensures .0)) (c7 .if1 .left) (omega (arith, c14 .pre .0 .0)) (c5 .finish-move .result .head) (c5 .finish-move .ensures .0)) l h) l
+          (repaired-2 (repaired-1 (mending-start (c14 .args .image .now) (c14 .args .head) (c14 .args .m)) (c14 .pre .1 .1)
+          (omega (arith, c14 .pre .0 .0))
+          (c11 .erase-free .ensures .0)) (c7 .if1 .left) (omega (arith, c14 .pre .0 .0)) (c5 .finish-move .result .head)
+          (c5 .finish-move .ensures .0)) l h) l
           h),
       omega (arith, c5 .finish-move .ensures .1 .1),
     )
@@ -55,15 +58,18 @@ returns-3 c =
     let l = c .if3 .taken in
     let h = c11 .finish-move .result .head in (
       all-four (skipped-4 (repaired-3
-          (repaired-2 (repaired-1 (mending-start (c20 .args .image .now) (c20 .args .head) (c20 .args .m)) (c20 .pre .1 .1) (omega (arith, c20 .pre .0 .0))
-          (c17 .erase-free .ensures .0)) (c13 .if1 .left) (omega (arith, c20 .pre .0 .0)) (c11 .finish-move .result .head) (c11 .finish-move .ensures .0))
+          (repaired-2 (repaired-1 (mending-start (c20 .args .image .now) (c20 .args .head) (c20 .args .m)) (c20 .pre .1 .1)
+          (omega (arith, c20 .pre .0 .0))
+          (c17 .erase-free .ensures .0)) (c13 .if1 .left) (omega (arith, c20 .pre .0 .0)) (c11 .finish-move .result .head)
+          (c11 .finish-move .ensures .0))
           (c6 .if2 .left) (omega (arith, c11 .finish-move .ensures .1 .1)) (c4 .void-last .ensures .0)) l h),
       omega (arith, c11 .finish-move .ensures .1 .1),
     )
 
 drop-superseded-requires : tie.Need-drop-superseded-requires
 drop-superseded-requires c κs =
-    let c5 = c .before .before .before .before .before in let c12 = c5 .before .before .before .before .before .before .before in let c18 = c12 .before .before .before .before .before .before in
+    let c5 = c .before .before .before .before .before in let c12 = c5 .before .before .before .before .before .before .before in
+    let c18 = c12 .before .before .before .before .before .before in
     let c21 = c18 .before .before .before in (
       (omega (arith, c12 .finish-move .ensures .1 .1), (omega (arith, c21 .pre .0 .1 .0), omega (arith, c21 .pre .0 .1 .1))),
       omega (
@@ -82,11 +88,14 @@ same-length-4 c = search needs
 returns-4 : tie.Need-returns-4
 returns-4 c =
     let c4 = c .before .before .before .before in let c8 = c4 .before .before .before .before in let c10 = c8 .before .before in
-    let c15 = c10 .before .before .before .before .before in let c17 = c15 .before .before in let c21 = c17 .before .before .before .before in
+    let c15 = c10 .before .before .before .before .before in let c17 = c15 .before .before in
+    let c21 = c17 .before .before .before .before in
     let c24 = c21 .before .before .before in (
       all-four (repaired-4 (repaired-3
-          (repaired-2 (repaired-1 (mending-start (c24 .args .image .now) (c24 .args .head) (c24 .args .m)) (c24 .pre .1 .1) (omega (arith, c24 .pre .0 .0))
-          (c21 .erase-free .ensures .0)) (c17 .if1 .left) (omega (arith, c24 .pre .0 .0)) (c15 .finish-move .result .head) (c15 .finish-move .ensures .0))
+          (repaired-2 (repaired-1 (mending-start (c24 .args .image .now) (c24 .args .head) (c24 .args .m)) (c24 .pre .1 .1)
+          (omega (arith, c24 .pre .0 .0))
+          (c21 .erase-free .ensures .0)) (c17 .if1 .left) (omega (arith, c24 .pre .0 .0)) (c15 .finish-move .result .head)
+          (c15 .finish-move .ensures .0))
           (c10 .if2 .left) (omega (arith, c15 .finish-move .ensures .1 .1)) (c8 .void-last .ensures .0)) (c4 .if3 .left)
           (omega (arith, c15 .finish-move .ensures .1 .1)) (c .before .before .drop-superseded .ensures)),
       omega (arith, c15 .finish-move .ensures .1 .1),

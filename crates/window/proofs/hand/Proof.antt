@@ -9,7 +9,8 @@ use Rattle.window.proofs.hand.Tie as tie
 returns : tie.Need-returns
 returns c =
     let a = c .before .before .before .before .before .args in
-    sym (one-before (a .w .first) (a .w .passed) (shown (a .kind) (a .address) (a .byte)) (slices (a .kinds .now) (a .addresses .now) (a .bytes .now)) (omega arith))
+    sym (one-before (a .w .first) (a .w .passed) (shown (a .kind) (a .address) (a .byte))
+    (slices (a .kinds .now) (a .addresses .now) (a .bytes .now)) (omega arith))
 
 shortest-requires : tie.Need-shortest-requires
 shortest-requires c κs = search needs
@@ -44,12 +45,14 @@ same-length-3 c = search needs
 returns-2 : tie.Need-returns-2
 returns-2 c =
     let a = c .before .before .before .before .before .before .before .before .args in
-    sym (one-inside (a .w .first) (a .w .passed) (shown (a .kind) (a .address) (a .byte)) (slices (a .kinds .now) (a .addresses .now) (a .bytes .now)) (omega arith) (omega arith))
+    sym (one-inside (a .w .first) (a .w .passed) (shown (a .kind) (a .address) (a .byte))
+    (slices (a .kinds .now) (a .addresses .now) (a .bytes .now)) (omega arith) (omega arith))
 
 returns-3 : tie.Need-returns-3
 returns-3 c =
     let a = c .before .before .before .before .before .before .before .before .args in
-    sym (one-behind (a .w .first) (a .w .passed) (shown (a .kind) (a .address) (a .byte)) (slices (a .kinds .now) (a .addresses .now) (a .bytes .now)) (omega arith))
+    sym (one-behind (a .w .first) (a .w .passed) (shown (a .kind) (a .address) (a .byte))
+    (slices (a .kinds .now) (a .addresses .now) (a .bytes .now)) (omega arith))
 
 pub hand-spec : {M : Type 1} → statement M
 hand-spec =

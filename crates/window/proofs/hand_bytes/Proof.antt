@@ -75,7 +75,8 @@ returns c =
     let rest = left (a .at) (a .source .now) (l .i) in
     let p = c .past2 .ensures in
     l .inv .6 _ (c .past2 .result)
-    (handed-behind (slices (l .kinds) (l .addresses) (l .bytes)) (l .q) (c .past2 .result) rest (omega (arith, over, c7 .shortest .ensures, l .inv))
+    (handed-behind (slices (l .kinds) (l .addresses) (l .bytes)) (l .q) (c .past2 .result) rest
+    (omega (arith, over, c7 .shortest .ensures, l .inv))
     (omega (arith, left-length (a .at) (a .source .now) (l .i) (l .inv .0), p, l .inv)) (p .1 ∙ sym (l .inv .5)))
 
 add-hand-program : tie.Need-add-hand-program Inv-loop μ-loop

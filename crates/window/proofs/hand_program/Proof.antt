@@ -36,7 +36,8 @@ returns c =
     let a = c16 .args in
     let s = slices (a .kinds .now) (a .addresses .now) (a .bytes .now) in
     record {
-      slots = c7 .hand .ensures ∙ ap₂ (λ (x y : ℕ). hand-one (a .w .first) (a .w .passed) (shown 1 x y) s) (c9 .narrow .ensures) (c8 .wide .ensures);
+      slots = c7 .hand .ensures ∙ ap₂ (λ (x y : ℕ). hand-one (a .w .first) (a .w .passed) (shown 1 x y) s) (c9 .narrow .ensures)
+          (c8 .wide .ensures);
       count = c .past .ensures .0;
       same = c .past .ensures .1;
     }

@@ -15,7 +15,8 @@ returns : tie.Need-returns
 returns c = let a = c .before .before .before .args in rw (c .enum-told .given .1) (did-none (a .image .now) (a .m))
 
 set-status-requires : tie.Need-set-status-requires
-set-status-requires c κs = let l = rw (c .before .before .old .given .1) at (c .before .before .before .before .before .pre .0) in omega arith
+set-status-requires c κs = let l = rw (c .before .before .old .given .1) at (c .before .before .before .before .before .pre .0) in
+    omega arith
 
 same-length : tie.Need-same-length
 same-length c = search needs

@@ -4,7 +4,7 @@
 #[allow(dead_code)]
 mod images;
 
-use images::{name, settled, Fill};
+use images::{settled, Fill};
 use model::read_image;
 use std::hint::black_box;
 use std::time::Instant;
@@ -29,9 +29,9 @@ fn main() {
     println!("{:>9} {:>6} {:>6} {:>12} {:>12}", "KiB", "files", "", "length us", "get us");
     for (n, files) in [(64, 16), (1024, 16), (16384, 16), (64, 512), (1024, 512), (16384, 512)] {
         for fill in [Fill::Empty, Fill::Full] {
-            let Some(mut img) = settled(n * 1024, files, fill) else { continue };
+            let Some(settled) = settled(n * 1024, files, fill, 0) else { continue };
+            let (last, mut img) = (settled.last(), settled.img);
             let head = read_image(&img).expect("it is settled").head;
-            let last = name(files - 1);
             let length = median(200, || _ = black_box(library::length_alone(black_box(&img), head, &last)));
             let get = Call::Get(last.clone());
             let whole = median(if n > 4096 { 3 } else { 20 }, || _ = black_box(store.lend(&mut img, &get)));

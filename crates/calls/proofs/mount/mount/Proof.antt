@@ -35,7 +35,8 @@ returns c =
     let s = g .image .now in (
       c .before .before .mount-from .ensures .0
           ∙ let-in s (g .allowance) (reading-of s (c .before .before .before .before .before .x .given .0 .0 .survey)) (mount-of s)
-          (sym (ap (judged-as s) (c .before .before .before .before .before .x .given .1)) ∙ c .before .before .before .before .before .before .before .accepted .ensures .0)
+          (sym (ap (judged-as s) (c .before .before .before .before .before .x .given .1))
+          ∙ c .before .before .before .before .before .before .before .accepted .ensures .0)
           ∙ mount-is s (g .allowance),
       c .before .before .mount-from .ensures .1,
     )
@@ -47,7 +48,8 @@ returns-2 : tie.Need-returns-2
 returns-2 c =
     let g = c .before .before .before .before .before .before .args in
     let s = g .image .now in (
-      shut s (g .allowance) _ (mount-of s) (sym (ap (judged-as s) (c .before .x2 .given .1)) ∙ c .before .before .before .accepted .ensures .0) ∙ mount-is s (g .allowance),
+      shut s (g .allowance) _ (mount-of s) (sym (ap (judged-as s) (c .before .x2 .given .1))
+          ∙ c .before .before .before .accepted .ensures .0) ∙ mount-is s (g .allowance),
       rw (c .before .x2 .given .1) at (c .before .before .before .accepted .ensures .1),
     )
 

@@ -32,7 +32,8 @@ returns c =
     let s = g .image .now in (
       c .before .before .sweep-from .ensures .0
           ∙ let-in s (g .allowance) (reading-of s (c .before .before .before .before .before .x .given .0 .0)) (sweep-of s)
-          (sym (ap (answered s) (c .before .before .before .before .before .x .given .1)) ∙ c .before .before .before .before .before .before .before .admitted .ensures .0)
+          (sym (ap (answered s) (c .before .before .before .before .before .x .given .1))
+          ∙ c .before .before .before .before .before .before .before .admitted .ensures .0)
           ∙ sweep-is s (g .allowance),
       c .before .before .sweep-from .ensures .1,
     )
@@ -44,7 +45,8 @@ returns-2 : tie.Need-returns-2
 returns-2 c =
     let g = c .before .before .before .before .before .before .args in
     let s = g .image .now in (
-      shut s (g .allowance) _ (sweep-of s) (sym (ap (answered s) (c .before .x2 .given .1)) ∙ c .before .before .before .admitted .ensures .0) ∙ sweep-is s (g .allowance),
+      shut s (g .allowance) _ (sweep-of s) (sym (ap (answered s) (c .before .x2 .given .1))
+          ∙ c .before .before .before .admitted .ensures .0) ∙ sweep-is s (g .allowance),
       rw (c .before .x2 .given .1) at (c .before .before .before .admitted .ensures .1),
     )
 

@@ -59,7 +59,8 @@ returns-2 c =
     let x = c7 .sweep-space .result in
     let told = sweep-told (a .image .now) (a .s) x (p .0 .accepted) (p .1) (c8 .at-most .ensures) (c7 .sweep-space .ensures) in (
       swept-done (a .allowance) refl refl (c5 .sweep .ensures) x (c .if2 .taken)
-          ∙ sweep-room (a .image .now) (a .allowance) (a .s) false x (p .0 .accepted) (sym (flag (c11 .no-room .ensures) (c10 .if1 .left))) told,
+          ∙ sweep-room (a .image .now) (a .allowance) (a .s) false x (p .0 .accepted)
+          (sym (flag (c11 .no-room .ensures) (c10 .if1 .left))) told,
       tt,
     )
 
@@ -79,7 +80,8 @@ returns-3 c =
     let x = c7 .sweep-space .result in
     let told = sweep-told (a .image .now) (a .s) x (p .0 .accepted) (p .1) (c8 .at-most .ensures) (c7 .sweep-space .ensures) in (
       swept-cut (a .allowance) refl refl (c5 .sweep .ensures) x (c .if2 .left)
-          ∙ sweep-room (a .image .now) (a .allowance) (a .s) false x (p .0 .accepted) (sym (flag (c11 .no-room .ensures) (c10 .if1 .left))) told,
+          ∙ sweep-room (a .image .now) (a .allowance) (a .s) false x (p .0 .accepted)
+          (sym (flag (c11 .no-room .ensures) (c10 .if1 .left))) told,
       tt,
     )
 

@@ -16,7 +16,12 @@ byte-requires-2 c κs = search needs
 
 returns : tie.Need-returns
 unfolding is-high
-returns c = rw (← c .before .before .before .byte .ensures, flag (c .before .before .is-record .ensures) (c .before .if1 .taken), c .byte2 .ensures)
+returns c = rw (
+  ← c .before .before .before .byte .ensures,
+  flag (c .before .before .is-record .ensures)
+      (c .before .if1 .taken),
+  c .byte2 .ensures,
+)
 
 returns-2 : tie.Need-returns-2
 returns-2 c = rw (← c .before .before .byte .ensures, flag (c .before .is-record .ensures) (c .if1 .left))

@@ -39,7 +39,8 @@ returns c = (sought-hit _ _ _ (c .before .before .loop .inv) (flag (c .before .m
 
 returns-2 : tie.Need-returns-2 Inv-loop μ-loop
 returns-2 c = (
-  sought-end _ _ _ (c .before .before .before .loop .inv) (flag (c .before .before .mark-here .ensures) (c .before .if1 .left)) (c .if2 .taken),
+  sought-end _ _ _ (c .before .before .before .loop .inv) (flag (c .before .before .mark-here .ensures) (c .before .if1 .left))
+      (c .if2 .taken),
   omega arith,
 )
 

@@ -17,6 +17,9 @@ abbrev μ-loop : tie.MeasureT-loop
 loop-holds : tie.Need-loop-holds Inv-loop μ-loop
 loop-holds c = walked-start _
 
+walk-plain-requires : tie.Need-walk-plain-requires Inv-loop μ-loop
+walk-plain-requires c κs = (c .loop .inv, c .before .before .pre)
+
 torn-here-requires : tie.Need-torn-here-requires Inv-loop μ-loop
 torn-here-requires c κs = omega arith
 
@@ -24,7 +27,11 @@ add-result : tie.Need-add-result Inv-loop μ-loop
 add-result c = omega arith
 
 returns : tie.Need-returns Inv-loop μ-loop
-returns c = (walked-torn _ _ (c .before .before .loop .inv) (flag (c .before .torn-here .ensures) (c .if1 .taken)), omega arith)
+returns c = (
+  walked-torn _ _ (c .before .before .walk-plain .ensures .0)
+      (flag (c .before .torn-here .ensures) (c .if1 .taken)),
+  omega arith,
+)
 
 walk-next-requires : tie.Need-walk-next-requires Inv-loop μ-loop
 walk-next-requires c κs = omega arith
@@ -36,7 +43,7 @@ returns-2 : tie.Need-returns-2 Inv-loop μ-loop
 returns-2 c =
     let c4 = c .before .before .before .before in
     let x = c .before .walk-next .result in (
-      walked-stop _ _ (c4 .loop .inv) x (flag (c .before .before .before .torn-here .ensures) (c .before .before .if1 .left))
+      walked-stop _ _ (c4 .walk-plain .ensures .0) x (flag (c .before .before .before .torn-here .ensures) (c .before .before .if1 .left))
           (c .before .walk-next .ensures .0) (other-next x (c .match .keys2)),
       omega arith,
     )
@@ -55,7 +62,8 @@ loop-again c =
     let c2 = c .before .before in let c4 = c2 .before .before in let c5 = c4 .before in let c6 = c5 .before in let c7 = c6 .before in
     let w = rw (c2 .x .given .1) at (c4 .walk-next .ensures .1) in
     rw (c .size .ensures)
-    (walked-step _ _ (c7 .loop .inv) (c4 .walk-next .result) (flag (c6 .torn-here .ensures) (c5 .if1 .left)) (c4 .walk-next .ensures .0)
+    (walked-step _ _ (c7 .walk-plain .ensures .0) (c4 .walk-next .result) (flag (c6 .torn-here .ensures) (c5 .if1 .left))
+    (c4 .walk-next .ensures .0)
     (c2 .x .given .0 .0) (c2 .x .given .0 .1 .0) (c2 .x .given .1) (omega arith))
 
 pub walk-spec : {M : Type 1} → statement M
@@ -65,6 +73,7 @@ walk-spec =
     Inv-loop
     μ-loop
     loop-holds
+    walk-plain-requires
     torn-here-requires
     add-result
     returns

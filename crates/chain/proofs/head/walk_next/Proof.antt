@@ -35,7 +35,8 @@ returns c =
     let a = c5 .before .before .args in
     let s = a .image .now in
     let at = a .at in (
-      walk-next-is at (drop at s) _ (c .record-of .result) _ (flag (c5 .walked-here .ensures) (c4 .if1 .taken)) (c .before .before .byte .ensures)
+      walk-next-is at (drop at s) _ (c .record-of .result) _ (flag (c5 .walked-here .ensures) (c4 .if1 .taken))
+          (c .before .before .byte .ensures)
           (part-to-end s at) (c .record-of .ensures .0),
       subst (λ (l : ℕ). Within (c .record-of .result) l) (length-part s at) (c .record-of .ensures .1),
     )

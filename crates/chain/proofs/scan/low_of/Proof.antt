@@ -11,7 +11,8 @@ shared-slice-read-result : tie.Need-shared-slice-read-result
 shared-slice-read-result c = search needs
 
 returns : tie.Need-returns
-returns c = let a = c .before .args in sym (getD-drop (a .e .at) (a .image .now) 0 0 ∙ ap (λ n. getD (a .image .now) n 0) (add-zero (a .e .at)))
+returns c = let a = c .before .args in sym (getD-drop (a .e .at) (a .image .now) 0 0
+    ∙ ap (λ n. getD (a .image .now) n 0) (add-zero (a .e .at)))
 
 pub low-of-spec : {M : Type 1} → statement M
 low-of-spec = tie.close (tie.spec shared-slice-read-result returns)

@@ -35,7 +35,8 @@ returns c =
     let c4 = c .before .before .before .before in let c5 = c4 .before in
     let a = c5 .before .before .args in
     let e = a .e in
-    rw (name-fine, flag (c5 .is-file .ensures) (c4 .if1 .taken)) (c .name-ok .ensures ∙ ap name-ok (name-part (a .image .now) (e .at) (e .n)))
+    rw (name-fine, flag (c5 .is-file .ensures) (c4 .if1 .taken))
+    (c .name-ok .ensures ∙ ap name-ok (name-part (a .image .now) (e .at) (e .n)))
 
 returns-2 : tie.Need-returns-2
 unfolding name-fine

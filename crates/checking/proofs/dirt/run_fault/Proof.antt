@@ -25,7 +25,8 @@ returns : tie.Need-returns
 returns c = search (run-below, needs)
 
 returns-2 : tie.Need-returns-2
-returns-2 c = run-there _ _ _ (c .before .before .before .before .limit .ensures) _ _ (sym (c .before .f .given .1) ∙ c .before .before .before .dirt-part .ensures)
+returns-2 c = run-there _ _ _ (c .before .before .before .before .limit .ensures) _ _
+    (sym (c .before .f .given .1) ∙ c .before .before .before .dirt-part .ensures)
 
 pub run-fault-spec : {M : Type 1} → statement M
 run-fault-spec =

@@ -14,7 +14,8 @@ limit-requires : tie.Need-limit-requires
 limit-requires c κs = search needs
 
 dirt-part-requires : tie.Need-dirt-part-requires
-dirt-part-requires c κs = let w = within _ _ _ (c .before .limit .ensures) (c .before .before .before .before .pre) in omega (arith, w, c .if1 .taken)
+dirt-part-requires c κs = let w = within _ _ _ (c .before .limit .ensures) (c .before .before .before .before .pre) in
+    omega (arith, w, c .if1 .taken)
 
 returns : tie.Need-returns
 returns c = search (sector-whole, sector-cut, within, needs)

@@ -10,7 +10,12 @@ returns : tie.Need-returns
 returns c = search (has-before, has-cut, has-none, needs)
 
 cut-named-requires : tie.Need-cut-named-requires
-cut-named-requires c κs = (c .before .before .before .before .pre .1, c .if2 .taken, c .before .before .before .before .pre .2 .name (c .if2 .taken) .1)
+cut-named-requires c κs = (
+  c .before .before .before .before .pre .1,
+  c .if2 .taken,
+  c .before .before .before .before .pre .2 .name
+      (c .if2 .taken) .1,
+)
 
 returns-2 : tie.Need-returns-2
 returns-2 c =

@@ -8,19 +8,25 @@ unfinished-wrong-requires : tie.Need-unfinished-wrong-requires
 unfinished-wrong-requires c κs = search needs
 
 returns : tie.Need-returns
-returns c = fault-unfinished _ _ _ (entry-of (c .before .before .before .args .image .now) (c .before .before .before .args .e)) _ (c .before .unfinished-wrong .ensures) (c .if1 .taken)
+returns c = fault-unfinished _ _ _ (entry-of (c .before .before .before .args .image .now) (c .before .before .before .args .e)) _
+    (c .before .unfinished-wrong .ensures) (c .if1 .taken)
 
 name-wrong-requires : tie.Need-name-wrong-requires
 name-wrong-requires c κs = search needs
 
 returns-2 : tie.Need-returns-2
-returns-2 c = fault-name _ _ _ (entry-of (c .before .before .before .before .before .args .image .now) (c .before .before .before .before .before .args .e)) _ (c .before .before .before .unfinished-wrong .ensures) (c .before .before .if1 .left) _ (c .before .name-wrong .ensures) (c .if2 .taken)
+returns-2 c = fault-name _ _ _ (entry-of (c .before .before .before .before .before .args .image .now)
+    (c .before .before .before .before .before .args .e)) _ (c .before .before .before .unfinished-wrong .ensures)
+    (c .before .before .if1 .left) _ (c .before .name-wrong .ensures) (c .if2 .taken)
 
 mark-wrong-requires : tie.Need-mark-wrong-requires
 mark-wrong-requires c κs = search needs
 
 returns-3 : tie.Need-returns-3
-returns-3 c = fault-mark _ _ _ (entry-of (c .before .before .before .before .before .before .before .args .image .now) (c .before .before .before .before .before .before .before .args .e)) _ (c .before .before .before .before .before .unfinished-wrong .ensures) (c .before .before .before .before .if1 .left) _ (c .before .before .before .name-wrong .ensures) (c .before .before .if2 .left) _ (c .before .mark-wrong .ensures) (c .if3 .taken)
+returns-3 c = fault-mark _ _ _ (entry-of (c .before .before .before .before .before .before .before .args .image .now)
+    (c .before .before .before .before .before .before .before .args .e)) _
+    (c .before .before .before .before .before .unfinished-wrong .ensures) (c .before .before .before .before .if1 .left) _
+    (c .before .before .before .name-wrong .ensures) (c .before .before .if2 .left) _ (c .before .mark-wrong .ensures) (c .if3 .taken)
 
 returns-4 : tie.Need-returns-4
 returns-4 c = search (fault-unfinished, fault-name, fault-mark, fault-none, needs)

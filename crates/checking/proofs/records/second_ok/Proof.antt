@@ -39,7 +39,8 @@ floor-requires-2 c κs = search needs
 
 returns-3 : tie.Need-returns-3
 returns-3 c =
-    let c4 = c .before .before .before .before in let c5 = c4 .before in let c6 = c5 .before in let c7 = c6 .before in let c8 = c7 .before in
+    let c4 = c .before .before .before .before in let c5 = c4 .before in let c6 = c5 .before in let c7 = c6 .before in
+    let c8 = c7 .before in
     ap₂ (λ (a b : ℕ). eqb a b) (c .before .floor .ensures .0) (c .floor2 .ensures .0)
     ∙ second-start _ _ _ (flag (c8 .marked .ensures) (c7 .if1 .taken)) (flag (c6 .is-live .ensures) (c5 .if2 .left))
     (rw (← c4 .low-of .ensures) (flag (c .before .before .before .is-clean .ensures) (c .before .before .if3 .left)))

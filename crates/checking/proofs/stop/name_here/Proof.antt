@@ -20,10 +20,16 @@ name-len-requires : tie.Need-name-len-requires
 name-len-requires c κs = search needs
 
 returns : tie.Need-returns
-returns c = let a = c .before .before .before .before .args in let q = here-is (a .image .now) (a .at) (a .reserved) _ (c .name-len .ensures .0) in (q .0, c .name-len .ensures .1, q .1)
+returns c = let a = c .before .before .before .before .args in
+    let q = here-is (a .image .now) (a .at) (a .reserved) _ (c .name-len .ensures .0) in (q .0, c .name-len .ensures .1, q .1)
 
 returns-2 : tie.Need-returns-2
-returns-2 c = let a = c .before .before .args in (here-none (a .image .now) (a .at) (a .reserved) (omega (arith, c .if1 .left)), omega arith, λ l. absurd (omega arith))
+returns-2 c = let a = c .before .before .args in (
+  here-none (a .image .now) (a .at) (a .reserved)
+      (omega (arith, c .if1 .left)),
+  omega arith,
+  λ l. absurd (omega arith),
+)
 
 pub name-here-spec : {M : Type 1} → statement M
 name-here-spec =

@@ -18,7 +18,9 @@ part-data-len-end : tie.Need-part-data-len-end
 part-data-len-end c = search needs
 
 data-len-requires : tie.Need-data-len-requires
-data-len-requires c κs = lent-long (c .before .before .before .before .args .image .now) (c .before .before .before .before .args .p .tail) 8 (let i = c .before .before .before .before .pre .1 (c .before .before .if1 .taken) in omega (arith, i))
+data-len-requires c κs = lent-long (c .before .before .before .before .args .image .now)
+    (c .before .before .before .before .args .p .tail) 8
+    (let i = c .before .before .before .before .pre .1 (c .before .before .if1 .taken) in omega (arith, i))
 
 size-requires : tie.Need-size-requires
 size-requires c κs = search needs

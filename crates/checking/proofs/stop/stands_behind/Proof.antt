@@ -9,7 +9,8 @@ limit-requires : tie.Need-limit-requires
 limit-requires c κs = search needs
 
 add-from : tie.Need-add-from
-add-from c = let w = within _ _ _ (c .before .limit .ensures) (c .before .before .before .pre .0) in omega (arith, w, c .before .limit .ensures, c .before .before .before .pre .1, c .before .before .before .pre .0 .small)
+add-from c = let w = within _ _ _ (c .before .limit .ensures) (c .before .before .before .pre .0) in
+    omega (arith, w, c .before .limit .ensures, c .before .before .before .pre .1, c .before .before .before .pre .0 .small)
 
 sub-stands : tie.Need-sub-stands
 sub-stands c = search needs

@@ -17,10 +17,15 @@ enum-known-f : tie.Need-enum-known-f
 enum-known-f c = search needs
 
 returns : tie.Need-returns
-returns c = let a = c .before .before .before .before .before .args in broken-not (a .image .now) (a .h) (c .before .before .before .survey .result) (c .before .before .before .survey .ensures .same) _ (c .before .before .before .before .before .pre .2) (c .before .before .first-fault .ensures) (search needs)
+returns c = let a = c .before .before .before .before .before .args in
+    broken-not (a .image .now) (a .h) (c .before .before .before .survey .result) (c .before .before .before .survey .ensures .same) _
+    (c .before .before .before .before .before .pre .2) (c .before .before .first-fault .ensures) (search needs)
 
 returns-2 : tie.Need-returns-2
-returns-2 c = let a = c .before .before .before .before .before .before .args in broken-there (a .image .now) (a .h) (c .before .before .before .before .survey .result) (c .before .before .before .before .survey .ensures .same) _ _ (sym (c .before .f .given .1) ∙ c .before .before .before .first-fault .ensures)
+returns-2 c = let a = c .before .before .before .before .before .before .args in
+    broken-there (a .image .now) (a .h) (c .before .before .before .before .survey .result)
+    (c .before .before .before .before .survey .ensures .same) _ _
+    (sym (c .before .f .given .1) ∙ c .before .before .before .first-fault .ensures)
 
 pub broken-from-spec : {M : Type 1} → statement M
 broken-from-spec =

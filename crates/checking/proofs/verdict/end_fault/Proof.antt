@@ -14,13 +14,17 @@ free-fault-requires : tie.Need-free-fault-requires
 free-fault-requires c κs = search needs
 
 returns : tie.Need-returns
-returns c = let a = c .before .before .before .before .before .before .args in end-free (a .image .now) (reading-of (a .image .now) (a .s)) _ (c .before .before .before .is-whole .ensures) _ _ (c .before .before .if1 .taken) (c .before .head-clean .ensures) (c .free-fault .ensures)
+returns c = let a = c .before .before .before .before .before .before .args in
+    end-free (a .image .now) (reading-of (a .image .now) (a .s)) _ (c .before .before .before .is-whole .ensures) _ _
+    (c .before .before .if1 .taken) (c .before .head-clean .ensures) (c .free-fault .ensures)
 
 stop-rule-requires : tie.Need-stop-rule-requires
 stop-rule-requires c κs = search needs
 
 returns-2 : tie.Need-returns-2
-returns-2 c = let a = c .before .before .before .before .before .args in end-stop (a .image .now) (reading-of (a .image .now) (a .s)) _ (c .before .before .is-whole .ensures) _ _ (c .before .if1 .left) (c .before .before .before .before .before .pre .2) (c .stop-rule .ensures)
+returns-2 c = let a = c .before .before .before .before .before .args in
+    end-stop (a .image .now) (reading-of (a .image .now) (a .s)) _ (c .before .before .is-whole .ensures) _ _ (c .before .if1 .left)
+    (c .before .before .before .before .before .pre .2) (c .stop-rule .ensures)
 
 pub end-fault-spec : {M : Type 1} → statement M
 end-fault-spec =

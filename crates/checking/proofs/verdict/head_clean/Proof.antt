@@ -15,7 +15,8 @@ is-clean-requires : tie.Need-is-clean-requires
 is-clean-requires c κs = search needs
 
 returns-2 : tie.Need-returns-2
-returns-2 c = c .is-clean .ensures ∙ ap is-clean (c .before .low-of .ensures) ∙ first-clean (c .before .before .before .before .before .before .before .pre .tallied) (c .before .before .before .if1 .left)
+returns-2 c = c .is-clean .ensures ∙ ap is-clean (c .before .low-of .ensures)
+    ∙ first-clean (c .before .before .before .before .before .before .before .pre .tallied) (c .before .before .before .if1 .left)
 
 pub head-clean-spec : {M : Type 1} → statement M
 head-clean-spec = tie.close (tie.spec returns low-of-requires is-clean-requires returns-2)

@@ -18,10 +18,16 @@ enum-known-x-2 : tie.Need-enum-known-x-2
 enum-known-x-2 c = search needs
 
 broken-requires : tie.Need-broken-requires
-broken-requires c κs = (c .before .before .before .before .before .pre, refused-is _ _ (sym (ap (judged-as (c .before .before .before .before .before .args .image .now)) (c .before .x2 .given .1)) ∙ c .before .before .before .judge .ensures .0))
+broken-requires c κs = (
+  c .before .before .before .before .before .pre,
+  refused-is _ _
+      (sym (ap (judged-as (c .before .before .before .before .before .args .image .now)) (c .before .x2 .given .1))
+      ∙ c .before .before .before .judge .ensures .0),
+)
 
 returns : tie.Need-returns
-returns c = c .sound .ensures ∙ lawful _ _ (sym (ap (judged-as (c .before .before .before .before .before .before .args .image .now)) (c .before .before .x .given .1)) ∙ c .before .before .before .before .judge .ensures .0)
+returns c = c .sound .ensures ∙ lawful _ _ (sym (ap (judged-as (c .before .before .before .before .before .before .args .image .now))
+    (c .before .before .x .given .1)) ∙ c .before .before .before .before .judge .ensures .0)
 
 returns-2 : tie.Need-returns-2
 returns-2 c = search needs

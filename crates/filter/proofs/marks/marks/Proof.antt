@@ -1,8 +1,7 @@
--- marks: all bytes can be read, the ends are fine; the hash gives the bits.
-use mathlib.Core.Path.{sym, ap, _∙_}
+-- marks: all bytes can be read, and the ends are fine; the hash is that of all words.
+use mathlib.Core.Path.{sym, _∙_}
 use lib.ListN.{take}
 use native.Mathlib.Omega.{arith}
-use Rattle.filter.specs.Table.{signature-by}
 use Rattle.filter.specs.Marks.{size, told-readable, told-hash, name-ok-by}
 use borrow.Author.Needs.{needs}
 use Rattle.filter.proofs.marks.marks.Statement.{statement}
@@ -20,24 +19,20 @@ ends-fine-requires c κs = search needs
 both-requires : tie.Need-both-requires
 both-requires c κs = search needs
 
-signature-by-requires : tie.Need-signature-by-requires
-signature-by-requires c κs = search needs
-
 returns : tie.Need-returns
 returns c =
-    let a = c .before .before .before .before .before .before .before .args in
+    let a = c .before .before .before .before .before .before .args in
     let s = take (a .n) (a .part .now) in
-    let x = c .before .before .before .before .before .look-all in
+    let x = c .before .before .before .before .look-all in
     let h = told-hash (a .part .now) (a .n) (omega arith) (x .result) (x .ensures) in
-    let ends = c .before .before .before .ends-fine in
+    let ends = c .before .before .ends-fine in
     record {
       fine =
-          c .before .before .both .ensures
+          c .before .both .ensures
           ∙ name-ok-by s (x .result .readable) (ends .result) (omega (arith, size (a .part .now) (a .n) (omega arith)))
           (told-readable (a .part .now) (a .n) (omega arith) (x .result) (x .ensures)) (ends .ensures);
-      bits = c .signature-by .ensures .0 ∙ ap signature-by h;
-      inside = c .signature-by .ensures .1;
       hash = h;
+      small = omega arith;
     }
 
 pub marks-spec : {M : Type 1} → statement M
@@ -48,5 +43,4 @@ marks-spec =
     slice-aggregate-ends-fine
     ends-fine-requires
     both-requires
-    signature-by-requires
     returns)

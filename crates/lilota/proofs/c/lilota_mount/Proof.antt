@@ -28,7 +28,8 @@ returns c =
     let c2 = c .before .before in
     let c3 = c2 .before in
     let c6 = c3 .before .before .before in
-    mounted-given (c6 .mount .result) _ _ _ _ _ _ (c .answer .ensures) (c3 .report .ensures) (c2 .space .ensures) (c .before .steps .ensures)
+    mounted-given (c6 .mount .result) _ _ _ _ _ _ (c .answer .ensures) (c3 .report .ensures) (c2 .space .ensures)
+    (c .before .steps .ensures)
     (c6 .mount .ensures .0) (mount-nameless _ _)
 
 pub lilota-mount-spec : {M : Type 1} → statement M

@@ -10,7 +10,8 @@ use Rattle.moving.proofs.clean.clean_bytes.Tie as tie
 
 abbrev Inv-loop : tie.InvT-loop
 Inv-loop image₀ at d q₀ i₀ image q i =
-    (length image ≡ length image₀) × (i ≤ d + 8) × (q .asked ≤ q₀ .asked + d) × (q .asked ≤ q₀ .asked + i) × Cleaning image₀ at d q₀ image q i
+    (length image ≡ length image₀) × (i ≤ d + 8) × (q .asked ≤ q₀ .asked + d) × (q .asked ≤ q₀ .asked + i)
+    × Cleaning image₀ at d q₀ image q i
 
 abbrev μ-loop : tie.MeasureT-loop
 μ-loop image₀ at d q₀ i₀ image q i = d - i

@@ -66,7 +66,8 @@ returns : tie.Need-returns Inv-loop μ-loop
 returns c =
     let a = c .before .before .before .args in
     let w = take (a .n) (drop (a .from) (a .image .now)) in
-    rw (take-all (c .before .loop .i) w (omega (arith, length-part (a .from) (a .n) (a .image .now) (omega arith)))) at (c .before .loop .inv .2)
+    rw (take-all (c .before .loop .i) w (omega (arith, length-part (a .from) (a .n) (a .image .now) (omega arith)))) at
+    (c .before .loop .inv .2)
 
 pub copy-bytes-spec : {M : Type 1} → statement M
 copy-bytes-spec =

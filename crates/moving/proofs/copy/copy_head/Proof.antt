@@ -85,7 +85,8 @@ same-length c = search needs
 
 returns-2 : tie.Need-returns-2
 returns-2 c =
-    let c6 = c .before .before .before .before .before .before in let c10 = c6 .before .before .before .before in let c12 = c10 .before .before in
+    let c6 = c .before .before .before .before .before .before in let c10 = c6 .before .before .before .before in
+    let c12 = c10 .before .before in
     let c15 = c12 .before .before .before in let c17 = c15 .before .before in let c18 = c17 .before in let c20 = c18 .before .before in
     let a = c20 .args in
     let r = c20 .pre .0 in

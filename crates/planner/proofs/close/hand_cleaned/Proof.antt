@@ -34,8 +34,11 @@ returns c =
     let c6 = c .before .before .before .before .before .before in
     let c7 = c6 .before in
     let c17 = c7 .before .before .before .before .before .before .before .before .before .before in
-    let a = c17 .args in
-    (rw (cleaned-is (a .image .now) (a .x) (c17 .pre .0 .0) (c7 .up-8 .ensures)) (c6 .hand-pairs .ensures .0), omega (arith, c6 .hand-pairs .ensures .1))
+    let a = c17 .args in (
+      rw (cleaned-is (a .image .now) (a .x) (c17 .pre .0 .0) (c7 .up-8 .ensures)) (c6 .hand-pairs .ensures .0),
+      omega
+          (arith, c6 .hand-pairs .ensures .1),
+    )
 
 pub hand-cleaned-spec : {M : Type 1} → statement M
 hand-cleaned-spec =

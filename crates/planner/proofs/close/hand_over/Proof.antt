@@ -33,7 +33,8 @@ returns c =
     let c15 = c8 .before .before .before .before .before .before .before in
     let a = c15 .args in
     let h = c8 .hand-start .ensures in (
-      rw (forget-none (standing (a .x)) {to = a .to} (c1 .floor .ensures .0) (c .if1 .taken), append-nil (start-steps (a .y) (a .low))) (h .0),
+      rw (forget-none (standing (a .x)) {to = a .to} (c1 .floor .ensures .0) (c .if1 .taken), append-nil (start-steps (a .y) (a .low)))
+          (h .0),
       omega (arith, h .1),
     )
 

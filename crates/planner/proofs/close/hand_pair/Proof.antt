@@ -42,7 +42,8 @@ returns c =
     let c11 = c10 .before in
     let c18 = c11 .before .before .before .before .before .before .before in
     let a = c18 .args in (
-      rw (marked (a .image .now) (a .at) (sym (mark-at (a .image .now) (a .at)) ∙ flag (c11 .is-mark .ensures) (c10 .if1 .taken))) (c6 .hand-program .ensures),
+      rw (marked (a .image .now) (a .at) (sym (mark-at (a .image .now) (a .at)) ∙ flag (c11 .is-mark .ensures) (c10 .if1 .taken)))
+          (c6 .hand-program .ensures),
       omega (arith, c6 .hand-program .ensures .count),
     )
 

@@ -21,8 +21,16 @@ abbrev μ-loop : tie.MeasureT-loop
 loop-holds : tie.Need-loop-holds Inv-loop μ-loop
 loop-holds c =
     let c4 = c .before .before .before .before in
-    let a = c4 .args in
-    (refl, refl, refl, omega arith, omega arith, omega arith, pairs-start (a .image .now) (a .at) (a .d) (c4 .pre .0 .0) (slices (a .kinds .now) (a .addresses .now) (a .bytes .now)) (a .w))
+    let a = c4 .args in (
+      refl,
+      refl,
+      refl,
+      omega arith,
+      omega arith,
+      omega arith,
+      pairs-start (a .image .now) (a .at) (a .d) (c4 .pre .0 .0)
+          (slices (a .kinds .now) (a .addresses .now) (a .bytes .now)) (a .w),
+    )
 
 add-loop : tie.Need-add-loop Inv-loop μ-loop
 add-loop c = search needs

@@ -24,7 +24,8 @@ returns c =
     let c3 = c1 .before .before in
     let a = c3 .args in
     let i = a .image .now in
-    let none = rest-done i (a .past) (c1 .advance .result) (c1 .advance .ensures .0) (other-step (c1 .advance .result) (c .match .keys2)) in (
+    let none = rest-done i (a .past) (c1 .advance .result) (c1 .advance .ensures .0)
+    (other-step (c1 .advance .result) (c .match .keys2)) in (
       sym (ap (λ (r : Run). address-of (next-of (r .entries) (copy-entry (a .copy)))) none ∙ address-copy (a .copy)),
       c3 .pre .1,
     )

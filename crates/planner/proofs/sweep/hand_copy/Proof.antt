@@ -88,7 +88,8 @@ returns c =
     let a = c22 .args in
     let i = a .image .now in
     let p = c22 .pre .0 in
-    let h = rw (copy-is i (a .x) (a .place) (c12 .from-byte .result) (c15 .up-8 .result) (c12 .from-byte .ensures) (c15 .up-8 .ensures)) at (c6 .hand-file .ensures) in
+    let h = rw (copy-is i (a .x) (a .place) (c12 .from-byte .result) (c15 .up-8 .result) (c12 .from-byte .ensures) (c15 .up-8 .ensures)) at
+    (c6 .hand-file .ensures) in
     let n = name-length-is i (a .x) (p .0) in
     let d = content-length-is i (a .x) (p .0) in (
       h,

@@ -31,7 +31,8 @@ returns c =
     let i = a .image .now in
     let p = c8 .pre .0 in
     let e = rw (c3 .size .ensures) at (sym (c2 .after .ensures) ∙ c .enum-told .given .1) in
-    live-full i (a .x) (a .past) (a .place) (a .copy) (p .1) (p .3) (slices (a .kinds .now) (a .addresses .now) (a .bytes .now)) (a .w) (placed-full (a .place) (size-of (a .x .n) (a .x .d)) e)
+    live-full i (a .x) (a .past) (a .place) (a .copy) (p .1) (p .3) (slices (a .kinds .now) (a .addresses .now) (a .bytes .now)) (a .w)
+    (placed-full (a .place) (size-of (a .x .n) (a .x .d)) e)
 
 hand-copy-requires : tie.Need-hand-copy-requires
 hand-copy-requires c κs =
@@ -41,7 +42,8 @@ hand-copy-requires c κs =
     let c12 = c7 .before .before .before .before .before in
     let a = c12 .args in
     let p = c12 .pre .0 in
-    let parts = placed-parts (a .place) (size-of (a .x .n) (a .x .d)) _ _ _ (rw (c7 .size .ensures) at (sym (c6 .after .ensures) ∙ c4 .at .given .1)) in
+    let parts = placed-parts (a .place) (size-of (a .x .n) (a .x .d)) _ _ _
+    (rw (c7 .size .ensures) at (sym (c6 .after .ensures) ∙ c4 .at .given .1)) in
     ((p .1, c12 .pre .1 .0, p .3, parts .0), omega (arith, c12 .pre .1))
 
 come-round-requires : tie.Need-come-round-requires
@@ -62,12 +64,15 @@ hand-over-requires c κs =
     let i = a .image .now in
     let p = c24 .pre .0 in
     let g = c16 .at .given .0 in
-    let parts = placed-parts (a .place) (size-of (a .x .n) (a .x .d)) _ _ _ (rw (c19 .size .ensures) at (sym (c18 .after .ensures) ∙ c16 .at .given .1)) in (
+    let parts = placed-parts (a .place) (size-of (a .x .n) (a .x .d)) _ _ _
+    (rw (c19 .size .ensures) at (sym (c18 .after .ensures) ∙ c16 .at .given .1)) in (
       (
         p .0,
         p .1,
-        rw (c .first-of .ensures) (first-below (a .copy) (g .0) (length i) (p .2) (copy-inside i (a .x) (a .past) (a .place) (a .copy) (p .1) (p .3) (parts .0) (g .0) (parts .1) _ (parts .3))),
-        rw (c1 .come-round .ensures) (copy-walkable i (a .x) (a .past) (a .place) (a .copy) (p .1) (p .3) (parts .0) (g .0) (parts .1) _ (parts .3)),
+        rw (c .first-of .ensures) (first-below (a .copy) (g .0) (length i) (p .2)
+            (copy-inside i (a .x) (a .past) (a .place) (a .copy) (p .1) (p .3) (parts .0) (g .0) (parts .1) _ (parts .3))),
+        rw (c1 .come-round .ensures) (copy-walkable i (a .x) (a .past) (a .place) (a .copy) (p .1) (p .3) (parts .0) (g .0) (parts .1) _
+            (parts .3)),
       ),
       omega (arith, c24 .pre .1, c11 .hand-copy .ensures .1),
     )
@@ -95,8 +100,10 @@ returns-2 c =
     let i = a .image .now in
     let p = c31 .pre .0 in
     let g = c23 .at .given .0 in
-    let parts = placed-parts (a .place) (size-of (a .x .n) (a .x .d)) _ _ _ (rw (c26 .size .ensures) at (sym (c25 .after .ensures) ∙ c23 .at .given .1)) in
-    live-over i (a .x) (a .past) (a .place) (a .copy) (p .1) (p .3) (parts .0) (g .0) (parts .1) _ (parts .3) _ _ _ _ _ (c6 .hand-over .result) (c18 .hand-copy .ensures .0) (c18 .hand-copy .ensures .1)
+    let parts = placed-parts (a .place) (size-of (a .x .n) (a .x .d)) _ _ _
+    (rw (c26 .size .ensures) at (sym (c25 .after .ensures) ∙ c23 .at .given .1)) in
+    live-over i (a .x) (a .past) (a .place) (a .copy) (p .1) (p .3) (parts .0) (g .0) (parts .1) _ (parts .3) _ _ _ _ _
+    (c6 .hand-over .result) (c18 .hand-copy .ensures .0) (c18 .hand-copy .ensures .1)
     (rw (c8 .come-round .ensures, c7 .first-of .ensures) at (c6 .hand-over .ensures))
 
 pub hand-live-spec : {M : Type 1} → statement M

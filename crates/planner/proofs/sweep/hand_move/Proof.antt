@@ -23,8 +23,10 @@ returns c =
     let c8 = c1 .before .before .before .before .before .before .before in
     let a = c8 .args in
     let i = a .image .now in
-    let none = rest-done i (a .v .cursor) (c1 .advance .result) (c1 .advance .ensures .0) (other-step (c1 .advance .result) (c .match .keys2)) in
-    move-none i (rest i (a .start) .entries) (a .v) (c8 .pre .0 .1) (slices (a .kinds .now) (a .addresses .now) (a .bytes .now)) (a .w) (ap (λ (r : Run). r .entries) none)
+    let none = rest-done i (a .v .cursor) (c1 .advance .result) (c1 .advance .ensures .0)
+    (other-step (c1 .advance .result) (c .match .keys2)) in
+    move-none i (rest i (a .start) .entries) (a .v) (c8 .pre .0 .1) (slices (a .kinds .now) (a .addresses .now) (a .bytes .now)) (a .w)
+    (ap (λ (r : Run). r .entries) none)
 
 is-live-requires : tie.Need-is-live-requires
 is-live-requires c κs =
@@ -63,7 +65,8 @@ returns-2 c =
     let a = c22 .args in
     let i = a .image .now in
     let t = passes (c15 .advance .ensures) (c13 .x .given .1) in
-    move-live i (rest i (a .start) .entries) (a .v) (c22 .pre .0 .1) (c13 .x .given .0 .0) (c13 .x .given .0 .1 .0) (ap (λ (r : Run). r .entries) (t .split)) _ _ (a .w) (c6 .hand-live .result)
+    move-live i (rest i (a .start) .entries) (a .v) (c22 .pre .0 .1) (c13 .x .given .0 .0) (c13 .x .given .0 .1 .0)
+    (ap (λ (r : Run). r .entries) (t .split)) _ _ (a .w) (c6 .hand-live .result)
     (flag (c11 .is-live .ensures) (c10 .if1 .taken)) (c6 .hand-live .ensures)
 
 hand-over-requires : tie.Need-hand-over-requires
@@ -95,7 +98,8 @@ returns-3 c =
     let a = c22 .args in
     let i = a .image .now in
     let t = passes (c15 .advance .ensures) (c13 .x .given .1) in
-    move-dead i (rest i (a .start) .entries) (a .v) (c22 .pre .0 .1) (c13 .x .given .0 .0) (c13 .x .given .0 .1 .0) (ap (λ (r : Run). r .entries) (t .split)) _ _ (a .w) (c6 .hand-over .result)
+    move-dead i (rest i (a .start) .entries) (a .v) (c22 .pre .0 .1) (c13 .x .given .0 .0) (c13 .x .given .0 .1 .0)
+    (ap (λ (r : Run). r .entries) (t .split)) _ _ (a .w) (c6 .hand-over .result)
     (flag (c11 .is-live .ensures) (c10 .if1 .left)) (c6 .hand-over .ensures)
 
 pub hand-move-spec : {M : Type 1} → statement M

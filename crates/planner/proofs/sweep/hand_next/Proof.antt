@@ -27,8 +27,11 @@ same-length-3 c = search needs
 returns : tie.Need-returns
 returns c =
     let c6 = c .before .before .before .before .before .before in
-    let c16 = c6 .before .before .before .before .before .before .before .before .before .before in
-    (handed-both (c16 .hand-program .ensures) (c6 .hand-close .ensures .0), omega (arith, c16 .hand-program .ensures .count, c6 .hand-close .ensures .1))
+    let c16 = c6 .before .before .before .before .before .before .before .before .before .before in (
+      handed-both (c16 .hand-program .ensures) (c6 .hand-close .ensures .0),
+      omega
+          (arith, c16 .hand-program .ensures .count, c6 .hand-close .ensures .1),
+    )
 
 pub hand-next-spec : {M : Type 1} → statement M
 hand-next-spec =

@@ -23,8 +23,14 @@ abbrev μ-loop : tie.MeasureT-loop
 loop-holds : tie.Need-loop-holds Inv-loop μ-loop
 loop-holds c =
     let c4 = c .before .before .before .before in
-    let a = c4 .args in
-    (refl, refl, refl, omega (arith, c4 .pre), walking-start (slices (a .kinds .now) (a .addresses .now) (a .bytes .now)) (a .w) (a .most) _ (record { cursor = c4 .pre .0; place = c4 .pre .1; copy = tt }))
+    let a = c4 .args in (
+      refl,
+      refl,
+      refl,
+      omega (arith, c4 .pre),
+      walking-start (slices (a .kinds .now) (a .addresses .now) (a .bytes .now)) (a .w)
+          (a .most) _ (record { cursor = c4 .pre .0; place = c4 .pre .1; copy = tt }),
+    )
 
 hand-move-requires : tie.Need-hand-move-requires Inv-loop μ-loop
 hand-move-requires c κs =
@@ -53,7 +59,11 @@ returns c =
     let c18 = c13 .before .before .before .before .before in
     let a = c18 .args in
     let l = c13 .loop in
-    walking-stop (l .inv .4) (l .left - 1) (omega (arith, c12 .loop-test .taken)) (slices (c8 .hand-move .last .1 .0) (c8 .hand-move .last .1 .1 .0) (c8 .hand-move .last .1 .1 .1 .0)) (subst (Move-handed (a .image .now) (rest (a .image .now) (a .start) .entries) (l .v) (slices (l .kinds) (l .addresses) (l .bytes)) (l .q) (slices (c8 .hand-move .last .1 .0) (c8 .hand-move .last .1 .1 .0) (c8 .hand-move .last .1 .1 .1 .0))) (c .enum-told .given .1) (c8 .hand-move .ensures))
+    walking-stop (l .inv .4) (l .left - 1) (omega (arith, c12 .loop-test .taken))
+    (slices (c8 .hand-move .last .1 .0) (c8 .hand-move .last .1 .1 .0) (c8 .hand-move .last .1 .1 .1 .0))
+    (subst (Move-handed (a .image .now) (rest (a .image .now) (a .start) .entries) (l .v) (slices (l .kinds) (l .addresses) (l .bytes))
+    (l .q) (slices (c8 .hand-move .last .1 .0) (c8 .hand-move .last .1 .1 .0) (c8 .hand-move .last .1 .1 .1 .0)))
+    (c .enum-told .given .1) (c8 .hand-move .ensures))
 
 enum-known-t : tie.Need-enum-known-t Inv-loop μ-loop
 enum-known-t c = search needs
@@ -83,8 +93,12 @@ loop-again c =
       omega (arith, kept .1 .0, l .inv .1),
       omega (arith, kept .1 .1 .0, l .inv .2),
       omega (arith, l .inv .3, more),
-      walking-more (l .inv .4) (l .left - 1) (omega (arith, more)) (slices (c9 .hand-move .last .1 .0) (c9 .hand-move .last .1 .1 .0) (c9 .hand-move .last .1 .1 .1 .0)) (next .0) (next .1 .0)
-          (subst (Move-handed (a .image .now) (rest (a .image .now) (a .start) .entries) (l .v) (slices (l .kinds) (l .addresses) (l .bytes)) (l .q) (slices (c9 .hand-move .last .1 .0) (c9 .hand-move .last .1 .1 .0) (c9 .hand-move .last .1 .1 .1 .0))) (c1 .t .given .1) (c9 .hand-move .ensures)),
+      walking-more (l .inv .4) (l .left - 1) (omega (arith, more))
+          (slices (c9 .hand-move .last .1 .0) (c9 .hand-move .last .1 .1 .0) (c9 .hand-move .last .1 .1 .1 .0)) (next .0) (next .1 .0)
+          (subst (Move-handed (a .image .now) (rest (a .image .now) (a .start) .entries) (l .v)
+          (slices (l .kinds) (l .addresses) (l .bytes)) (l .q)
+          (slices (c9 .hand-move .last .1 .0) (c9 .hand-move .last .1 .1 .0) (c9 .hand-move .last .1 .1 .1 .0))) (c1 .t .given .1)
+          (c9 .hand-move .ensures)),
     )
 
 same-length-4 : tie.Need-same-length-4 Inv-loop μ-loop

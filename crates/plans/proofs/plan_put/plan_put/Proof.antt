@@ -63,7 +63,8 @@ returns-2 c =
     let s = slices (a .kinds .now) (a .addresses .now) (a .bytes .now) in
     let i = a .image .now in
     rw (c .refused-put .ensures) (
-      shut-out _ (a .first) s (put-into (a .name .now) (a .content .now) i) (sym (ap (answered i) (c2 .x2 .given .1)) ∙ c4 .admitted-named .ensures .0)
+      shut-out _ (a .first) s (put-into (a .name .now) (a .content .now) i)
+          (sym (ap (answered i) (c2 .x2 .given .1)) ∙ c4 .admitted-named .ensures .0)
           ∙ put-planned i (a .first) s (a .name .now) (a .content .now),
       rw (c2 .x2 .given .1) at (c4 .admitted-named .ensures .1),
       refl,

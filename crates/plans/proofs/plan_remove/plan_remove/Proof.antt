@@ -71,7 +71,8 @@ returns-2 c =
     let x = c2 .x .given .1 in
     let d = c4 .admitted-named .ensures in
     rw (c .refused-write .ensures) (
-      shut-out _ (a .first) s (file-of (a .name .now) removing) (sym (ap (answered i) x) ∙ d .0) ∙ remove-planned i (a .first) s (a .name .now),
+      shut-out _ (a .first) s (file-of (a .name .now) removing) (sym (ap (answered i) x) ∙ d .0)
+          ∙ remove-planned i (a .first) s (a .name .now),
       rw x at (d .1),
       refl,
     )

@@ -73,7 +73,8 @@ returns-2 c =
     let s = slices (a .kinds .now) (a .addresses .now) (a .bytes .now) in
     let f = c14 .f .given in
     rw (c .planned-write .ensures, c12 .shortest .ensures) (
-      written-out (status-step (entry-of i (f .0 .0)) 0x00 ∷ []) (a .first) (c8 .from .ensures .0) (c8 .from .ensures .1) (c7 .hand-status .ensures)
+      written-out (status-step (entry-of i (f .0 .0)) 0x00 ∷ []) (a .first) (c8 .from .ensures .0) (c8 .from .ensures .1)
+          (c7 .hand-status .ensures)
           ∙ ap (λ (x : Found). hand-out (found removing (found-in i x)) (a .first) s) (sym (f .1)),
       tt,
     )

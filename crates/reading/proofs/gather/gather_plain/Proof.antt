@@ -2,7 +2,7 @@
 use Prim.Native.Nat.{_≤_}
 use mathlib.Core.Path.{_∙_}
 use borrow.Author.Tests.{ne-eqb}
-use Rattle.laws.specs.Flag.{flag}
+use Rattle.laws.specs.Flag.{flag, flag-not}
 use Rattle.chain.specs.Cursor.{Cursor-sound, left}
 use Rattle.chain.specs.Tally.{addable-size}
 use Rattle.reading.specs.Gather.{Gathering, gathering-dead}
@@ -53,31 +53,43 @@ returns-2 c =
     let inv = c5 .before .before .before .before .before .loop .inv in
     (inv .1, inv .3)
 
+returns-3 : tie.Need-returns-3 Inv-loop μ-loop
+returns-3 c =
+    let c6 = c .before .before .before .before .before .before in
+    let inv = c6 .before .before .before .before .before .before .loop .inv in
+    (inv .1, inv .3)
+
 gather-file-requires : tie.Need-gather-file-requires Inv-loop μ-loop
 gather-file-requires c κs =
-    let c3 = c .before .before .before in let c4 = c3 .before in let c7 = c4 .before .before .before in
-    let c9 = c7 .before .before in
-    let inv = c9 .before .before .loop .inv in
-    let w = rw (c7 .s .given .1) at (c9 .near .ensures) in
-    let m = c3 .marks-of .ensures in (
+    let c5 = c .before .before .before .before .before in let c6 = c5 .before in let c9 = c6 .before .before .before in
+    let c11 = c9 .before .before in
+    let inv = c11 .before .before .loop .inv in
+    let w = rw (c9 .s .given .1) at (c11 .near .ensures) in
+    let m = c5 .marks-of .ensures in (
       inv .0,
       record { state = inv .1; passes = w .0 },
-      record { two = inv .2; unmarked = w .1; file = flag (c4 .before .is-file .ensures) (c4 .if1 .taken) },
-      m,
-      ne-eqb _ _ (λ q. c .before .if2 .left (m .hash ∙ q)),
+      record {
+        two = inv .2;
+        unmarked = w .1;
+        file = flag (c6 .before .is-file .ensures) (c6 .if1 .taken);
+        fine = flag-not (m .fine) (c .before .if3 .left);
+      },
+      m .hash,
+      m .small,
+      ne-eqb _ _ (λ q. c .before .before .before .if2 .left (m .hash ∙ q)),
     )
 
 loop-less : tie.Need-loop-less Inv-loop μ-loop
 loop-less c =
-    let c8 = c .before .before .before .before .before .before .before .before in
-    let w = rw (c8 .s .given .1) at (c8 .before .before .near .ensures) in
+    let c10 = c .before .before .before .before .before .before .before .before .before .before in
+    let w = rw (c10 .s .given .1) at (c10 .before .before .near .ensures) in
     rw (c .gather-file .ensures .1) (w .0 .onward .less)
 
 loop-again : tie.Need-loop-again Inv-loop μ-loop
 loop-again c =
-    let c8 = c .before .before .before .before .before .before .before .before in let c10 = c8 .before .before in
-    let inv = c10 .before .before .loop .inv in
-    let w = rw (c8 .s .given .1) at (c10 .near .ensures) in
+    let c10 = c .before .before .before .before .before .before .before .before .before .before in let c12 = c10 .before .before in
+    let inv = c12 .before .before .loop .inv in
+    let w = rw (c10 .s .given .1) at (c12 .near .ensures) in
     let e = c .gather-file .ensures in
     (inv .0, e .0, e .2, rw (e .1) (omega (arith, inv .3, w .0 .onward .less)))
 
@@ -118,6 +130,7 @@ gather-plain-spec =
     is-file-requires
     marks-of-requires
     returns-2
+    returns-3
     gather-file-requires
     loop-less
     loop-again

@@ -22,7 +22,8 @@ returns c =
     let c2 = c .before .before in let c5 = c2 .before .before .before in
     let a = c5 .args in
     rw (c .survey-of .ensures)
-    (seen (a .image .now) (a .h) (c5 .pre .0) (c5 .pre .1 .1) (c2 .pass .result) (rw (c2 .before .first-cursor .ensures) at (c2 .pass .ensures .0))
+    (seen (a .image .now) (a .h) (c5 .pre .0) (c5 .pre .1 .1) (c2 .pass .result)
+    (rw (c2 .before .first-cursor .ensures) at (c2 .pass .ensures .0))
     (c2 .pass .ensures .1) (c2 .pass .ensures .2))
 
 pub survey-spec : {M : Type 1} → statement M

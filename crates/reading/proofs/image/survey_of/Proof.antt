@@ -31,7 +31,8 @@ told-requires-4 c κs = search needs
 
 returns : tie.Need-returns
 returns c =
-    let a = c .before .before .before .args in c .told .ensures ∙ ap (λ s. survey-of (a .n) (a .h) s (a .t)) (sym (c .before .enum-told .given .1))
+    let a = c .before .before .before .args in c .told .ensures
+    ∙ ap (λ s. survey-of (a .n) (a .h) s (a .t)) (sym (c .before .enum-told .given .1))
 
 returns-2 : tie.Need-returns-2
 returns-2 c =

@@ -18,7 +18,10 @@ same-length c = search needs
 
 returns : tie.Need-returns
 returns c =
-    rw (c .at-head .ensures) (finish-few (c .before .before .before .before .survey .ensures) (c .before .if1 .taken), (omega arith, omega arith))
+    rw (c .at-head .ensures) (
+      finish-few (c .before .before .before .before .survey .ensures) (c .before .if1 .taken),
+      (omega arith, omega arith),
+    )
 
 low-of-requires : tie.Need-low-of-requires
 low-of-requires c κs = search needs

@@ -38,10 +38,12 @@ same-length-2 c = search needs
 
 returns-2 : tie.Need-returns-2
 returns-2 c =
-    let c6 = c .before .before .before .before .before .before in let c8 = c6 .before .before in let c9 = c8 .before in let c10 = c9 .before in
+    let c6 = c .before .before .before .before .before .before in let c8 = c6 .before .before in let c9 = c8 .before in
+    let c10 = c9 .before in
     let c12 = c10 .before .before in
     let a = c12 .args in (
-      run-unturned (a .image .now) (a .p) (c10 .floor .ensures .0) (c9 .ceiling .ensures .0) (c8 .if1 .left) (c12 .pre .1 .0 (c8 .if1 .left))
+      run-unturned (a .image .now) (a .p) (c10 .floor .ensures .0) (c9 .ceiling .ensures .0) (c8 .if1 .left)
+          (c12 .pre .1 .0 (c8 .if1 .left))
           (c6 .erase-dirty2 .ensures .1 .1) (c6 .erase-dirty2 .ensures .0) (c .before .before .erase-dirty3 .ensures .0),
       omega (
         arith,

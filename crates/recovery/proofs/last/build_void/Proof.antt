@@ -24,8 +24,10 @@ same-length c = search needs
 
 returns : tie.Need-returns
 returns c =
-    let c6 = c .before .before .before .before .before .before in let c11 = c6 .before .before .before .before .before in let c15 = c11 .before .before .before .before in
-    did-both (c15 .program .ensures) (did-both (c11 .program2 .ensures) (did-both (c6 .program-bytes .ensures) (c .before .before .void-status .ensures)))
+    let c6 = c .before .before .before .before .before .before in let c11 = c6 .before .before .before .before .before in
+    let c15 = c11 .before .before .before .before in
+    did-both (c15 .program .ensures) (did-both (c11 .program2 .ensures)
+    (did-both (c6 .program-bytes .ensures) (c .before .before .void-status .ensures)))
 
 pub build-void-spec : {M : Type 1} → statement M
 build-void-spec =

@@ -22,8 +22,11 @@ same-length c = search needs
 
 returns-2 : tie.Need-returns-2
 returns-2 c =
-    let a = c .before .before .before .before .before .before .before .args in
-    (rw (name-open (a .image .now) (a .at) (c .before .before .before .before .if1 .left)) (c .before .before .write-end .ensures), omega arith)
+    let a = c .before .before .before .before .before .before .before .args in (
+      rw (name-open (a .image .now) (a .at) (c .before .before .before .before .if1 .left))
+          (c .before .before .write-end .ensures),
+      omega arith,
+    )
 
 pub end-name-spec : {M : Type 1} → statement M
 end-name-spec = tie.close (tie.spec slice-read-if1 returns write-end-requires same-length returns-2)

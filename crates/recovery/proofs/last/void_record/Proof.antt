@@ -20,8 +20,11 @@ same-length c = search needs
 
 returns : tie.Need-returns
 returns c =
-    let a = c .before .before .before .before .before .before .before .before .before .args in
-    (rw (void-torn (a .image .now) (a .e) (c .before .before .before .before .if1 .taken)) (c .before .before .void-torn .ensures), omega arith)
+    let a = c .before .before .before .before .before .before .before .before .before .args in (
+      rw (void-torn (a .image .now) (a .e) (c .before .before .before .before .if1 .taken))
+          (c .before .before .void-torn .ensures),
+      omega arith,
+    )
 
 void-reserved-requires : tie.Need-void-reserved-requires
 void-reserved-requires c κs = search needs
@@ -32,7 +35,8 @@ same-length-2 c = search needs
 returns-2 : tie.Need-returns-2
 returns-2 c =
     let a = c .before .before .before .before .before .before .before .before .before .before .before .args in (
-      rw (void-reserved (a .image .now) (a .e) (c .before .before .before .before .if2 .taken)) (c .before .before .void-reserved .ensures .0),
+      rw (void-reserved (a .image .now) (a .e) (c .before .before .before .before .if2 .taken))
+          (c .before .before .void-reserved .ensures .0),
       omega
           arith,
     )

@@ -17,7 +17,8 @@ use Rattle.recovery.proofs.superseded.drop_superseded.Tie as tie
 
 abbrev Inv-loop : tie.InvT-loop
 Inv-loop image₀ h start q₀ c₀ image q c =
-    (length image ≡ length image₀) × Cursor-sound image c × (q .asked + left c ≤ q₀ .asked + left start) × Dropping image₀ start q₀ image c q
+    (length image ≡ length image₀) × Cursor-sound image c × (q .asked + left c ≤ q₀ .asked + left start)
+    × Dropping image₀ start q₀ image c q
 
 abbrev μ-loop : tie.MeasureT-loop
 μ-loop image₀ h start q₀ c₀ image q c = left c
@@ -58,7 +59,8 @@ drop-one-requires c κs =
     let t = passes (c4 .advance .ensures) (c2 .s .given .1) in
     let a = c10 .args in (
       sound-same (a .image .now) (c6 .loop .image) (c7 .first-cursor .result)
-          (rw (c7 .first-cursor .ensures) (first-sound (a .image .now) (a .h) (omega (arith, c10 .pre .0 .0)) (c10 .pre .0 .1 .1))) (c6 .loop .inv .0),
+          (rw (c7 .first-cursor .ensures) (first-sound (a .image .now) (a .h) (omega (arith, c10 .pre .0 .0)) (c10 .pre .0 .1 .1)))
+          (c6 .loop .inv .0),
       (t .whole, omega (arith, c6 .loop .inv .2, ap left (c7 .first-cursor .ensures), t .onward .less, c10 .pre .1)),
     )
 

@@ -23,7 +23,8 @@ same-length c = search needs
 returns : tie.Need-returns
 returns c =
     let c5 = c .before .before .before .before .before in
-    hand-none (c5 .pre .0) (c5 .args .m) (c .before .advance .result) (c .before .before .first-cursor .ensures) (c .before .advance .ensures .0)
+    hand-none (c5 .pre .0) (c5 .args .m) (c .before .advance .result) (c .before .before .first-cursor .ensures)
+    (c .before .advance .ensures .0)
     (other-step (c .before .advance .result) (c .match .keys2))
 
 advance-requires-2 : tie.Need-advance-requires-2
@@ -40,7 +41,8 @@ same-length-2 c = search needs
 
 returns-2 : tie.Need-returns-2
 returns-2 c =
-    let c4 = c .before .before .before .before in let c6 = c4 .before .before in let c7 = c6 .before in let c10 = c7 .before .before .before in
+    let c4 = c .before .before .before .before in let c6 = c4 .before .before in let c7 = c6 .before in
+    let c10 = c7 .before .before .before in
     let t = taken (c7 .first-cursor .ensures) (c6 .advance .ensures .0) (c6 .advance .ensures .1) (c4 .x .given .1) in
     hand-one (c10 .pre .0) (c10 .args .m) t (c .before .advance2 .result) (c .before .advance2 .ensures .0)
     (other-step (c .before .advance2 .result) (c .match2 .keys2))
@@ -71,7 +73,8 @@ returns-3 c =
     let c20 = c17 .before .before .before in
     let t = taken (c17 .first-cursor .ensures) (c16 .advance .ensures .0) (c16 .advance .ensures .1) (c14 .x .given .1) in
     let u = taken refl (c11 .advance2 .ensures .0) (c11 .advance2 .ensures .1) (c9 .y .given .1) in
-    hand-two (c20 .pre .0) (c20 .args .m) t u (omega arith) (omega arith) (c6 .to-clean .ensures) (c2 .close .ensures .0) (c2 .close .ensures .1)
+    hand-two (c20 .pre .0) (c20 .args .m) t u (omega arith) (omega arith) (c6 .to-clean .ensures) (c2 .close .ensures .0)
+    (c2 .close .ensures .1)
 
 pub hand-over-spec : {M : Type 1} → statement M
 hand-over-spec =

@@ -18,8 +18,11 @@ returns c =
 
 hand-over-requires : tie.Need-hand-over-requires
 hand-over-requires c κs =
-    let c5 = c .before .before .before .before .before in let c8 = c5 .before .before .before in
-    (led-still (c8 .pre .0 .led) (omega arith) (c5 .copy .ensures .1 .1), omega (arith, c5 .copy .ensures .1 .0, c8 .pre .1 .1, c8 .pre .0 .led .small))
+    let c5 = c .before .before .before .before .before in let c8 = c5 .before .before .before in (
+      led-still (c8 .pre .0 .led) (omega arith) (c5 .copy .ensures .1 .1),
+      omega
+          (arith, c5 .copy .ensures .1 .0, c8 .pre .1 .1, c8 .pre .0 .led .small),
+    )
 
 same-length-2 : tie.Need-same-length-2
 same-length-2 c = search needs
@@ -27,7 +30,8 @@ same-length-2 c = search needs
 returns-2 : tie.Need-returns-2
 returns-2 c =
     let c4 = c .before .before .before .before in let c8 = c4 .before .before .before .before in let c11 = c8 .before .before .before in
-    moved-over (c11 .pre .0 .led) (c8 .copy .ensures .0) (c8 .copy .ensures .1 .0) (c4 .if1 .left) (omega arith) (c .before .before .hand-over .ensures)
+    moved-over (c11 .pre .0 .led) (c8 .copy .ensures .0) (c8 .copy .ensures .1 .0) (c4 .if1 .left) (omega arith)
+    (c .before .before .hand-over .ensures)
 
 pub move-head-spec : {M : Type 1} → statement M
 move-head-spec =

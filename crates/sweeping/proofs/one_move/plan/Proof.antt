@@ -32,7 +32,8 @@ is-live-requires c κs =
 size-requires : tie.Need-size-requires
 size-requires c κs =
     let c5 = c .before .before .before .before .before in let c6 = c5 .before in
-    let t = taken (c6 .first-cursor .ensures) (c5 .advance .ensures .0) (c5 .advance .ensures .1) (c .before .before .before .x .given .1) in
+    let t = taken (c6 .first-cursor .ensures) (c5 .advance .ensures .0) (c5 .advance .ensures .1)
+    (c .before .before .before .x .given .1) in
     (omega (arith, t .passes .onward .name), t .passes .onward .data-len)
 
 after-requires : tie.Need-after-requires
@@ -63,7 +64,8 @@ returns-3 c =
 advance-requires-2 : tie.Need-advance-requires-2
 advance-requires-2 c κs =
     let c5 = c .before .before .before .before .before in let c6 = c5 .before in
-    let t = taken (c6 .first-cursor .ensures) (c5 .advance .ensures .0) (c5 .advance .ensures .1) (c .before .before .before .x .given .1) in
+    let t = taken (c6 .first-cursor .ensures) (c5 .advance .ensures .0) (c5 .advance .ensures .1)
+    (c .before .before .before .x .given .1) in
     t .passes .onward .sound
 
 enum-told-3 : tie.Need-enum-told-3
@@ -71,14 +73,16 @@ enum-told-3 c = search needs
 
 returns-4 : tie.Need-returns-4
 returns-4 c =
-    let c5 = c .before .before .before .before .before in let c7 = c5 .before .before in let c8 = c7 .before in let c10 = c8 .before .before in
+    let c5 = c .before .before .before .before .before in let c7 = c5 .before .before in let c8 = c7 .before in
+    let c10 = c8 .before .before in
     let t = taken (c8 .first-cursor .ensures) (c7 .advance .ensures .0) (c7 .advance .ensures .1) (c5 .x .given .1) in
     plan-last (c10 .pre) t (c8 .first-cursor .ensures) (c .before .before .before .is-live .ensures) (c .before .before .if1 .left)
     (c .before .advance2 .result) (c .before .advance2 .ensures .0) (other-step (c .before .advance2 .result) (c .match3 .keys2))
 
 returns-5 : tie.Need-returns-5
 returns-5 c =
-    let c2 = c .before .before in let c4 = c2 .before .before in let c6 = c4 .before .before in let c8 = c6 .before .before in let c9 = c8 .before in
+    let c2 = c .before .before in let c4 = c2 .before .before in let c6 = c4 .before .before in let c8 = c6 .before .before in
+    let c9 = c8 .before in
     let c11 = c9 .before .before in
     let t = taken (c9 .first-cursor .ensures) (c8 .advance .ensures .0) (c8 .advance .ensures .1) (c6 .x .given .1) in
     plan-leave (c11 .pre) t (c9 .first-cursor .ensures) (c4 .is-live .ensures) (c2 .before .if1 .left)

@@ -27,8 +27,16 @@ hand-status-requires : tie.Need-hand-status-requires
 hand-status-requires c κs =
     let c9 = c .before .before .before .before .before .before .before .before .before in
     let c10 = c9 .before in
-    let c18 = c10 .before .before .before .before .before .before .before .before in
-    (omega (arith, c18 .pre), omega (arith, c18 .pre, c9 .hand-bytes .ensures .count, length-bytes (c18 .args .at + (8 + c10 .up-8 .result)) (c18 .args .content .now)))
+    let c18 = c10 .before .before .before .before .before .before .before .before in (
+      omega (arith, c18 .pre),
+      omega (
+        arith,
+        c18 .pre,
+        c9 .hand-bytes .ensures .count,
+        length-bytes
+            (c18 .args .at + (8 + c10 .up-8 .result)) (c18 .args .content .now),
+      ),
+    )
 
 same-length : tie.Need-same-length
 same-length c = search needs

@@ -23,8 +23,16 @@ add-hand-end-2 c = search needs
 hand-end-requires : tie.Need-hand-end-requires
 hand-end-requires c κs =
     let c9 = c .before .before .before .before .before .before .before .before .before in
-    let c17 = c9 .before .before .before .before .before .before .before .before in
-    (omega (arith, c17 .pre), omega (arith, c17 .pre, c9 .hand-bytes .ensures .count, length-bytes (c17 .args .at + 8) (c17 .args .name .now)))
+    let c17 = c9 .before .before .before .before .before .before .before .before in (
+      omega (arith, c17 .pre),
+      omega (
+        arith,
+        c17 .pre,
+        c9 .hand-bytes .ensures .count,
+        length-bytes (c17 .args .at + 8)
+            (c17 .args .name .now),
+      ),
+    )
 
 same-length : tie.Need-same-length
 same-length c = search needs

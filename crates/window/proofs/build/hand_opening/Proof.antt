@@ -12,8 +12,11 @@ hand-header-requires c κs = search needs
 hand-name-requires : tie.Need-hand-name-requires
 hand-name-requires c κs =
     let c9 = c .before .before .before .before .before .before .before .before .before in
-    let c17 = c9 .before .before .before .before .before .before .before .before in
-    ((omega (arith, c17 .pre), omega (arith, c17 .pre)), omega (arith, c17 .pre, c9 .hand-header .ensures .count, header-count (c17 .args .at) (c17 .args .d)))
+    let c17 = c9 .before .before .before .before .before .before .before .before in (
+      (omega (arith, c17 .pre), omega (arith, c17 .pre)),
+      omega
+          (arith, c17 .pre, c9 .hand-header .ensures .count, header-count (c17 .args .at) (c17 .args .d)),
+    )
 
 same-length : tie.Need-same-length
 same-length c = search needs

@@ -14,8 +14,11 @@ hand-closing-requires : tie.Need-hand-closing-requires
 hand-closing-requires c κs =
     let c9 = c .before .before .before .before .before .before .before .before .before in
     let c18 = c9 .before .before .before .before .before .before .before .before .before in
-    let few = opening-count (c18 .args .at) (length (c18 .args .content .now)) (c18 .args .name .now) in
-    ((omega (arith, c18 .pre), omega (arith, c18 .pre), omega (arith, c18 .pre)), omega (arith, c18 .pre, c9 .hand-opening .ensures .count, few))
+    let few = opening-count (c18 .args .at) (length (c18 .args .content .now)) (c18 .args .name .now) in (
+      (omega (arith, c18 .pre), omega (arith, c18 .pre), omega (arith, c18 .pre)),
+      omega
+          (arith, c18 .pre, c9 .hand-opening .ensures .count, few),
+    )
 
 same-length : tie.Need-same-length
 same-length c = search needs
@@ -31,7 +34,8 @@ returns c =
     let c6 = c .before .before .before .before .before .before in
     let c16 = c6 .before .before .before .before .before .before .before .before .before .before in
     let c25 = c16 .before .before .before .before .before .before .before .before .before in
-    rw (record-at (c25 .args .at) (c25 .args .name .now) (c25 .args .content .now)) (handed-both (c16 .hand-opening .ensures) (c6 .hand-closing .ensures))
+    rw (record-at (c25 .args .at) (c25 .args .name .now) (c25 .args .content .now))
+    (handed-both (c16 .hand-opening .ensures) (c6 .hand-closing .ensures))
 
 pub hand-record-spec : {M : Type 1} → statement M
 hand-record-spec =

@@ -15,8 +15,16 @@ hand-marker-requires : tie.Need-hand-marker-requires
 hand-marker-requires c κs =
     let c3 = c .before .before .before in
     let c10 = c3 .before .before .before .before .before .before .before in
-    let c17 = c10 .before .before .before .before .before .before .before in
-    (c17 .pre .0 .1 (c3 .if1 .taken), omega (arith, c17 .pre .1, c10 .hand-migrate .ensures .count, migrate-few (old-entry (c17 .args .old))))
+    let c17 = c10 .before .before .before .before .before .before .before in (
+      c17 .pre .0 .1 (c3 .if1 .taken),
+      omega (
+        arith,
+        c17 .pre .1,
+        c10 .hand-migrate .ensures .count,
+        migrate-few
+            (old-entry (c17 .args .old)),
+      ),
+    )
 
 same-length : tie.Need-same-length
 same-length c = search needs

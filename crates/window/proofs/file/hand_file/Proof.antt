@@ -78,7 +78,8 @@ returns-2 c =
     let c24 = c23 .before in
     let c30 = c24 .before .before .before .before .before .before in
     let a = c30 .args in
-    rw (put-split (a .place) (old-entry (a .old)) (a .name .now) (a .content .now) _ _ _ (rw (c24 .size .ensures) at (sym (c23 .after .ensures) ∙ c21 .at .given .1)))
+    rw (put-split (a .place) (old-entry (a .old)) (a .name .now) (a .content .now) _ _ _
+    (rw (c24 .size .ensures) at (sym (c23 .after .ensures) ∙ c21 .at .given .1)))
     (handed-both (c16 .hand-before .ensures) (c6 .hand-new .ensures))
 
 pub hand-file-spec : {M : Type 1} → statement M

@@ -51,7 +51,8 @@ returns-3 c =
     let c9 = c4 .before .before .before .before .before in
     let a = c9 .args in
     let old = c4 .old .given in
-    rw (old .1, ne-eqb (old .0 .1 .0 .byte) 0xFC (c .if1 .left)) (handed-none (slices (a .kinds .now) (a .addresses .now) (a .bytes .now)) (a .w))
+    rw (old .1, ne-eqb (old .0 .1 .0 .byte) 0xFC (c .if1 .left))
+    (handed-none (slices (a .kinds .now) (a .addresses .now) (a .bytes .now)) (a .w))
 
 pub hand-migrate-spec : {M : Type 1} → statement M
 hand-migrate-spec =

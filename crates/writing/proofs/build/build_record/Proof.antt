@@ -23,7 +23,8 @@ write-data-requires c κs =
 
 set-status-requires : tie.Need-set-status-requires
 set-status-requires c κs =
-    let a = c .before .before .before .before .before .before .before .before .before .before .before .before .before .before .before .before .args in
+    let c8 = c .before .before .before .before .before .before .before .before in
+    let a = c8 .before .before .before .before .before .before .before .before .args in
     omega (arith, length-name (a .name .now), length-bytes (8 + up8 (length (a .name .now) + 1)) (a .content .now))
 
 same-length : tie.Need-same-length
