@@ -84,7 +84,7 @@ fn histories(tester: &mut Tester<Library>, r: &mut Rng, calls: u64) -> Result<u6
 }
 
 fn main() {
-    let (calls, seed, exhaust) = (argument(1, 80_000), argument(2, 1), argument(3, OF_1000));
+    let (calls, seed, exhaust) = (argument(1, 200_000), argument(2, 1), argument(3, OF_1000));
     let store = Library::new(library::functions());
     println!("library: {}", library::path().display());
     let mut tester = Tester { store: &store, exhaust, longest: LONGEST, one_of: 1, seen: Seen::default() };
