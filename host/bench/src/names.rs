@@ -11,7 +11,7 @@ const FILES: usize = 2048;
 /// The image's length, how full it is, and how many sets of names.
 const SHAPES: [(usize, Fill, u64); 3] =
     [(64 << 10, Fill::Empty, 101), (1 << 20, Fill::Full, 101), (16 << 20, Fill::Full, 31)];
-const EACH: Effort = Effort { runs: 5, seconds: 0.002, cold: false };
+const EACH: Effort = Effort { runs: 15, seconds: 0.002, cold: false };
 /// The sets that the other rows have come first; these are others.
 const FIRST: u64 = 100;
 
