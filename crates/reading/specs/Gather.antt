@@ -88,11 +88,10 @@ module _ {image : List ℕ} {start : Cursor} {wanted : ℕ} where
               (rw (l, o) (sought-more e (w .passes .whole) (g .sight) (w .state .sought)));
         }
 
-    -- a file's name tells of the names so far
-    pub fine-file : {ok fine : Bool} → is-file x ≡ true → fine ≡ (t .fine && ok) → ok ≡ name-ok (name-of x)
-        → fine ≡ (t .fine && name-fine x)
+    -- a good name leaves it at what the names before tell
+    fine-file : is-file x ≡ true → name-ok (name-of x) ≡ true → t .fine ≡ (t .fine && name-fine x)
     unfolding name-fine
-    fine-file y a o = rw (name-fine, y, ← o) a
+    fine-file y o = rw (name-fine, y, o) (sym (and-true (t .fine)))
 
     pub fine-other : is-file x ≡ false → t .fine ≡ (t .fine && name-fine x)
     unfolding name-fine
@@ -122,11 +121,10 @@ module _ {image : List ℕ} {start : Cursor} {wanted : ℕ} where
       same file {fine} q f g =
           q ∙ noted-plain-is t e file fine (c .pending) (w .passes .whole) two plain f g (w .passes .onward .pending)
 
-      pub gathering-file : {ok fine : Bool} {m : Repeats} {after : List ℕ} → is-file x ≡ true → has-hash wanted x ≡ false
-          → u ≡ noted-plain t e true fine (c .pending) → fine ≡ (t .fine && ok) → ok ≡ name-ok (name-of x)
-          → Carried (front-and image start (t .records) e) m after
+      pub gathering-file : {m : Repeats} {after : List ℕ} → is-file x ≡ true → name-ok (name-of x) ≡ true → has-hash wanted x ≡ false
+          → u ≡ noted-plain t e true (t .fine) (c .pending) → Carried (front-and image start (t .records) e) m after
           → Gathering image start wanted (record { cursor = c; tally = u; repeats = m; sight = g .sight }) after × (2 ≤ u .records)
-      gathering-file y k q a o h = (gathering-next (same true q (sym y) (fine-file y a o)) h (rw (y, k)), more true q)
+      gathering-file y o k q h = (gathering-next (same true q (sym y) (fine-file y o)) h (rw (y, k)), more true q)
 
       pub gathering-dead : is-file x ≡ false → u ≡ noted-plain t e false (t .fine) (c .pending)
           → Gathering image start wanted (record { cursor = c; tally = u; repeats = g .repeats; sight = g .sight }) table

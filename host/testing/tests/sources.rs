@@ -87,7 +87,8 @@ fn two_functions_store_into_an_image() {
 
 #[test]
 fn the_source_is_taken_apart() {
-    let text = "// fn no(\npub fn a(\n    x: &mut [u8],\n) -> u8\n    requires { p }\n{\n    x[0] = 1;\n}\n\nfn b<'a>(x: &'a [u8]) -> u8 {\n    x[0] == 1\n}\n";
+    let text = "// fn no(\npub fn a(\n    x: &mut [u8],\n) -> u8\n    requires { p }\n{\n    x[0] = 1;\n}\n\n\
+                fn b<'a>(x: &'a [u8]) -> u8 {\n    x[0] == 1\n}\n";
     let found = functions(text);
     assert_eq!(found.iter().map(|f| (f.name.as_str(), f.is_public)).collect::<Vec<_>>(), [("a", true), ("b", false)]);
     assert!(found[0].head.contains("requires") && found[0].body.lines().any(stores));

@@ -18,7 +18,8 @@ use Rattle.spec.specs.declared.Extent.{Extent}
 use Rattle.spec.specs.declared.Space.{Space}
 use Rattle.spec.specs.declared.NameFault.{NameFault}
 use Rattle.spec.specs.declared.Refusal.{Refusal}
-use Rattle.spec.specs.History.{Request, put, remove, sweep, mount, get, list, Call, outcome, replay, steps-done, steps-of, File, Ledger, ledger}
+use Rattle.spec.specs.History.{Request, put, remove, sweep, mount, get, list, Call, outcome, replay}
+use Rattle.spec.specs.History.{steps-done, steps-of, File, Ledger, ledger}
 use Rattle.spec.specs.Step.{Step, program, erase, apply}
 use Rattle.spec.specs.declared.Place.{Place}
 use Rattle.spec.specs.Record.{Rec, Entry, size-of}

@@ -1,7 +1,6 @@
 -- gather_file: the name is noted by its hash, the record as one behind the second; what was seen stays.
-use mathlib.Core.Path.{refl, sym, ap, _∙_}
+use mathlib.Core.Path.{refl, ap, _∙_}
 use Rattle.chain.specs.Tally.{addable-size}
-use Rattle.chain.specs.TallyLaws.{and-true}
 use Rattle.filter.specs.Table.{signature-by}
 use Rattle.reading.specs.Gather.{gathering-file}
 use borrow.Author.Needs.{needs}
@@ -30,11 +29,10 @@ noted-plain-requires c κs =
 
 returns : tie.Need-returns
 returns c =
-    let c8 = c .before .before .before .before .before .before .before .before in
-    let p = c8 .pre in
+    let p = c .before .before .before .before .before .before .before .before .pre in
     let g =
-    gathering-file (p .1) (p .2 .two) (p .2 .unmarked) (p .2 .file) (p .5) (c .noted-plain .ensures)
-    (sym (and-true (c8 .args .g .tally .fine))) (sym (p .2 .fine)) (c .before .repeats-signed .ensures) in
+    gathering-file (p .1) (p .2 .two) (p .2 .unmarked) (p .2 .file) (p .2 .fine) (p .5) (c .noted-plain .ensures)
+    (c .before .repeats-signed .ensures) in
     (g .0, refl, g .1)
 
 pub gather-file-spec : {M : Type 1} → statement M
