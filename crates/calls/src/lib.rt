@@ -21,7 +21,7 @@ use spec::{Extent, NO_FAULT, NameFault, Refusal, Report, Space};
 use writing::format::format_image;
 
 // What a call that writes answers: all its steps are done; it was cut, after so many; or it is refused.
-#[derive(Drop)]
+#[derive(Clone, Copy)]
 pub enum Written {
     Done { steps: usize },
     Cut { steps: usize },
@@ -29,7 +29,7 @@ pub enum Written {
 }
 
 // What put answers: done, with what the bytes of the image that it leaves are good for; cut; or refused.
-#[derive(Drop)]
+#[derive(Clone, Copy)]
 pub enum Stored {
     Done { space: Space, steps: usize },
     Cut { steps: usize },
@@ -37,7 +37,7 @@ pub enum Stored {
 }
 
 // What mount answers: done, with what it reports of the image it leaves; cut; or refused.
-#[derive(Drop)]
+#[derive(Clone, Copy)]
 pub enum Mounted {
     Done {
         report: Report,
@@ -51,7 +51,7 @@ pub enum Mounted {
 }
 
 // What sweep answers: done, with the number of its moves, and as put; cut, after so many finished moves; or refused.
-#[derive(Drop)]
+#[derive(Clone, Copy)]
 pub enum Swept {
     Done {
         moves: usize,
@@ -66,7 +66,7 @@ pub enum Swept {
 }
 
 // Where a file's bytes stand. The answer is 0 for a file that is there; beside 22 stands what is wrong with the name.
-#[derive(Drop)]
+#[derive(Clone, Copy)]
 pub struct Located {
     pub answer: u32,
     pub name: NameFault,
@@ -74,7 +74,7 @@ pub struct Located {
 }
 
 // A file's length, by headers and names alone. The answer is 0 for a file that is there; name is what is wrong with the name.
-#[derive(Drop)]
+#[derive(Clone, Copy)]
 pub struct FileLength {
     pub answer: u32,
     pub name: NameFault,
@@ -82,7 +82,7 @@ pub struct FileLength {
 }
 
 // A file in the list: where its name stands, and its length. The answer is 0 for a file that is there.
-#[derive(Drop)]
+#[derive(Clone, Copy)]
 pub struct Listed {
     pub answer: u32,
     pub name: Extent,

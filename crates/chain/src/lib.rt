@@ -11,21 +11,21 @@ pub mod skip;
 pub mod walk;
 
 // The head's address, or the refusal's number.
-#[derive(Drop)]
+#[derive(Clone, Copy)]
 pub enum Headed {
     At(usize),
     Refused(u32),
 }
 
 // A part of the image, from one address up to another.
-#[derive(Drop)]
+#[derive(Clone, Copy)]
 pub struct Stretch {
     pub from: usize,
     pub to: usize,
 }
 
 // What the search for the head finds: the head, and a run of FF that it passed over.
-#[derive(Drop)]
+#[derive(Clone, Copy)]
 pub struct Sighting {
     pub head: Headed,
     pub blank: Stretch,
@@ -33,7 +33,7 @@ pub struct Sighting {
 
 // A place in the chain: the stretch [at, end) that is left, how many bytes from 0 on the chain may still go on to,
 // whether it has turned, and whether an unfinished record stands before.
-#[derive(Drop)]
+#[derive(Clone, Copy)]
 pub struct Cursor {
     pub at: usize,
     pub end: usize,
@@ -43,7 +43,7 @@ pub struct Cursor {
 }
 
 // Where a record stands, with its n name bytes and d data bytes.
-#[derive(Drop)]
+#[derive(Clone, Copy)]
 pub struct Spot {
     pub at: usize,
     pub n: usize,
@@ -51,7 +51,7 @@ pub struct Spot {
 }
 
 // What stands at a cursor: a record, with the cursor past it; or how the chain ends, with the address and whether it had turned.
-#[derive(Drop)]
+#[derive(Clone, Copy)]
 pub enum Item {
     Record { spot: Spot, next: Cursor },
     End { at: usize, turned: bool },
@@ -60,42 +60,42 @@ pub enum Item {
 }
 
 // A plain record at a cursor, with the cursor past it; or anything else.
-#[derive(Drop)]
+#[derive(Clone, Copy)]
 pub enum Nearby {
     Record { spot: Spot, next: Cursor },
     Other,
 }
 
 // The sizes of the records that are FC or F8 with a name, summed; and of all others.
-#[derive(Drop)]
+#[derive(Clone, Copy)]
 pub struct Sums {
     pub files: usize,
     pub others: usize,
 }
 
 // What is looked for among the files.
-#[derive(Drop)]
+#[derive(Clone, Copy)]
 pub enum Found {
     At(Spot),
     Nothing,
 }
 
 // Where a search goes on behind records that were passed over, and how many more it may pass.
-#[derive(Drop)]
+#[derive(Clone, Copy)]
 pub struct Skipped {
     pub cursor: Cursor,
     pub left: usize,
 }
 
 // Whether an FC record and whether an F8 record of some name stand in a part of the chain.
-#[derive(Drop)]
+#[derive(Clone, Copy)]
 pub struct Earlier {
     pub committed: bool,
     pub migrating: bool,
 }
 
 // Whether two FC or two F8 records have one name, and whether an F8 and an FC have one.
-#[derive(Drop)]
+#[derive(Clone, Copy)]
 pub struct Repeats {
     pub doubled: bool,
     pub superseded: bool,
@@ -104,7 +104,7 @@ pub struct Repeats {
 // What one pass over the chain tells: how many records there are; how many of them are FC or F8 with a name; the sizes of these and of the
 // others; the first, the second and the last of all; whether every FC or F8 record with a name has a good one; whether a START or CLEAN
 // stands behind the second record; whether the last record is unfinished.
-#[derive(Drop)]
+#[derive(Clone, Copy)]
 pub struct Tally {
     pub records: usize,
     pub files: usize,
@@ -118,14 +118,14 @@ pub struct Tally {
 }
 
 // The tally of a whole chain, and how the chain ends.
-#[derive(Drop)]
+#[derive(Clone, Copy)]
 pub struct Pass {
     pub tally: Tally,
     pub end: Item,
 }
 
 // The tally of the records before a cursor.
-#[derive(Drop)]
+#[derive(Clone, Copy)]
 pub struct Going {
     pub cursor: Cursor,
     pub tally: Tally,

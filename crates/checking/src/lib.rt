@@ -11,7 +11,7 @@ mod verdict;
 use spec::Verdict;
 
 // The record at which the chain breaks off, if its header and its name are good: where it stands, and how long its name is.
-#[derive(Drop)]
+#[derive(Clone, Copy)]
 pub struct CutOff {
     pub there: bool,
     pub at: usize,
@@ -19,14 +19,14 @@ pub struct CutOff {
 }
 
 // What the check answers: the verdict, or the refusal's number.
-#[derive(Drop)]
+#[derive(Clone, Copy)]
 pub enum Checked {
     Done(Verdict),
     Refused(u32),
 }
 
 // The answer as numbers: 0 or 22; 0 settled, 1 recovery, 2 broken; the repair's number or the rule's; the address.
-#[derive(Drop)]
+#[derive(Clone, Copy)]
 pub struct Told {
     pub answer: u32,
     pub verdict: u32,

@@ -5,7 +5,7 @@ pub mod marks;
 pub mod table;
 
 // What a name sets in the table of bits: the same bits of three words.
-#[derive(Drop)]
+#[derive(Clone, Copy)]
 pub struct Signature {
     pub bits: u64,
     pub first: usize,
@@ -14,14 +14,14 @@ pub struct Signature {
 }
 
 // Whether a name is a good one, and its hash.
-#[derive(Drop)]
+#[derive(Clone, Copy)]
 pub struct NameMarks {
     pub fine: bool,
     pub hash: u64,
 }
 
 // What was seen of a name's bytes so far: their hash, and whether all of them can be read.
-#[derive(Drop)]
+#[derive(Clone, Copy)]
 pub struct Looked {
     pub hash: u64,
     pub readable: bool,

@@ -12,7 +12,7 @@ ghost use Rattle.flash.specs.Meters.{CanCount, AskedMost};
 use spec::SECTOR;
 
 // The steps that a call may do, and those that it has asked for so far. A step past the allowance is counted and not done.
-#[derive(Drop)]
+#[derive(Clone, Copy)]
 pub struct Meter {
     pub allowance: usize,
     pub asked: usize,
@@ -161,7 +161,7 @@ fn eight_words(part: &[u8], i: usize) -> u64
 }
 
 // How far a part is FF: the place of its first byte that is not FF, or its length; and the turns of the loops that looked for it.
-#[derive(Drop)]
+#[derive(Clone, Copy)]
 pub struct BlankRun {
     pub place: usize,
     pub turns: usize,

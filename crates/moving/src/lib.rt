@@ -18,7 +18,7 @@ use flash::{Meter, clear_by, erase_sectors, program};
 use spec::{CLEAN, SECTOR, START, floor};
 
 // The head that a move or a repair leaves, and the meter.
-#[derive(Drop)]
+#[derive(Clone, Copy)]
 pub struct NewHead {
     pub head: usize,
     pub meter: Meter,

@@ -14,14 +14,14 @@ use spec::Place;
 use window::Window;
 
 // The first copy that a planned sweep makes, if it has made one.
-#[derive(Drop)]
+#[derive(Clone, Copy)]
 pub enum Copied {
     None,
     At(usize),
 }
 
 // Where a planned sweep stands: the cursor at X, the place that is read there, and the first copy.
-#[derive(Drop)]
+#[derive(Clone, Copy)]
 pub struct Walk {
     pub cursor: Cursor,
     pub place: Place,
@@ -29,14 +29,14 @@ pub struct Walk {
 }
 
 // A move: there is none, or it was handed out, and the sweep goes on there.
-#[derive(Drop)]
+#[derive(Clone, Copy)]
 pub enum Moved {
     Stop,
     On(Walk, Window),
 }
 
 // The moves of a planned sweep, and its window.
-#[derive(Drop)]
+#[derive(Clone, Copy)]
 pub struct Moves {
     pub moves: usize,
     pub window: Window,

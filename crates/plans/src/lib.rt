@@ -8,28 +8,28 @@ mod planned;
 use calls::{Mounted, Stored, Swept, Written};
 
 // What a planned put answers: as the call itself does with enough allowance; and how many steps it handed out.
-#[derive(Drop)]
+#[derive(Clone, Copy)]
 pub struct PlannedPut {
     pub answer: Stored,
     pub handed: usize,
 }
 
 // What a planned remove answers: as the call itself does with enough allowance; and how many steps it handed out.
-#[derive(Drop)]
+#[derive(Clone, Copy)]
 pub struct PlannedWrite {
     pub answer: Written,
     pub handed: usize,
 }
 
 // What a planned mount answers: as the call itself does with enough allowance; and how many steps it handed out.
-#[derive(Drop)]
+#[derive(Clone, Copy)]
 pub struct PlannedMount {
     pub answer: Mounted,
     pub handed: usize,
 }
 
 // What a planned sweep answers, and how many steps it handed out.
-#[derive(Drop)]
+#[derive(Clone, Copy)]
 pub struct PlannedSweep {
     pub answer: Swept,
     pub handed: usize,

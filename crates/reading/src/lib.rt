@@ -10,14 +10,14 @@ use spec::{Ending, Place, Refusal};
 
 // Where a file was found; seen is 0 where none was. A loop carries this and not Found, for the compiler copies an enum, and the bytes
 // beside a bool, at each turn.
-#[derive(Drop)]
+#[derive(Clone, Copy)]
 pub struct Sight {
     pub seen: usize,
     pub spot: Spot,
 }
 
 // What is gathered at a cursor: the tally of the records before it, what their names tell, and the first file of the hash that is wanted.
-#[derive(Drop)]
+#[derive(Clone, Copy)]
 pub struct Gathered {
     pub cursor: Cursor,
     pub tally: Tally,
@@ -26,7 +26,7 @@ pub struct Gathered {
 }
 
 // The same of a whole chain, and how the chain ends.
-#[derive(Drop)]
+#[derive(Clone, Copy)]
 pub struct FullPass {
     pub pass: Pass,
     pub repeats: Repeats,
@@ -34,7 +34,7 @@ pub struct FullPass {
 }
 
 // All that the calls go by: head, tail and turn; how the chain ends; the tally.
-#[derive(Drop)]
+#[derive(Clone, Copy)]
 pub struct Survey {
     pub place: Place,
     pub ending: Ending,
@@ -42,7 +42,7 @@ pub struct Survey {
 }
 
 // That, and what the names tell: what a judgement goes by.
-#[derive(Drop)]
+#[derive(Clone, Copy)]
 pub struct Overview {
     pub survey: Survey,
     pub repeats: Repeats,
@@ -50,7 +50,7 @@ pub struct Overview {
 }
 
 // What a legal image reads as, whether mount has no step to do, and the first file of the hash that is wanted.
-#[derive(Drop)]
+#[derive(Clone, Copy)]
 pub struct Judged {
     pub survey: Survey,
     pub settled: bool,
@@ -58,21 +58,21 @@ pub struct Judged {
 }
 
 // That, or the refusal.
-#[derive(Drop)]
+#[derive(Clone, Copy)]
 pub enum Judgement {
     Good(Judged),
     Refused(Refusal),
 }
 
 // What an image reads as, or the refusal.
-#[derive(Drop)]
+#[derive(Clone, Copy)]
 pub enum Read {
     Good(Survey),
     Refused(Refusal),
 }
 
 // What an image reads as, and the file of the name that was asked for.
-#[derive(Drop)]
+#[derive(Clone, Copy)]
 pub struct NamedRead {
     pub read: Read,
     pub file: Found,

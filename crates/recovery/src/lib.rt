@@ -56,7 +56,7 @@ fn repair(image: &mut [u8], head: usize, m: Meter) -> NewHead
 }
 
 // What mount leaves: head, tail and the number of live files, where the allowance was enough; and the meter.
-#[derive(Drop)]
+#[derive(Clone, Copy)]
 pub struct Mended {
     pub head: usize,
     pub tail: usize,

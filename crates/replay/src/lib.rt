@@ -13,7 +13,7 @@ use door::good_length;
 use entry::carry_entry;
 
 // What a replay answers: 0 or 22; where it stopped, or the count of all entries; and which of the three stopped it, or 0.
-#[derive(Drop)]
+#[derive(Clone, Copy)]
 pub struct Replayed {
     pub answer: u32,
     pub position: usize,
@@ -22,7 +22,7 @@ pub struct Replayed {
 
 // What the search for the first image that mount would refuse answers: 0 or 22; whether there is such a count of entries; the count, or
 // that of all before the stop.
-#[derive(Drop)]
+#[derive(Clone, Copy)]
 pub struct Refusing {
     pub answer: u32,
     pub there: bool,

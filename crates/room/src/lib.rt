@@ -23,14 +23,14 @@ use record::size;
 use spec::{Place, Placed, floor};
 
 // Where the last size was placed, and the largest size so far.
-#[derive(Drop)]
+#[derive(Clone, Copy)]
 struct Stowed {
     placed: Placed,
     largest: usize,
 }
 
 // That, of the records before a cursor.
-#[derive(Drop)]
+#[derive(Clone, Copy)]
 struct Farther {
     cursor: Cursor,
     stowed: Stowed,

@@ -6,21 +6,21 @@ pub mod stride;
 use planner::Walk;
 
 // The live bytes of what was read, and where its wrap marker stands; at the image's end there is none.
-#[derive(Drop)]
+#[derive(Clone, Copy)]
 pub struct Count {
     pub live: usize,
     pub wall: usize,
 }
 
 // Where a sweep stands of which only the place is asked, and where its image then has a wrap marker: there, or nowhere if that is its end.
-#[derive(Drop)]
+#[derive(Clone, Copy)]
 pub struct Course {
     pub walk: Walk,
     pub wall: usize,
 }
 
 // A move that is only walked: there is none, or the sweep goes on there.
-#[derive(Drop)]
+#[derive(Clone, Copy)]
 pub enum Strode {
     Stop,
     On(Course),

@@ -7,7 +7,7 @@ ghost use Rattle.spec.specs.Place.{fits_at_tail};
 ghost use Rattle.spec.specs.Placed.{placed, with_tail};
 
 // What the first four bytes say of what stands there.
-#[derive(Drop)]
+#[derive(Clone, Copy)]
 pub enum Kind {
     Record,
     Reserved,
@@ -20,7 +20,7 @@ pub enum Kind {
 
 // What stands at the front of a part: a record with n name bytes and d data bytes, a wrap marker, a torn one, eight FF bytes,
 // nothing at all, or what breaks a rule.
-#[derive(Drop)]
+#[derive(Clone, Copy)]
 pub enum Next {
     Record { n: usize, d: usize },
     Wrap,
@@ -31,7 +31,7 @@ pub enum Next {
 }
 
 // How a chain ends: at its tail, with a torn wrap at an address, or by a broken rule.
-#[derive(Drop)]
+#[derive(Clone, Copy)]
 pub enum Ending {
     Tail,
     TornWrap { at: usize },
@@ -39,7 +39,7 @@ pub enum Ending {
 }
 
 // Where the next record may go: head, tail, whether the chain has turned, the image's length.
-#[derive(Drop)]
+#[derive(Clone, Copy)]
 pub struct Place {
     pub head: usize,
     pub tail: usize,
@@ -48,7 +48,7 @@ pub struct Place {
 }
 
 // A size placed: its address, whether a wrap marker goes to the tail before it, and the place after it. Or it doesn't fit.
-#[derive(Drop)]
+#[derive(Clone, Copy)]
 pub enum Placed {
     At {
         at: usize,
@@ -118,7 +118,7 @@ impl Place {
 }
 
 // What the name check says: 0, or why a name is refused (1 empty, 2 too long, 3 a bad byte, 4 a final slash), and the bad byte's place.
-#[derive(Drop)]
+#[derive(Clone, Copy)]
 pub struct NameFault {
     pub reason: u32,
     pub place: usize,
@@ -131,14 +131,14 @@ pub const NO_FAULT: NameFault = NameFault {
 };
 
 // What a refusal gives back: document 01's number; and what is wrong with the name, where that is the reason.
-#[derive(Drop)]
+#[derive(Clone, Copy)]
 pub struct Refusal {
     pub number: u32,
     pub name: NameFault,
 }
 
 // What mount reports of the image it leaves: head, tail, the number of live files.
-#[derive(Drop)]
+#[derive(Clone, Copy)]
 pub struct Report {
     pub head: usize,
     pub tail: usize,
@@ -146,7 +146,7 @@ pub struct Report {
 }
 
 // What the bytes of an image are good for, as mount, put and sweep tell it of the image that they leave.
-#[derive(Drop)]
+#[derive(Clone, Copy)]
 pub struct Space {
     pub live: usize,
     pub dead: usize,
@@ -157,7 +157,7 @@ pub struct Space {
 // The rules of the reading, in the order in which they are tested at one address: no head is found; an unfinished record or marker is not
 // the last thing, or is not as it may be; magic, status or reserved byte; the name; the record's end; a CLEAN, START or marker out of
 // place; a byte of the free run.
-#[derive(Drop)]
+#[derive(Clone, Copy)]
 pub enum Rule {
     Head,
     Unfinished,
@@ -169,14 +169,14 @@ pub enum Rule {
 }
 
 // A broken rule with its address, or none.
-#[derive(Drop)]
+#[derive(Clone, Copy)]
 pub enum Fault {
     Nothing,
     At { rule: Rule, at: usize },
 }
 
 // What the check of an image says: mount has nothing to do, or what it does begins with the repair of this number, or it refuses.
-#[derive(Drop)]
+#[derive(Clone, Copy)]
 pub enum Verdict {
     Settled,
     Recovery { number: u32 },
@@ -184,14 +184,14 @@ pub enum Verdict {
 }
 
 // A stretch of the image.
-#[derive(Drop)]
+#[derive(Clone, Copy)]
 pub struct Extent {
     pub offset: usize,
     pub length: usize,
 }
 
 // A record's status byte.
-#[derive(Drop)]
+#[derive(Clone, Copy)]
 pub struct Status {
     pub byte: u8,
 }

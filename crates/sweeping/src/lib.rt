@@ -7,7 +7,7 @@ use spec::Place;
 
 // What the next move does with the head's record: there is no further move, for want of room or not; the record is
 // dead and stays behind; or it is copied, with its n name bytes and d data bytes.
-#[derive(Drop)]
+#[derive(Clone, Copy)]
 pub enum Plan {
     Stop { full: bool },
     Leave,
@@ -15,7 +15,7 @@ pub enum Plan {
 }
 
 // How a move ended: there was none, it was cut, or it was finished and left this place.
-#[derive(Drop)]
+#[derive(Clone, Copy)]
 pub enum MoveEnd {
     Stuck,
     Cut { meter: Meter },
@@ -23,7 +23,7 @@ pub enum MoveEnd {
 }
 
 // The finished moves of a sweep, and its meter.
-#[derive(Drop)]
+#[derive(Clone, Copy)]
 pub struct Swept {
     pub moves: usize,
     pub meter: Meter,

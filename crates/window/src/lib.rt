@@ -11,7 +11,7 @@ ghost use Rattle.window.specs.Handed.{slices, shown, hand_one, Handed, Counts};
 use spec::SECTOR;
 
 // The first step that is wanted, and the steps that were passed so far, handed out or not.
-#[derive(Drop)]
+#[derive(Clone, Copy)]
 pub struct Window {
     pub first: usize,
     pub passed: usize,

@@ -16,7 +16,7 @@ use record::size;
 use spec::{Place, Placed, Status};
 
 // The file that a put replaces: its address and its status, or none.
-#[derive(Drop)]
+#[derive(Clone, Copy)]
 pub enum Old {
     None,
     At { at: usize, status: Status },
