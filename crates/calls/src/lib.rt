@@ -1,5 +1,7 @@
 // The public calls on an image of NOR flash: format, mount, put, get, list, remove and sweep. Each asks nothing of its caller, and equates
 // every outcome with the one that document 01 defines.
+#![tactic(auto)]
+
 mod carry;
 pub mod get;
 pub mod length;

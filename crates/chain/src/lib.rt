@@ -1,5 +1,7 @@
 // The chain of an image: where its head is, the records from there on, the files among them, and whether their names repeat; the free run.
 // Everything here only looks. Nothing passes over data bytes but the search for the head and the check of the free run.
+#![tactic(auto)]
+
 pub mod files;
 pub mod free;
 pub mod head;

@@ -1,5 +1,7 @@
 // K13's program: reads an image of up to 64 KiB from standard input and prints one line, the verdict on it, or 22 for a bad or greater
 // length. The stored input was made by hand, and its line worked out from documents 01 and 02 (docs/requests/K13.md says how).
+#![tactic(auto)]
+
 use checking::Checked;
 use checking::check::check;
 use spec::{Rule, Verdict};

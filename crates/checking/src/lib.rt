@@ -1,5 +1,7 @@
 // The check of an image (document 02, K13): the first broken rule with its address, or settled, or the repair that comes first.
 // Everything here only looks. A good image is read once; only one that is refused is gone over again for the rule that it breaks.
+#![tactic(auto)]
+
 pub mod answer;
 mod called;
 pub mod check;

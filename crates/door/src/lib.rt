@@ -1,4 +1,6 @@
 // The door of every call: 22, 5, 6 and 16 in the table's order, or what was read.
+#![tactic(auto)]
+
 pub mod replaced;
 
 ghost use Rattle.std.specs.Prelude.{◌≡◌};

@@ -1,5 +1,7 @@
 // A Bloom filter over names, and what is read of a name at once: whether it is a good one, its hash, its bits in the table.
 // A name is read by words of eight bytes. No answer of the store depends on how well the hash spreads.
+#![tactic(auto)]
+
 pub mod hash;
 pub mod marks;
 pub mod table;

@@ -1,5 +1,7 @@
 // The flash: one byte programmed, one sector erased, each counted by a meter; and the search for a byte that is not FF.
 // program and erase are the only two functions that write an image.
+#![tactic(auto)]
+
 ghost use Rattle.std.specs.Prelude.{◌≡◌, [], ◌∷◌, map, ◌+◌, ◌<◌, ◌≤◌, length, eqb};
 ghost use Rattle.spec.specs.Step.{Step, bytes_at};
 ghost use Rattle.spec.specs.Geometry.{sectors};

@@ -1,5 +1,7 @@
 // A file's length from the headers and names of the chain alone (request K8). Nothing here reads a data byte: the bytes that are read are
 // those of headers, of names with their 00, and of the eight that end the walk.
+#![tactic(auto)]
+
 mod first;
 mod front;
 pub mod measure;

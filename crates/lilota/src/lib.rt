@@ -1,4 +1,6 @@
 // The C interface: each function of include/lilota.h over the call of its name.
+#![tactic(auto)]
+
 mod c;
 mod c_check;
 mod c_length;

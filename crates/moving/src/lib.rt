@@ -1,5 +1,7 @@
 // Move of head X, next record Y: its six steps (a) to (f), a function for each.
 // A sweep does them all; mount does (c) to (f) of a move that was cut.
+#![tactic(auto)]
+
 pub mod clean;
 pub mod copy;
 

@@ -1,5 +1,7 @@
 // The step list of each call handed out and not done: an emitter for each, over the image as it was before the first step.
 // Nothing here writes an image.
+#![tactic(auto)]
+
 pub mod close;
 mod finish;
 mod free;

@@ -1,4 +1,6 @@
 // The step planner (02, K1): put, remove, sweep and mount read the image, change nothing, and hand out their steps into lent slices.
+#![tactic(auto)]
+
 pub mod plan_mount;
 pub mod plan_put;
 pub mod plan_remove;

@@ -1,4 +1,6 @@
 // Reading an image: what the chain tells as a whole, whether it breaks a rule, whether it is settled. Everything here only looks.
+#![tactic(auto)]
+
 mod gather;
 pub mod image;
 mod marks;

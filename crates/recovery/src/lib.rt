@@ -1,5 +1,7 @@
 // What mount repairs, in its order: the free run, an unfinished move, the last thing, superseded files.
 // Each repair reads the image that those before it left, from the head they left.
+#![tactic(auto)]
+
 mod finish;
 pub mod free;
 mod last;

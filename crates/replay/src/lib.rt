@@ -1,5 +1,7 @@
 // A bus trace (document 02, K7), three slices of numbers as the planner hands them out, replayed over an image.
 // Every store into the image is one of flash::program and flash::erase.
+#![tactic(auto)]
+
 mod entry;
 pub mod watch;
 

@@ -1,5 +1,7 @@
 // Put's room rule, in one walk over the chain: the new record, the files of the head's sector and two of the largest, placed one after
 // another behind the chain.
+#![tactic(auto)]
+
 ghost use Rattle.std.specs.Prelude.{◌≡◌, [], ◌∷◌, ◌≤◌, ◌<◌, ◌^◌, max, length};
 ghost use Rattle.spec.specs.Place.{address, in_head_sector, joining};
 ghost use Rattle.spec.specs.Placed.{placed};

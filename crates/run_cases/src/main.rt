@@ -1,6 +1,8 @@
 // The cases of document 01 that it does not mark with *, and names that K5 of document 02 allows or refuses, run on the proved library and
 // printed as tables.
 // The stored output, which the run is held to, was worked out by hand from document 01 and its changes in document 02.
+#![tactic(auto)]
+
 use calls::format;
 use calls::get::{get, get_place};
 use calls::mount::mount;

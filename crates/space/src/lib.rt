@@ -1,5 +1,7 @@
 // What the bytes of the image that a call leaves are good for (02, K3): live, dead, free and lost, counted from the first reading.
 // Nothing here writes an image.
+#![tactic(auto)]
+
 pub mod counting;
 pub mod stride;
 

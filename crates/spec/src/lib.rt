@@ -1,5 +1,7 @@
 // Document 01 as definitions (specs/), and the types and named bytes that all layers share.
 // Nothing here reads or writes an image; the layers above are proved against what stands here.
+#![tactic(auto)]
+
 ghost use Rattle.std.specs.Prelude.{◌≡◌, ◌≤◌, eqb};
 ghost use Rattle.spec.specs.Geometry.{floor};
 ghost use Rattle.spec.specs.Reading.{limit};

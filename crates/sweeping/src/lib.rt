@@ -1,4 +1,6 @@
 // The sweep: up to five moves, each reading the image that the one before it left, from the head it left.
+#![tactic(auto)]
+
 pub mod one_move;
 pub mod sweep;
 

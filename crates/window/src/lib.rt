@@ -1,5 +1,7 @@
 // Steps handed out and not done: one step, runs of bytes and of sectors, each counted by a window.
 // Nothing here writes an image; what is written are the three lent slices.
+#![tactic(auto)]
+
 pub mod build;
 pub mod file;
 

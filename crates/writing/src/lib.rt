@@ -1,5 +1,7 @@
 // The record at its place: the steps that put it there in place of an old one.
 // Every byte goes through flash::program, and every sector through flash::erase.
+#![tactic(auto)]
+
 pub mod build;
 pub mod format;
 

@@ -1,0 +1,5 @@
+-- earlier_or: once it was found the others don't matter.
+use Rattle.chain.proofs.names.earlier_or.Goals as goal
+
+pub returns : goal.returns
+returns c = rw c.if-found.false c.named_as.ensures

@@ -1,0 +1,5 @@
+-- earlier_with: each status by itself.
+use Rattle.chain.proofs.names.earlier_with.Goals as goal
+
+pub returns : goal.returns
+returns c = rw (c.earlier_or-committed.ensures, c.earlier_or-migrating.ensures)

@@ -1,0 +1,6 @@
+-- noted_plain: count and sums are the definition's, the other fields stand.
+use Rattle.chain.proofs.scan.noted_plain.Goals as goal
+
+pub returns : goal.returns
+returns c =
+    rw (c.count_with-files.ensures, c.sums_with-sums.ensures, c.size.ensures)

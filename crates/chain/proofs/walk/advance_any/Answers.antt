@@ -1,0 +1,25 @@
+-- advance_any: what is looked at stands at the cursor or, where the chain turns, at 0; a cursor that lies in the image still does after
+-- the turn.
+use Rattle.chain.specs.CursorLaws.{sound_turn, advanced_on, advanced_here}
+use Rattle.chain.proofs.walk.advance_any.Goals as goal
+
+pub look-y-requires : goal.look-y-requires
+look-y-requires c = rw c.turn-t.ensures (sound_turn _ _ c.requires)
+
+pub settle-requires : goal.settle-requires
+settle-requires c = (
+  rw c.turn-t.ensures
+      (sound_turn _ _ c.requires),
+  c.look-y.ensures.1,
+)
+
+pub returns-then-goes_on : goal.returns-then-goes_on
+returns-then-goes_on c =
+    advanced_on _ _ c.look-x.result c.goes_on.result c.requires c.look-x.ensures.0 c.goes_on.ensures c.turn-t.result
+    c.look-y.result c.settle.result c.if-goes_on.true c.turn-t.ensures
+    c.look-y.ensures.0 c.settle.ensures c.look-y.ensures.1
+
+pub returns : goal.returns
+returns c =
+    advanced_here _ _ c.look-x.result c.goes_on.result c.requires c.look-x.ensures.0 c.goes_on.ensures c.settle-2.result
+    c.if-goes_on.false c.settle-2.ensures c.look-x.ensures.1

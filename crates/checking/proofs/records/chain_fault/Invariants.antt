@@ -1,0 +1,10 @@
+use Rattle.chain.specs.Cursor.{left}
+use Rattle.checking.specs.Records.{all_of}
+use Rattle.checking.specs.Following.{Going}
+use Rattle.checking.proofs.records.chain_fault.Given as goal
+
+abbrev pub invariant-loop-e : goal.invariant-loop-e
+invariant-loop-e l = Going l.image l.start l.ending (all_of l.image l.start l.cut) l.c l.count
+
+abbrev pub decreases-loop-e : goal.decreases-loop-e
+decreases-loop-e l = left l.c

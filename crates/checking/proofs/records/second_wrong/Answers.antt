@@ -1,0 +1,21 @@
+use Rattle.chain.specs.Fold.{passes}
+use Rattle.chain.proofs.Others.{other_step}
+use Rattle.checking.specs.Records.{second_none, second_is}
+use Rattle.checking.proofs.records.second_wrong.Goals as goal
+
+pub returns-in_default : goal.returns-in_default
+returns-in_default c = second_none _ _ _ _ c.advance-s.result c.advance-s.ensures.0
+    (other_step c.advance-s.result c.in_default.in_default-own.keys2)
+
+pub second_ok-requires : goal.second_ok-requires
+second_ok-requires c = (
+  c.requires.0,
+  (passes c.advance-s.ensures
+      c.in-Record.is).whole,
+  c.requires.1,
+  c.requires.2,
+)
+
+pub returns : goal.returns
+returns c = second_is _ _ _ _ _ _ _ (passes c.advance-s.ensures c.in-Record.is)
+    c.second_ok.ensures

@@ -1,0 +1,11 @@
+-- The numbers of the plan's answer, through pointers.
+use mathlib.Core.Path.{refl}
+use Rattle.plans.specs.Planned.{written_handed}
+use Rattle.lilota.proofs.c_plan.lilota_plan_remove.Goals as goal
+
+pub returns : goal.returns
+returns c =
+    let done = c.plan_remove-p in (
+      written_handed done.result.answer _ _ _ _ _ _ c.answer.ensures c.fault-f.ensures c.steps.ensures done.ensures.0,
+      refl,
+    )

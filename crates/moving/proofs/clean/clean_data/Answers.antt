@@ -1,0 +1,12 @@
+-- X's data by its address and length.
+use native.Mathlib.Omega.{arith}
+use Rattle.moving.specs.Clean.{cleaned_is}
+use Rattle.moving.proofs.clean.clean_data.Goals as goal
+
+pub returns : goal.returns
+returns c =
+    (
+      rw (cleaned_is c.args.image.now c.args.x c.requires.0 c.up_8.ensures)
+          c.clean_bytes.ensures.0,
+      omega arith,
+    )

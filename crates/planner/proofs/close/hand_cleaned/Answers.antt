@@ -1,0 +1,12 @@
+-- X's data by its address and length.
+use native.Mathlib.Omega.{arith}
+use Rattle.moving.specs.Clean.{cleaned_is}
+use Rattle.planner.proofs.close.hand_cleaned.Goals as goal
+
+pub returns : goal.returns
+returns c =
+    let a = c.args in (
+      rw (cleaned_is a.image.now a.x c.requires.0.0 c.up_8.ensures) c.hand_pairs.ensures.0,
+      omega
+          (arith, c.hand_pairs.ensures.1),
+    )

@@ -1,0 +1,29 @@
+-- X's sector is erased, or is not.
+use mathlib.Core.List.{append-nil}
+use native.Mathlib.Omega.{arith}
+use Rattle.spec.specs.Move.{start_steps}
+use Rattle.window.specs.Handed.{handed_both}
+use Rattle.planner.specs.Close.{standing, forget_none, forget_this}
+use Rattle.planner.proofs.close.hand_over.Goals as goal
+
+pub returns-then-floor-to : goal.returns-then-floor-to
+returns-then-floor-to c =
+    let a = c.args in
+    let h = c.hand_start-a.ensures in (
+      rw (forget_none (standing a.x) {to = a.to} c.floor.ensures.0 c.if-floor-to.true, append-nil (start_steps a.y a.low))
+          h.0,
+      omega (arith, h.1),
+    )
+
+pub hand_program-requires : goal.hand_program-requires
+hand_program-requires c =
+    (omega (arith, c.requires), omega (arith, c.requires, c.hand_start-a.ensures.1))
+
+pub returns : goal.returns
+returns c =
+    let a = c.args in
+    let h = c.hand_start-a.ensures in
+    let one = c.hand_program.ensures in (
+      rw (forget_this (standing a.x) {to = a.to} c.floor.ensures.0 c.if-floor-to.false) (handed_both h.0 one),
+      omega (arith, h.1, one.count),
+    )

@@ -1,0 +1,13 @@
+-- The sectors from the start of X's, then the rest.
+use native.Mathlib.Omega.{arith}
+use Rattle.window.specs.Handed.{handed_both}
+use Rattle.planner.proofs.close.hand_vacated.Goals as goal
+
+pub hand_over-requires : goal.hand_over-requires
+hand_over-requires c =
+    ((omega (arith, c.requires), omega (arith, c.requires)), omega (arith, c.requires, c.hand_erases-a.ensures.1))
+
+pub returns : goal.returns
+returns c =
+    let e = rw c.floor.ensures.0 at c.hand_erases-a.ensures.0 in
+    (handed_both e c.hand_over.ensures.0, omega (arith, c.hand_erases-a.ensures.1, c.hand_over.ensures.1))

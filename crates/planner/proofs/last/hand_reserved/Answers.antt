@@ -1,0 +1,12 @@
+-- The name's end, then the status.
+use native.Mathlib.Omega.{arith}
+use Rattle.recovery.specs.Last.{reserved_is}
+use Rattle.window.specs.Handed.{handed_both}
+use Rattle.planner.proofs.last.hand_reserved.Goals as goal
+
+pub returns : goal.returns
+returns c =
+    let ended = c.hand_missing-a.ensures in
+    let gone = c.hand_void_status.ensures in
+    let is = reserved_is c.args.image.now c.args.e c.requires.0 in
+    (rw is (handed_both ended.0 gone), omega (arith, ended.1, gone.count))

@@ -1,0 +1,7 @@
+-- One repair after the other.
+use Rattle.window.specs.Handed.{handed_both}
+use Rattle.planner.proofs.mount.hand_rest.Goals as goal
+
+pub returns : goal.returns
+returns c =
+    handed_both c.hand_last-a.ensures.0 c.hand_superseded.ensures

@@ -1,0 +1,16 @@
+-- Y's low byte, then the rest.
+use native.Mathlib.Omega.{arith}
+use Rattle.window.specs.Handed.{handed_both}
+use Rattle.planner.proofs.sweep.hand_next.Goals as goal
+
+pub hand_close-requires : goal.hand_close-requires
+hand_close-requires c =
+    (c.requires.0, omega (arith, c.requires.1, c.hand_program-a.ensures.count))
+
+pub returns : goal.returns
+returns c =
+    (
+      handed_both c.hand_program-a.ensures c.hand_close.ensures.0,
+      omega
+          (arith, c.hand_program-a.ensures.count, c.hand_close.ensures.1),
+    )

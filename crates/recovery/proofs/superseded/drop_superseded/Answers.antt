@@ -1,0 +1,59 @@
+use Rattle.chain.specs.Rest.{rest}
+use native.Mathlib.Omega.{arith}
+use mathlib.Core.Path.{refl, sym, ap, ◌∙◌}
+use Rattle.chain.specs.Cursor.{left}
+use Rattle.chain.specs.Fold.{passes}
+use Rattle.reading.specs.Survey.{first_sound}
+use Rattle.chain.proofs.Others.{other_step}
+use Rattle.recovery.specs.Drop.{dropping_start, dropping_more, dropping_end, tidy_first, sound_same}
+use Rattle.reading.specs.Standing.{entries_from}
+use Rattle.recovery.proofs.superseded.drop_superseded.Goals as goal
+
+pub loop-e-init : goal.loop-e-init
+loop-e-init c =
+    let a = c.args in (
+      refl,
+      rw c.first_cursor-start.ensures (first_sound a.image.now a.h (omega arith) c.requires.0.1.1),
+      omega arith,
+      dropping_start a.image.now c.first_cursor-start.result a.m,
+    )
+
+pub advance-s-requires : goal.advance-s-requires
+advance-s-requires c = c.loop-e.invariant.1
+
+pub enum_known-s : goal.enum_known-s
+enum_known-s c = c.in-Record.in-Record-own.keys1
+
+pub returns-in_default : goal.returns-in_default
+returns-in_default c =
+    let a = c.args in
+    rw (ap (λ k. (rest a.image.now k).entries) c.first_cursor-start.ensures ∙ sym (entries_from a.image.now a.h (omega arith))) at
+    (dropping_end c.loop-e.invariant.3 c.advance-s.result c.advance-s.ensures.0
+    (other_step c.advance-s.result c.in_default.in_default-own.keys2))
+
+pub drop_one-q-requires : goal.drop_one-q-requires
+drop_one-q-requires c =
+    let t = passes c.advance-s.ensures c.in-Record.is in
+    let a = c.args in (
+      sound_same a.image.now c.loop-e.image c.first_cursor-start.result
+          (rw c.first_cursor-start.ensures (first_sound a.image.now a.h (omega (arith, c.requires.0.0)) c.requires.0.1.1))
+          c.loop-e.invariant.0,
+      (t.whole, omega (arith, c.loop-e.invariant.2, ap left c.first_cursor-start.ensures, t.onward.less, c.requires.1)),
+    )
+
+pub loop-e-smaller : goal.loop-e-smaller
+loop-e-smaller c =
+    let t = passes c.advance-s.ensures c.in-Record.is in
+    t.onward.less
+
+pub loop-e-preserved : goal.loop-e-preserved
+loop-e-preserved c =
+    let t = passes c.advance-s.ensures c.in-Record.is in
+    let a = c.args in (
+      omega (arith, c.loop-e.invariant.0),
+      sound_same c.loop-e.image c.drop_one-q.new.image c.in-Record.next t.onward.sound (omega arith),
+      omega (arith, c.loop-e.invariant.2, t.onward.less, c.drop_one-q.ensures.1),
+      dropping_more c.loop-e.invariant.3 c.in-Record.e
+          c.in-Record.next (rw c.first_cursor-start.ensures (tidy_first a.image.now a.h (omega (arith, c.requires.0.0))))
+          (sym c.advance-s.ensures.0 ∙ c.in-Record.is) t.whole.fits c.drop_one-q.ensures.0,
+    )

@@ -1,0 +1,40 @@
+-- Content longer than the image fits nowhere, and a record that has no place ends the rule; else it is decided behind the last file.
+use Rattle.spec.specs.declared.Placed.TheVariants.{At}
+use Rattle.chain.specs.declared.Cursor.{Cursor}
+use Rattle.room.specs.declared.Stowed.{Stowed}
+use Rattle.chain.specs.Rest.{rest}
+use Rattle.room.specs.Stows.{placed_address}
+use Rattle.room.specs.Room.{others, stow_files, room_long, room_full, room_found}
+use Rattle.spec.specs.Placed.{placed}
+use native.Mathlib.Omega.{arith}
+use mathlib.Core.Path.{sym, ap, ◌∙◌}
+use Rattle.room.proofs.has_room.Goals as goal
+
+pub returns-then-place-d : goal.returns-then-place-d
+returns-then-place-d c =
+    room_long c.args.s.place _ _ _ c.args.image.now c.requires.0.surveyed.place (omega arith)
+
+pub returns-in_default : goal.returns-in_default
+returns-in_default c =
+    let a = c.args in
+    room_full a.s.place _ _ _
+    (sym (c.after-first.ensures ∙ ap (placed a.s.place) c.size-new.ensures)
+    ∙ c.in_default.is)
+
+pub stow_chain-stowed-requires : goal.stow_chain-stowed-requires
+stow_chain-stowed-requires c =
+    rw c.first_cursor.ensures c.requires.0.surveyed.tallied.sound
+
+pub has_last-requires : goal.has_last-requires
+has_last-requires c =
+    placed_address _ _ _ _ _ (sym c.after-first.ensures ∙ c.in-At.is)
+
+pub returns : goal.returns
+returns c =
+    let a = c.args in
+    let at = c.first-1.given in
+    let first : Stowed = record { placed = At c.in-At.at c.in-At.marker c.in-At.place; largest = c.size-new.result } in
+    let from : Cursor → Stowed = λ (k : Cursor). stow_files a.s.place first (others a.name.now (rest a.image.now k).entries) in
+    let walked = c.stow_chain-stowed.ensures ∙ ap from c.first_cursor.ensures in
+    room_found a.s.place _ _ _ c.requires.0.quiet _ _ _ _ c.size-new.ensures (sym c.in-At.is ∙ c.after-first.ensures) walked
+    c.has_last.ensures

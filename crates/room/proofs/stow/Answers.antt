@@ -1,0 +1,10 @@
+-- What was placed is an address with the place behind it, or nothing; the next size goes there, or has no place either.
+use Rattle.room.specs.Stows.{stow_behind, stow_nowhere}
+use mathlib.Core.Path.{◌∙◌}
+use Rattle.room.proofs.stow.Goals as goal
+
+pub returns-in_default : goal.returns-in_default
+returns-in_default c = stow_nowhere c.args.placed c.args.size c.in_default.is
+
+pub returns : goal.returns
+returns c = c.after.ensures ∙ stow_behind _ _ _ _ _ c.in-At.is
