@@ -1,11 +1,10 @@
 -- A word of eight bytes as one number: its bytes, the first the lowest, and what a sum and a mask of the whole word say of each of them.
-use Rattle.std.specs.Prelude.{ℕ, zero, suc, ◌+◌, ◌-◌, ◌*◌, ◌/◌, ◌%◌, ◌≤◌, ◌<◌, ◌^◌, ◌≡◌, refl, Bool, true, false, ◌&&◌, List, [], ◌∷◌, ◌++◌, map, length, take, drop, replicate, eqb, leb}
-use Rattle.std.proofs.Common.{arith, pow-suc, mul_right_comm, sym, ap, ap₂, ◌∙◌, eq-eqb, ne_eqb, eqb-true, le-leb, leb-true}
+use Rattle.std.specs.Prelude.{ℕ, zero, suc, ◌+◌, ◌*◌, ◌/◌, ◌%◌, ◌≤◌, ◌<◌, ◌^◌, ◌≡◌, refl, List, [], ◌∷◌, ◌++◌, map, length, take}
+use Rattle.std.proofs.Common.{arith, pow-suc, mul_right_comm, sym, ap, ap₂, ◌∙◌}
 use Rattle.std.proofs.Math.Nat.{mod-one}
 use Rattle.std.specs.Int.Bits.{bit_and, and_zero_r}
 use Rattle.std.proofs.lemmas.Nat.{and_block, and_le_r}
 use Rattle.std.proofs.Math.Arith.{mod-mul}
-use Rattle.std.proofs.lemmas.Bool.{eqb-false, lt-leb}
 use Rattle.spec.specs.Basics.{Each}
 use Rattle.flash.specs.Words.{word}
 

@@ -1,26 +1,23 @@
 -- is_low: the callees tell two of the three.
-use mathlib.Core.Path.{◌≡◌, refl, ◌∙◌}
-use mathlib.Core.Bool.{◌||◌}
-use mathlib.Core.Logic.{⊎_elim}
-use Rattle.spec.specs.Bytes.{is_record, is_start}
+use mathlib.Core.Path.{refl, ◌∙◌}
+use mathlib.Core.Logic.{inl, inr}
+use borrow.Author.Tests.{eq-eqb, ne_eqb}
+use Rattle.spec.specs.Bytes.{is_start}
 use Rattle.record.specs.Flags.{or_first, or_second}
-use Rattle.record.proofs.kind.is_low.Reads as reads
-use Rattle.record.proofs.kind.is_low.Lts as lts
-use Rattle.record.proofs.bytes.is_clean.Reads as is-clean-reads
-use Rattle.record.proofs.bytes.is_record.Reads as is-record-reads
 use Rattle.record.proofs.kind.is_low.Goals as goal
-
--- the flag behind the first two tests
-first_two : (j : lts.Joined1
-    (is-record-reads.Asked, is-record-reads.Learnt, is-clean-reads.Asked, is-clean-reads.Learnt) reads.Pre reads.Post)
-    → j.if1.if2 ≡ (is_record j.before.before.args.b || is_start j.before.before.args.b)
-unfolding is_start
-first_two j =
-    let e = j.before.is_record.ensures in
-    ⊎_elim (λ w. w.1 ∙ or_first e _ w.0.taken) (λ w. w.1 ∙ or_second e w.0.left refl) j.if1.came
+use Rattle.record.proofs.kind.is_low.Goals.{then-is_record, else-is_record}
 
 pub returns-then-b-eq-START : goal.returns-then-b-eq-START
-returns-then-b-eq-START c = or_first (first_two c) _ c.if-b-eq-START.true
+unfolding is_start
+returns-then-b-eq-START c =
+    elim c.if-is_record.branch [
+      | then-is_record w ↦ or_first (w.t-3-is ∙ or_first c.is_record.ensures _ w.if-is_record.true) _ (w.t-3-is ∙ w.if-is_record.true)
+      | else-is_record w ↦
+          or_first (w.t-3-is ∙ or_second c.is_record.ensures w.if-is_record.false refl) _
+          (w.t-3-is ∙ elim c.if-b-eq-START.either [ inl h ↦ (let no = w.if-is_record.false in cc) | inr p ↦ eq-eqb _ _ p.1 ])
+    ]
 
 pub returns-else-b-eq-START : goal.returns-else-b-eq-START
-returns-else-b-eq-START c = or_second (first_two c) c.if-b-eq-START.false c.is_clean.ensures
+unfolding is_start
+returns-else-b-eq-START c =
+    or_second (or_second c.is_record.ensures c.if-b-eq-START.false.0 refl) (ne_eqb _ _ c.if-b-eq-START.false.1) c.is_clean.ensures
