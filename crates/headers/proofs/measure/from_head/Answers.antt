@@ -13,7 +13,7 @@ pub returns-in_default : goal.returns-in_default
 returns-in_default c =
     let p = c.requires in
     c.refused.ensures ∙ none_begun _ _ p.0 p.1 _ c.first_cursor-c.ensures _ c.forward-s.ensures _
-    (other_step c.forward-s.result c.in_default.in_default-own.keys2)
+    (other_step c.forward-s.result c.in_default.not-Record)
 
 -- src/measure.rt:67:9
 pub returns-then-e-h : goal.returns-then-e-h

@@ -13,8 +13,6 @@ pub forward-s-requires : goal.forward-s-requires
 forward-s-requires c = c.loop-e.invariant.fold.sound
 
 -- src/measure.rt:45:34
-pub enum_known-s : goal.enum_known-s
-enum_known-s c = c.in-Record.in-Record-own.keys1
 
 -- src/measure.rt:46:13
 pub ended-requires : goal.ended-requires
@@ -23,7 +21,7 @@ ended-requires c = tt
 -- src/measure.rt:46:13
 pub returns-in_default : goal.returns-in_default
 returns-in_default c =
-    c.ended.ensures ∙ walk_end c.loop-e.invariant c.forward-s.ensures (other_step c.forward-s.result c.in_default.in_default-own.keys2)
+    c.ended.ensures ∙ walk_end c.loop-e.invariant c.forward-s.ensures (other_step c.forward-s.result c.in_default.not-Record)
 
 -- src/measure.rt:48:13
 pub stands-requires : goal.stands-requires

@@ -14,7 +14,7 @@ returns-in_default c =
     let a = c.args in
     let i = a.image.now in
     let none = rest_done i a.v.cursor c.advance.result c.advance.ensures.0
-    (other_step c.advance.result c.in_default.in_default-own.keys2) in
+    (other_step c.advance.result c.in_default.not-Record) in
     move_none i (rest i a.start).entries a.v c.requires.0.1 (slices a.kinds.now a.addresses.now a.bytes.now) a.w
     (ap (λ (r : Run). r.entries) none)
 

@@ -21,15 +21,12 @@ loop-e-init c =
 pub advance-s-requires : goal.advance-s-requires
 advance-s-requires c = c.loop-e.invariant.1
 
-pub enum_known-s : goal.enum_known-s
-enum_known-s c = c.in-Record.in-Record-own.keys1
-
 pub returns-in_default : goal.returns-in_default
 returns-in_default c =
     let a = c.args in
     rw (ap (λ k. (rest a.image.now k).entries) c.first_cursor-start.ensures ∙ sym (entries_from a.image.now a.h (omega arith))) at
     (dropping_end c.loop-e.invariant.3 c.advance-s.result c.advance-s.ensures.0
-    (other_step c.advance-s.result c.in_default.in_default-own.keys2))
+    (other_step c.advance-s.result c.in_default.not-Record))
 
 pub drop_one-q-requires : goal.drop_one-q-requires
 drop_one-q-requires c =

@@ -13,7 +13,7 @@ returns-in_default c =
     let a = c.args in
     let i = a.image.now in
     let none = rest_done i a.u.walk.cursor c.advance.result c.advance.ensures.0
-    (other_step c.advance.result c.in_default.in_default-own.keys2) in
+    (other_step c.advance.result c.in_default.not-Record) in
     stride_none i (rest i a.start).entries a.u (ap (λ (r : Run). r.entries) none)
 
 pub is_live-requires : goal.is_live-requires
