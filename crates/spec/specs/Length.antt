@@ -11,7 +11,7 @@ use Rattle.spec.specs.Geometry.{good_length, floor}
 use Rattle.spec.specs.Bytes.{is_record, is_start, is_unfinished}
 use Rattle.spec.specs.Record.{low_of, high_of, status_of, spare_of, size_of, rec_of, name_length, name_ok, Entry, name_of, content_of}
 use Rattle.spec.specs.Next.{kind, next}
-use Rattle.spec.specs.Chain.{Chain, Reading, from_head, reading_from}
+use Rattle.spec.specs.Chain.{Reading, from_head, reading_from}
 use Rattle.spec.specs.Files.{named, has_name}
 use Rattle.spec.specs.Door.{misnamed}
 use Rattle.spec.specs.Numbers.{Numbers, Outcome, of_list, no_extent}
