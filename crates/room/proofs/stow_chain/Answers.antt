@@ -13,14 +13,11 @@ stow_far-f-requires c = c.loop-e.invariant.sound
 pub advance-s-requires : goal.advance-s-requires
 advance-s-requires c = c.stow_far-f.ensures.0.sound
 
-pub enum_known-s : goal.enum_known-s
-enum_known-s c = c.in-Record.in-Record-own.keys1
-
 pub returns-in_default : goal.returns-in_default
 returns-in_default c =
     let adv = c.advance-s in
     let w = fold_both _ _ _ _ c.loop-e.invariant c.stow_far-f.ensures.0 in
-    stow_over _ _ w adv.result adv.ensures.0 (other_step adv.result c.in_default.in_default-own.keys2)
+    stow_over _ _ w adv.result adv.ensures.0 (other_step adv.result c.in_default.not-Record)
 
 pub stow_record-stowed-requires : goal.stow_record-stowed-requires
 stow_record-stowed-requires c =

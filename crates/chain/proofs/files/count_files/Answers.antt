@@ -13,14 +13,11 @@ loop-e-init c = count_start _ c.requires
 pub advance-s-requires : goal.advance-s-requires
 advance-s-requires c = c.loop-e.invariant.fold.sound
 
-pub enum_known-s : goal.enum_known-s
-enum_known-s c = c.in-Record.in-Record-own.keys1
-
 pub returns-in_default : goal.returns-in_default
 returns-in_default c =
     let a = c.args in
     count_over (live (rest a.image.now a.start).entries) c.loop-e.invariant c.advance-s.result
-    c.advance-s.ensures.0 (other_step c.advance-s.result c.in_default.in_default-own.keys2)
+    c.advance-s.ensures.0 (other_step c.advance-s.result c.in_default.not-Record)
 
 pub is_live-requires : goal.is_live-requires
 is_live-requires c =

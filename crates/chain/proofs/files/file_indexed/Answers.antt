@@ -15,14 +15,11 @@ skip_files-o-requires c = c.loop-e.invariant.sound
 pub advance-s-requires : goal.advance-s-requires
 advance-s-requires c = c.skip_files-o.ensures.0.sound
 
-pub enum_known-s : goal.enum_known-s
-enum_known-s c = c.in-Record.in-Record-own.keys1
-
 pub returns-in_default : goal.returns-in_default
 returns-in_default c =
     let adv = c.advance-s in
     let w = fold_both _ _ _ _ c.loop-e.invariant c.skip_files-o.ensures.0 in
-    (nth_over is_file w adv.result adv.ensures.0 (other_step adv.result c.in_default.in_default-own.keys2), tt)
+    (nth_over is_file w adv.result adv.ensures.0 (other_step adv.result c.in_default.not-Record), tt)
 
 pub is_file-requires : goal.is_file-requires
 is_file-requires c = (passes c.advance-s.ensures c.in-Record.is).whole

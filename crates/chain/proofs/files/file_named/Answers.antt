@@ -17,14 +17,11 @@ skip_others-o-requires c = c.loop-e.invariant.sound
 pub advance-s-requires : goal.advance-s-requires
 advance-s-requires c = c.skip_others-o.ensures.gone.sound
 
-pub enum_known-s : goal.enum_known-s
-enum_known-s c = c.in-Record.in-Record-own.keys1
-
 pub returns-in_default : goal.returns-in_default
 returns-in_default c =
     let adv = c.advance-s in (
       first_over (has_name c.args.name.now) is_file (first_beyond c.loop-e.invariant c.skip_others-o.ensures) adv.result
-          adv.ensures.0 (other_step adv.result c.in_default.in_default-own.keys2),
+          adv.ensures.0 (other_step adv.result c.in_default.not-Record),
       tt,
     )
 

@@ -12,16 +12,13 @@ loop-f-init c = fold_start _ _ _ _ c.requires.0
 pub advance-s-requires : goal.advance-s-requires
 advance-s-requires c = c.loop-f.invariant.sound
 
-pub enum_known-s : goal.enum_known-s
-enum_known-s c = c.in-Record.in-Record-own.keys1
-
 pub returns-in_default : goal.returns-in_default
 unfolding has_named
 returns-in_default c =
     let a = c.args in
     let p = named_as a.status.byte (entry_of a.image.now a.e) in
     any_over p c.loop-f.invariant c.advance-s.result c.advance-s.ensures.0
-    (other_step c.advance-s.result c.in_default.in_default-own.keys2)
+    (other_step c.advance-s.result c.in_default.not-Record)
 
 pub named_as-requires : goal.named_as-requires
 named_as-requires c =

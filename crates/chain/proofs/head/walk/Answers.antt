@@ -26,14 +26,11 @@ returns-then-torn_here c = (
 pub walk_next-x-requires : goal.walk_next-x-requires
 walk_next-x-requires c = omega arith
 
-pub enum_known-x : goal.enum_known-x
-enum_known-x c = c.in-Record.in-Record-own.keys1
-
 pub returns-in_default : goal.returns-in_default
 returns-in_default c =
     let x = c.walk_next-x.result in (
       walked_stop _ _ c.walk_plain-at.ensures.0 x (flag c.torn_here.ensures c.if-torn_here.false)
-          c.walk_next-x.ensures.0 (other_next x c.in_default.in_default-own.keys2),
+          c.walk_next-x.ensures.0 (other_next x c.in_default.not-Record),
       omega arith,
     )
 

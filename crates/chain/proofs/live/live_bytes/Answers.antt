@@ -12,13 +12,10 @@ loop-e-init c = sum_start _ c.requires
 pub advance-s-requires : goal.advance-s-requires
 advance-s-requires c = c.loop-e.invariant.fold.sound
 
-pub enum_known-s : goal.enum_known-s
-enum_known-s c = c.in-Record.in-Record-own.keys1
-
 pub returns-in_default : goal.returns-in_default
 returns-in_default c =
     let w = c.loop-e.invariant in
-    let over = other_step c.advance-s.result c.in_default.in_default-own.keys2 in
+    let over = other_step c.advance-s.result c.in_default.not-Record in
     (sum_over _ w c.advance-s.result c.advance-s.ensures.0 over, sum_most _ w)
 
 pub size-requires : goal.size-requires

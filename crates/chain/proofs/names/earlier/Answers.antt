@@ -22,16 +22,13 @@ returns-then-o-eq0 c =
 pub advance-s-requires : goal.advance-s-requires
 advance-s-requires c = c.skip_other_names-o.ensures.gone.sound
 
-pub enum_known-s : goal.enum_known-s
-enum_known-s c = c.in-Record.in-Record-own.keys1
-
 pub returns-in_default : goal.returns-in_default
 returns-in_default c =
     let a = c.args in
     let e = entry_of a.image.now a.e in
     let adv = c.advance-s in
     earlier_over e (earlier_beyond e c.loop-e.invariant c.skip_other_names-o.ensures) adv.result adv.ensures.0
-    (other_step adv.result c.in_default.in_default-own.keys2)
+    (other_step adv.result c.in_default.not-Record)
 
 pub earlier_with-f-requires : goal.earlier_with-f-requires
 earlier_with-f-requires c =

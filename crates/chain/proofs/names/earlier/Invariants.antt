@@ -7,7 +7,7 @@ use Rattle.chain.proofs.names.earlier.Given as goal
 
 abbrev pub invariant-loop-e : goal.invariant-loop-e
 invariant-loop-e l =
-    Folded (earlier_in (entry_of l.image l.e)) l.image l.initial.c (record { found = l.initial.f; l.left = l.initial.left }) l.c (record { found = l.f; l.left = l.left })
+    Folded (earlier_in (entry_of l.image l.e)) l.image l.initial.c (record { found = l.initial.f; left = l.initial.left }) l.c (record { found = l.f; left = l.left })
 
 abbrev pub decreases-loop-e : goal.decreases-loop-e
 decreases-loop-e l = left_of l.c

@@ -10,14 +10,11 @@ loop-e-init c = rw c.none_yet.ensures (passing_start c.requires.0 c.requires.1)
 pub advance-s-requires : goal.advance-s-requires
 advance-s-requires c = c.loop-e.invariant.fold.sound
 
-pub enum_known-s : goal.enum_known-s
-enum_known-s c = c.in-Record.in-Record-own.keys1
-
 pub returns-in_default : goal.returns-in_default
 returns-in_default c =
     let l = c.loop-e in (
       fold_end passed _ _ none_yet _ _ l.invariant.fold c.advance-s.result c.advance-s.ensures.0
-          (other_step c.advance-s.result c.in_default.in_default-own.keys2),
+          (other_step c.advance-s.result c.in_default.not-Record),
       l.invariant.spots,
       end_inside c.args.image.now l.g.cursor c.advance-s.result c.advance-s.ensures.1,
     )

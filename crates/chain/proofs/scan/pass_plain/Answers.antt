@@ -11,11 +11,6 @@ pub near-s-requires : goal.near-s-requires
 near-s-requires c =
     (c.loop-e.invariant.0 c.args.start c.requires.0 c.requires.1).fold.sound
 
-pub enum_known-s : goal.enum_known-s
-enum_known-s c = c.in-Record.in-Record-own.keys1
-
-pub enum_told-1 : goal.enum_told-1
-enum_told-1 c = c.in_default.in_default-own.keys2
 
 pub returns-in_default : goal.returns-in_default
 returns-in_default c =

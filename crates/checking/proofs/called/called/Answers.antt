@@ -11,15 +11,12 @@ loop-e-init c = fold_start _ _ _ _ c.requires
 pub advance-s-requires : goal.advance-s-requires
 advance-s-requires c = c.loop-e.invariant.sound
 
-pub enum_known-s : goal.enum_known-s
-enum_known-s c = c.in-Record.in-Record-own.keys1
-
 pub returns-in_default : goal.returns-in_default
 returns-in_default c =
     let a = c.args in
     let p = is_called a.status.byte a.name.now in
     any_over p c.loop-e.invariant c.advance-s.result c.advance-s.ensures.0
-    (other_step c.advance-s.result c.in_default.in_default-own.keys2)
+    (other_step c.advance-s.result c.in_default.not-Record)
 
 pub is_called-requires : goal.is_called-requires
 is_called-requires c = (passes c.advance-s.ensures c.in-Record.is).whole

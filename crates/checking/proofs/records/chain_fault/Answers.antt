@@ -12,12 +12,9 @@ loop-e-init c = going_start _ _ _ _ c.requires.0
 pub advance-s-requires : goal.advance-s-requires
 advance-s-requires c = c.loop-e.invariant.gone.sound
 
-pub enum_known-s : goal.enum_known-s
-enum_known-s c = c.in-Record.in-Record-own.keys1
-
 pub returns-in_default : goal.returns-in_default
 returns-in_default c = going_end _ _ _ _ c.loop-e.invariant c.advance-s.result c.advance-s.ensures.0
-    (other_step c.advance-s.result c.in_default.in_default-own.keys2)
+    (other_step c.advance-s.result c.in_default.not-Record)
 
 pub record_fault-f-requires : goal.record_fault-f-requires
 record_fault-f-requires c = let t = passes c.advance-s.ensures c.in-Record.is in (

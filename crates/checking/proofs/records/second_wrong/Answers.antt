@@ -5,7 +5,7 @@ use Rattle.checking.proofs.records.second_wrong.Goals as goal
 
 pub returns-in_default : goal.returns-in_default
 returns-in_default c = second_none _ _ _ _ c.advance-s.result c.advance-s.ensures.0
-    (other_step c.advance-s.result c.in_default.in_default-own.keys2)
+    (other_step c.advance-s.result c.in_default.not-Record)
 
 pub second_ok-requires : goal.second_ok-requires
 second_ok-requires c = (

@@ -10,7 +10,7 @@ pub returns-in_default : goal.returns-in_default
 returns-in_default c =
     let a = c.args in
     let r = c.advance-s in
-    let none = entries_end a.image.now a.start r.result r.ensures.0 (other_step r.result c.in_default.in_default-own.keys2) in
+    let none = entries_end a.image.now a.start r.result r.ensures.0 (other_step r.result c.in_default.not-Record) in
     (c.requires, rw c.if-gone.true (none ∙ sym (ap later none)))
 
 pub returns-then-gone : goal.returns-then-gone

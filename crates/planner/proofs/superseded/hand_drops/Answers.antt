@@ -13,9 +13,6 @@ loop-e-init c = (refl, refl, refl, c.requires.1, omega arith, λ u r h. h)
 pub advance-s-requires : goal.advance-s-requires
 advance-s-requires c = c.loop-e.invariant.3
 
-pub enum_known-s : goal.enum_known-s
-enum_known-s c = c.in-Record.in-Record-own.keys1
-
 pub returns-in_default : goal.returns-in_default
 returns-in_default c =
     let a = c.args in
@@ -23,7 +20,7 @@ returns-in_default c =
     let r = c.advance-s in
     let l = c.loop-e in
     leads_end l.invariant.5
-    (drops_end (rest s a.start).entries (entries_end s l.c r.result r.ensures.0 (other_step r.result c.in_default.in_default-own.keys2)))
+    (drops_end (rest s a.start).entries (entries_end s l.c r.result r.ensures.0 (other_step r.result c.in_default.not-Record)))
 
 pub hand_drop-q-requires : goal.hand_drop-q-requires
 hand_drop-q-requires c =
@@ -49,6 +46,6 @@ loop-e-preserved c =
       omega arith,
       omega arith,
       t.onward.sound,
-      omega (arith, l.invariant.4, t.onward.less, h.1),
-      leads_more l.invariant.5 (drops_on (rest s a.start).entries (entry_of s e) (entries_on s l.c e next t)) h.0,
+      omega (arith, l.invariant.4, t.onward.less, h.passed_bound),
+      leads_more l.invariant.5 (drops_on (rest s a.start).entries (entry_of s e) (entries_on s l.c e next t)) h.handed,
     )

@@ -13,7 +13,7 @@ returns-in_default c =
     let a = c.args in
     let i = a.image.now in
     let none = rest_done i a.past c.advance.result c.advance.ensures.0
-    (other_step c.advance.result c.in_default.in_default-own.keys2) in (
+    (other_step c.advance.result c.in_default.not-Record) in (
       sym (ap (λ (r : Run). address_of (next_of r.entries (copy_entry a.copy))) none ∙ address_copy a.copy),
       c.requires.1,
     )

@@ -15,14 +15,11 @@ loop-e-init c =
 pub advance-s-requires : goal.advance-s-requires
 advance-s-requires c = c.loop-e.invariant.gone.sound
 
-pub enum_known-s : goal.enum_known-s
-enum_known-s c = c.in-Record.in-Record-own.keys1
-
 pub returns-in_default : goal.returns-in_default
 returns-in_default c =
     let adv = c.advance-s in
     let inv = c.loop-e.invariant in
-    let z = other_step adv.result c.in_default.in_default-own.keys2 in (
+    let z = other_step adv.result c.in_default.not-Record in (
       fold_end passed _ _ none_yet _ _ inv.passing.fold adv.result adv.ensures.0 z,
       inv.passing.spots,
       end_inside _ _ adv.result adv.ensures.1,

@@ -12,12 +12,12 @@ judge_from-requires c =
 
 pub returns-in-At : goal.returns-in-At
 returns-in-At c =
-    (
-      c.judge_from.ensures.0
+    let e = c.judge_from.ensures in (
+      e.result_value
           ∙ reading_by c.args.image.now c.in-At.h
           (sym (ap headed c.in-At.is) ∙ c.head-found.ensures.0),
-      c.judge_from.ensures.1.0,
-      c.judge_from.ensures.1.1,
+      e.judged_well.0,
+      e.judged_well.1,
     )
 
 pub returns-in-Refused : goal.returns-in-Refused

@@ -19,10 +19,13 @@ unfolding judged
 returns-then-legal c =
     let o = c.overview-o.ensures in
     let e = o.0 in
-    (rw (← e.same, judged, ← c.legal.ensures, c.if-legal.true), ((e.surveyed, c.settled.ensures), rw e.head o.2))
+    record {
+      result_value = rw (← e.same, judged, ← c.legal.ensures, c.if-legal.true);
+      judged_well = ((e.surveyed, c.settled.ensures), rw e.head o.2);
+    }
 
 pub returns : goal.returns
 unfolding judged
 returns c =
     let e = c.overview-o.ensures.0 in
-    (rw (← e.same, judged, flag c.legal.ensures c.if-legal.false), (tt, tt))
+    record { result_value = rw (← e.same, judged, flag c.legal.ensures c.if-legal.false); judged_well = (tt, tt) }

@@ -23,5 +23,4 @@ returns-in-Good c =
 pub returns-in-Refused : goal.returns-in-Refused
 returns-in-Refused c =
     let s = c.args.image.now in
-    let x = c.x-in-Refused-1.given in
     (settled_none s c.in-Refused.y (sym (ap (judged_as s) c.in-Refused.is) ∙ c.judge_for-x.ensures.0), tt, tt, tt)

@@ -1,5 +1,5 @@
 -- legal: the rules one after the other, each test of the code being one of them.
-use Rattle.laws.specs.Flag.{flag, flag_not}
+use Rattle.laws.specs.Flag.{flag}
 use Rattle.chain.specs.Rest.{rest}
 use Rattle.reading.specs.Read.{reading_of}
 use Rattle.chain.specs.Repeats.{single_by}
@@ -9,13 +9,13 @@ use Rattle.reading.proofs.rules.legal.Goals as goal
 pub returns-then-not-whole : goal.returns-then-not-whole
 returns-then-not-whole c =
     let a = c.args in
-    legal_whole a.image.now (reading_of a.image.now a.s) (flag_not c.whole.ensures c.if-not-whole.true)
+    legal_whole a.image.now (reading_of a.image.now a.s) (flag c.whole.ensures c.if-not-whole.true)
 
 pub returns-then-n : goal.returns-then-n
 returns-then-n c =
     let p = c.requires.0 in
     let a = c.args in
-    legal_single a.image.now (reading_of a.image.now a.s) (flag_not c.whole.ensures c.if-not-whole.false)
+    legal_single a.image.now (reading_of a.image.now a.s) (flag c.whole.ensures c.if-not-whole.false)
     (flag (fine_is p.surveyed.tallied) c.if-t.true)
     (rw p.at_head at (single_by (rest a.image.now a.start).entries _ p.names c.if-n.true))
 
@@ -33,7 +33,7 @@ pub returns-then-marks_ok : goal.returns-then-marks_ok
 returns-then-marks_ok c =
     let p = c.requires.0 in
     let a = c.args in
-    legal_free a.image.now (reading_of a.image.now a.s) (flag_not c.whole.ensures c.if-not-whole.false)
+    legal_free a.image.now (reading_of a.image.now a.s) (flag c.whole.ensures c.if-not-whole.false)
     c.head_clean.result _ (flag (fine_is p.surveyed.tallied) c.if-t.true)
     (rw p.at_head at (single_by (rest a.image.now a.start).entries _ p.names c.if-n.false))
     (flag (rw p.at_head at c.marks_ok.ensures) c.if-marks_ok.true) (rw p.at_head at c.head_clean.ensures)
@@ -43,7 +43,7 @@ pub returns-else-marks_ok : goal.returns-else-marks_ok
 returns-else-marks_ok c =
     let p = c.requires.0 in
     let a = c.args in
-    legal_marks a.image.now (reading_of a.image.now a.s) (flag_not c.whole.ensures c.if-not-whole.false)
+    legal_marks a.image.now (reading_of a.image.now a.s) (flag c.whole.ensures c.if-not-whole.false)
     (flag (fine_is p.surveyed.tallied) c.if-t.true)
     (rw p.at_head at (single_by (rest a.image.now a.start).entries _ p.names c.if-n.false))
     (flag (rw p.at_head at c.marks_ok.ensures) c.if-marks_ok.false)
@@ -51,5 +51,5 @@ returns-else-marks_ok c =
 pub returns-else-t : goal.returns-else-t
 returns-else-t c =
     let a = c.args in
-    legal_names a.image.now (reading_of a.image.now a.s) (flag_not c.whole.ensures c.if-not-whole.false)
+    legal_names a.image.now (reading_of a.image.now a.s) (flag c.whole.ensures c.if-not-whole.false)
     (flag (fine_is c.requires.0.surveyed.tallied) c.if-t.false)

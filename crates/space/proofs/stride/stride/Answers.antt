@@ -13,7 +13,7 @@ returns-in_default c =
     let a = c.args in
     let i = a.image.now in
     let none = rest_done i a.u.walk.cursor c.advance.result c.advance.ensures.0
-    (other_step c.advance.result c.in_default.in_default-own.keys2) in
+    (other_step c.advance.result c.in_default.not-Record) in
     stride_none i (rest i a.start).entries a.u (ap (λ (r : Run). r.entries) none)
 
 pub is_live-requires : goal.is_live-requires
@@ -24,7 +24,7 @@ pub stride_live-requires : goal.stride_live-requires
 stride_live-requires c =
     let t = passes c.advance.ensures c.in-Record.is in
     let k = c.requires.1 in
-    ((t.onward.sound, t.whole, k.copy, k.place), (omega (arith, t.onward.name), t.onward.data_len))
+    record { cursor_sound = (t.onward.sound, t.whole, k.copy, k.place); n_bound = (omega (arith, t.onward.name), t.onward.data_len) }
 
 pub returns-then-is_live : goal.returns-then-is_live
 returns-then-is_live c =

@@ -13,7 +13,7 @@ pub returns-in_default : goal.returns-in_default
 returns-in_default c =
     hand_none c.requires.0 c.args.m c.advance.result c.first_cursor.ensures
     c.advance.ensures.0
-    (other_step c.advance.result c.in_default.in_default-own.keys2)
+    (other_step c.advance.result c.in_default.not-Record)
 
 pub advance-requires-2 : goal.advance-requires-2
 advance-requires-2 c =

@@ -12,7 +12,7 @@ advance-requires c = start_sound c.requires.led c.first_cursor-start.ensures
 pub returns-in_default : goal.returns-in_default
 returns-in_default c =
     plan_none c.requires c.advance.result c.first_cursor-start.ensures c.advance.ensures.0
-    (other_step c.advance.result c.in_default.in_default-own.keys2)
+    (other_step c.advance.result c.in_default.not-Record)
 
 pub is_live-requires : goal.is_live-requires
 is_live-requires c =
