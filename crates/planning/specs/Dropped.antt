@@ -13,7 +13,7 @@ use Rattle.spec.specs.Chain.{Reading, read}
 use Rattle.spec.specs.Files.{named, has_named, superseded}
 use Rattle.spec.specs.Mount.{delete_step, drop_steps}
 use Rattle.laws.specs.Tests.{and_left}
-use Rattle.laws.specs.Lists.{each_map, each_append, each_left, each_right}
+use Rattle.laws.specs.Lists.{keep_yes, keep_no, each_map, each_append, each_left, each_right}
 use Rattle.planning.specs.Planned.{with_status, dead_if}
 use Rattle.planning.specs.Kinds.{dead_finished, migrating_finished, kind_dead}
 use Rattle.planning.specs.Row.{kind_at, Stands, Row, row_none, row_more, row_end}
@@ -138,13 +138,21 @@ drops_zero q im (e ∷ es) = go (q e) refl (λ (s : Image). drops_zero q s es) w
       → Each (λ f. q f ≡ true → f.at + 2 < length im → get_or (run im (map delete_step (keep q (e ∷ es)))) (f.at + 2) 0 ≡ 0) (e ∷ es)
   go true g ih =
       let s : Image = set im (e.at + 2) 0 in
-      rw (keep, g) (
+      subst
+      (λ (l : List Entry). Each (λ f. q f ≡ true → f.at + 2 < length im → get_or (run im (map delete_step l)) (f.at + 2) 0 ≡ 0) (e ∷ es))
+      (sym (keep_yes q e es g)) (
         λ t l. zero_kept s (keep q es) (e.at + 2) (omega (arith, length-set im (e.at + 2) 0)) (get_or-set_same im (e.at + 2) 0 0 l),
         each_map {P = λ f. q f ≡ true → f.at + 2 < length s → get_or (run s (map delete_step (keep q es))) (f.at + 2) 0 ≡ 0}
             {Q = λ f. q f ≡ true → f.at + 2 < length im → get_or (run s (map delete_step (keep q es))) (f.at + 2) 0 ≡ 0} es
             (λ f p t l. p t (omega (arith, length-set im (e.at + 2) 0))) (ih s),
       )
-  go false g ih = rw (keep, g) (λ t l. absurd (let z : false ≡ true = t in let y : ◌≡◌ {A = ℕ} 0 1 = cc in omega arith), ih im)
+  go false g ih =
+      subst
+      (λ (l : List Entry). Each (λ f. q f ≡ true → f.at + 2 < length im → get_or (run im (map delete_step l)) (f.at + 2) 0 ≡ 0) (e ∷ es))
+      (sym (keep_no q e es g)) (
+        λ t l. absurd (false≢true (sym g ∙ t)),
+        ih im,
+      )
 
 -- ---- a whole reading
 

@@ -64,7 +64,7 @@ row_void {im} {lim} {o} {a} {p} {b} e [] l row =
     }
 row_void {im} {lim} {o} {a} {p} {b} e (f ∷ es) l row =
     let c = row_cons row in
-    let v = row_void f es l c.rest in
+    let v = row_void {o = is_unfinished e.it.status} f es l c.rest in
     let le = row_le c.rest in
     let left : Image = run im (last_steps im (f ∷ es)) in
     record {
@@ -105,9 +105,9 @@ row_idle {im} (e ∷ []) h row =
     let c = row_cons row in
     let z : is_unfinished e.it.status ≡ false = sym (row_nil c.rest).0 ∙ h in
     (void_idle im e z, ap₂ (λ (t u : Bool). void_by t u e ∷ []) (finished_none e.it.status z).0 z)
-row_idle {im} (e ∷ (f ∷ es)) h row =
+row_idle {im} {lim} {o} (e ∷ (f ∷ es)) h row =
     let c = row_cons row in
-    let ih = row_idle (f ∷ es) h c.rest in
+    let ih = row_idle {o = is_unfinished e.it.status} (f ∷ es) h c.rest in
     (ih.0, ap (λ (l : List Entry). e ∷ l) ih.1)
 
 -- ---- whole readings

@@ -9,15 +9,15 @@ use Rattle.recovery.specs.Counted.{counted_cut, counted_done}
 use Rattle.recovery.proofs.mend.Goals as goal
 
 pub returns-then-q : goal.returns-then-q
-returns-then-q c = counted_cut c.repair-p.ensures.0 c.if-q.true
+returns-then-q c = counted_cut c.repair-p.ensures.mends c.if-q.true
 
 pub count_files-requires : goal.count_files-requires
 count_files-requires c =
     rw c.first_cursor.ensures
-    (first_sound c.repair-p.new.image c.repair-p.result.head (omega (arith, c.repair-p.ensures.1))
-    (omega (arith, c.requires.0.1.1)))
+    (first_sound c.repair-p.new.image c.repair-p.result.head (omega (arith, c.repair-p.ensures.head_in_bounds))
+    (omega (arith, c.requires.readable.1.1)))
 
 pub returns : goal.returns
 returns c =
-    counted_done c.repair-p.ensures.0 c.survey-s.result c.count_files.result c.if-q.false c.survey-s.ensures
+    counted_done c.repair-p.ensures.mends c.survey-s.result c.count_files.result c.if-q.false c.survey-s.ensures
     (c.count_files.ensures ∙ ap (λ k. length (files (rest c.repair-p.new.image k).entries)) c.first_cursor.ensures)

@@ -32,7 +32,6 @@ has_last-requires c =
 pub returns : goal.returns
 returns c =
     let a = c.args in
-    let at = c.first-1.given in
     let first : Stowed = record { placed = At c.in-At.at c.in-At.marker c.in-At.place; largest = c.size-new.result } in
     let from : Cursor → Stowed = λ (k : Cursor). stow_files a.s.place first (others a.name.now (rest a.image.now k).entries) in
     let walked = c.stow_chain-stowed.ensures ∙ ap from c.first_cursor.ensures in

@@ -7,7 +7,7 @@ use Rattle.room.proofs.stow_far.Given as goal
 
 abbrev pub invariant-loop-e : goal.invariant-loop-e
 invariant-loop-e l =
-    Folded (stow_of l.place l.name) l.image l.initial.c l.first l.c (record { placed = l.first.placed; l.largest = l.largest }) × (left l.c ≤ left l.initial.c)
+    Folded (stow_of l.place l.name) l.image l.initial.c l.first l.c (record { placed = l.first.placed; largest = l.largest }) × (left l.c ≤ left l.initial.c)
 
 abbrev pub decreases-loop-e : goal.decreases-loop-e
 decreases-loop-e l = left l.c

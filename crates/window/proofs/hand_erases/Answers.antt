@@ -10,17 +10,19 @@ pub loop-a-init : goal.loop-a-init
 loop-a-init c = (refl, refl, refl, omega arith, omega arith, omega arith, λ u r h. h)
 
 pub loop-a-preserved : goal.loop-a-preserved
-loop-a-preserved c =
-    (
-      omega arith,
-      omega arith,
-      omega arith,
-      omega arith,
-      omega arith,
-      omega arith,
-      leads_more c.loop-a.invariant.6 (ap (map erase) (sectors_more c.loop-a.a c.args.to (omega arith))) c.hand_erase-q.ensures,
-    )
+loop-a-preserved c = (
+  omega arith,
+  omega arith,
+  omega arith,
+  omega arith,
+  omega arith,
+  omega arith,
+  leads_more c.loop-a.invariant.6 (ap (map erase) (sectors_more c.loop-a.a c.args.to (omega arith))) c.hand_erase-q.ensures,
+)
 
 pub returns : goal.returns
 returns c =
-    (leads_end c.loop-a.invariant.6 (ap (map erase) (sectors_none c.loop-a.a c.args.to (omega arith))), omega arith)
+    record {
+      handed = leads_end c.loop-a.invariant.6 (ap (map erase) (sectors_none c.loop-a.a c.args.to (omega arith)));
+      passed_bound = omega arith;
+    }

@@ -1,8 +1,9 @@
 -- By the status of the old file, if there is one.
 use borrow.Author.Tests.{eq-eqb, ne_eqb}
 use Rattle.spec.specs.Bytes.{is_committed}
+use Rattle.spec.specs.Write.{migrate_steps}
 use Rattle.flash.specs.Did.{did_none}
-use native.Mathlib.Omega.{arith}
+use Rattle.std.proofs.Common.{arith, ℕ, ◌≡◌, ◌≢◌, true, false}
 use Rattle.writing.proofs.migrate.Goals as goal
 
 pub returns-in_default : goal.returns-in_default
@@ -10,18 +11,23 @@ returns-in_default c = let a = c.args in rw c.in_default.is (did_none a.image.no
 
 pub set_status-requires : goal.set_status-requires
 set_status-requires c =
-    let l = rw c.in-At.is at c.requires.0 in
+    let l = rw c.in-At.is at c.requires.lies in
     omega arith
 
-pub returns-then-status : goal.returns-then-status
+-- the test on the status byte, as the steps have it
+committed : (s : ℕ) → s ≡ 0xFC → is_committed s ≡ true
 unfolding is_committed
+committed s e = eq-eqb s 0xFC e
+
+not_committed : (s : ℕ) → s ≢ 0xFC → is_committed s ≡ false
+unfolding is_committed
+not_committed s n = ne_eqb s 0xFC n
+
+pub returns-then-status : goal.returns-then-status
 returns-then-status c =
-    let old = c.old-1.given in
-    rw (c.in-At.is, eq-eqb c.in-At.status.byte 0xFC c.if-status.true) c.set_status.ensures
+    rw (c.in-At.is, committed c.in-At.status.byte c.if-status.true, migrate_steps) c.set_status.ensures
 
 pub returns : goal.returns
-unfolding is_committed
 returns c =
     let a = c.args in
-    let old = c.old-1.given in
-    rw (c.in-At.is, ne_eqb c.in-At.status.byte 0xFC c.if-status.false) (did_none a.image.now a.m)
+    rw (c.in-At.is, not_committed c.in-At.status.byte c.if-status.false, migrate_steps) (did_none a.image.now a.m)

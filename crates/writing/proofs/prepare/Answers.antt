@@ -8,7 +8,7 @@ use Rattle.writing.proofs.prepare.Goals as goal
 
 pub write_marker-requires : goal.write_marker-requires
 write_marker-requires c =
-    omega (arith, c.requires.1.0 c.if-marker.true, migrate_few (old_entry c.args.old))
+    omega (arith, c.requires.tail_in_bounds c.if-marker.true, migrate_few (old_entry c.args.old))
 
 pub returns-then-marker : goal.returns-then-marker
 returns-then-marker c =

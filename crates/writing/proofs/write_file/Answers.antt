@@ -10,37 +10,45 @@ use Rattle.writing.proofs.write_file.Goals as goal
 pub returns-in_default : goal.returns-in_default
 returns-in_default c =
     let a = c.args in
-    absurd (never_full a.place _ c.requires.0.taken
+    absurd (never_full a.place _ c.requires.ready.taken
     (rw c.size.ensures at (sym c.after.ensures ∙ c.in_default.is)))
 
 pub prepare-a-requires : goal.prepare-a-requires
 prepare-a-requires c =
     let a = c.args in
     let e = rw c.size.ensures at (sym c.after.ensures ∙ c.in-At.is) in
-    (c.requires.1, ((λ k. omega (arith, marker_spot a.place _ _ _ _ _ _ _ c.requires.0 e k)), omega (arith, c.requires.0.few)))
+    record {
+      lies = c.requires.lies;
+      tail_in_bounds = λ k. omega (arith, marker_spot a.place _ _ _ _ _ _ _ c.requires.ready e k);
+      can_count = omega (arith, c.requires.ready.few);
+    }
 
 pub write_record-b-requires : goal.write_record-b-requires
 write_record-b-requires c =
     let a = c.args in
-    let r = c.requires.0 in
+    let r = c.requires.ready in
     let e = rw c.size.ensures at (sym c.after.ensures ∙ c.in-At.is) in
     let few = prepare_few a.old c.in-At.marker a.place.tail in
-    (r.named, (omega (arith, spot a.place _ _ _ _ _ _ _ r e), omega (arith, r.few)))
+    record {
+      name_length = r.named;
+      content_in_bounds = omega (arith, spot a.place _ _ _ _ _ _ _ r e);
+      can_count = omega (arith, r.few);
+    }
 
 pub delete-requires : goal.delete-requires
 delete-requires c =
     let a = c.args in
-    let placed = c.at-1.given.0 in (
-      lies_same a.old (length a.image.now) _ c.requires.1 (omega arith),
-      omega (
+    record {
+      lies = lies_same a.old (length a.image.now) _ c.requires.lies (omega arith);
+      can_count = omega (
         arith,
-        c.requires.0.few,
+        c.requires.ready.few,
         c.prepare-a.ensures.count,
         c.write_record-b.ensures.count,
         prepare_few a.old c.in-At.marker a.place.tail,
         record_count c.in-At.at a.name.now a.content.now,
-      ),
-    )
+      );
+    }
 
 pub returns : goal.returns
 returns c =

@@ -13,10 +13,10 @@ old_file-old-requires c =
 pub write_file-requires : goal.write_file-requires
 write_file-requires c =
     let a = c.args in
-    let p = c.requires in (
-      ready a.image.now a.s (length a.name.now) (length a.content.now) a.m.asked p.0 p.1 p.2 p.3,
-      c.old_file-old.ensures.1,
-    )
+    let p = c.requires in record {
+      ready = ready a.image.now a.s (length a.name.now) (length a.content.now) a.m.asked p.0 p.1 p.2 p.3;
+      lies = c.old_file-old.ensures.1;
+    }
 
 pub returns : goal.returns
 returns c =

@@ -16,7 +16,6 @@ returns-in-Good c =
     let s = a.image.now in
     let n = a.name.now in
     let d = c.admitted_named-d in
-    let x = c.enum_told-1.given in
     let w = (rw c.in-Good.is at d.ensures.1).0 in (
       c.remove_from.ensures.0
           ∙ done_with s c.in-Good.field-0 w d.result.file a.allowance n removing (rw c.in-Good.is at d.ensures.2)

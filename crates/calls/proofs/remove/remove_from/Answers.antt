@@ -21,7 +21,7 @@ returns-in_default c =
 pub set_status-requires : goal.set_status-requires
 set_status-requires c =
     let w = rw c.in-At.is at c.requires in
-    (omega (arith, w.fits), omega arith)
+    record { at_in_bounds = omega (arith, w.fits); can_count = omega arith }
 
 pub returns : goal.returns
 returns c =

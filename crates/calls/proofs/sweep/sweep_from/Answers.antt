@@ -31,7 +31,7 @@ sweep_space-space-requires c =
 
 pub sweep-r-requires : goal.sweep-r-requires
 sweep-r-requires c =
-    (headed c.args.image.now c.args.s c.requires.0.accepted, omega arith)
+    record { place_of = headed c.args.image.now c.args.s c.requires.0.accepted; asked_bound = omega arith }
 
 pub returns-then-q : goal.returns-then-q
 returns-then-q c =

@@ -18,7 +18,6 @@ bounds-image-a c =
 
 pub returns : goal.returns
 returns c =
-    let f = c.f-1.given in
     let s = c.args.image.now in
     let w = rw c.in-At.is at c.requires.0 in
     (old_is s c.in-At.e _ c.from_byte.result c.from_byte.ensures (sym (ap (found_in s) c.in-At.is)), omega (arith, w.fits))

@@ -1,5 +1,5 @@
 use mathlib.Core.Path.{◌∙◌}
-use Rattle.laws.specs.Flag.{flag_not}
+use Rattle.laws.specs.Flag.{flag}
 use Rattle.chain.proofs.Others.{other_step}
 use Rattle.headers.specs.Walk.{begin_sound, begun, none_begun, begun_elsewhere, begun_fails, begun_well, shut_past}
 use Rattle.headers.proofs.measure.from_head.Goals as goal
@@ -35,7 +35,7 @@ returns-then-not-stands c =
     let p = c.requires in
     c.refused-then-not-stands.ensures
     ∙ begun_fails _ _ p.0 p.1 _ c.first_cursor-c.ensures _ c.forward-s.ensures _ c.in-Record.is c.if-e-h.false
-    (flag_not c.stands.ensures c.if-not-stands.true)
+    (flag c.stands.ensures c.if-not-stands.true)
 
 -- src/measure.rt:72:32
 pub noted-requires : goal.noted-requires
@@ -48,7 +48,7 @@ pub walk_on-requires : goal.walk_on-requires
 walk_on-requires c =
     let p = c.requires in
     let t = begun _ _ p.0 p.1 _ c.first_cursor-c.ensures _ c.forward-s.ensures c.in-Record.is in
-    (t.onward.sound, shut_past _ t (flag_not c.stands.ensures c.if-not-stands.false))
+    (t.onward.sound, shut_past _ t (flag c.stands.ensures c.if-not-stands.false))
 
 -- src/measure.rt:57:1
 pub returns : goal.returns
@@ -57,4 +57,4 @@ returns c =
     c.walk_on.ensures
     ∙ begun_well _ _ p.0 p.1 _ c.first_cursor-c.ensures _ c.forward-s.ensures _ c.in-Record.is _ _
     c.noted.ensures
-    c.no_sizes.ensures c.if-e-h.false (flag_not c.stands.ensures c.if-not-stands.false)
+    c.no_sizes.ensures c.if-e-h.false (flag c.stands.ensures c.if-not-stands.false)

@@ -1,5 +1,5 @@
 use mathlib.Core.Path.{◌∙◌}
-use Rattle.laws.specs.Flag.{flag_not}
+use Rattle.laws.specs.Flag.{flag}
 use Rattle.headers.specs.Walk.{steps, walking_start, walk_end, walk_fails, walk_step}
 use Rattle.chain.proofs.Others.{other_step}
 use Rattle.headers.proofs.measure.walk_on.Goals as goal
@@ -37,7 +37,7 @@ pub returns-then-not-stands : goal.returns-then-not-stands
 returns-then-not-stands c =
     c.refused.ensures
     ∙ walk_fails c.loop-e.invariant (steps _ _ c.loop-e.invariant.shut _ c.forward-s.ensures c.in-Record.is)
-    (flag_not c.stands.ensures c.if-not-stands.true)
+    (flag c.stands.ensures c.if-not-stands.true)
 
 -- src/measure.rt:51:9
 pub noted-x-requires : goal.noted-x-requires
@@ -53,4 +53,4 @@ loop-e-smaller c =
 pub loop-e-preserved : goal.loop-e-preserved
 loop-e-preserved c =
     walk_step c.loop-e.invariant (steps _ _ c.loop-e.invariant.shut _ c.forward-s.ensures c.in-Record.is) c.noted-x.ensures
-    (flag_not c.stands.ensures c.if-not-stands.false)
+    (flag c.stands.ensures c.if-not-stands.false)

@@ -5,8 +5,8 @@ use Rattle.planner.proofs.close.hand_cleaned.Goals as goal
 
 pub returns : goal.returns
 returns c =
-    let a = c.args in (
-      rw (cleaned_is a.image.now a.x c.requires.0.0 c.up_8.ensures) c.hand_pairs.ensures.0,
-      omega
-          (arith, c.hand_pairs.ensures.1),
-    )
+    let a = c.args in record {
+      handed = rw (cleaned_is a.image.now a.x c.requires.whole.0 c.up_8.ensures) c.hand_pairs.ensures.handed;
+      passed_bound = omega
+          (arith, c.hand_pairs.ensures.passed_bound);
+    }

@@ -11,19 +11,19 @@ returns-then-floor-to c =
     let a = c.args in
     let h = c.hand_start-a.ensures in (
       rw (forget_none (standing a.x) {to = a.to} c.floor.ensures.0 c.if-floor-to.true, append-nil (start_steps a.y a.low))
-          h.0,
-      omega (arith, h.1),
+          h.handed,
+      omega (arith, h.passed_bound),
     )
 
 pub hand_program-requires : goal.hand_program-requires
 hand_program-requires c =
-    (omega (arith, c.requires), omega (arith, c.requires, c.hand_start-a.ensures.1))
+    (omega (arith, c.requires), omega (arith, c.requires, c.hand_start-a.ensures.passed_bound))
 
 pub returns : goal.returns
 returns c =
     let a = c.args in
     let h = c.hand_start-a.ensures in
     let one = c.hand_program.ensures in (
-      rw (forget_this (standing a.x) {to = a.to} c.floor.ensures.0 c.if-floor-to.false) (handed_both h.0 one),
-      omega (arith, h.1, one.count),
+      rw (forget_this (standing a.x) {to = a.to} c.floor.ensures.0 c.if-floor-to.false) (handed_both h.handed one),
+      omega (arith, h.passed_bound, one.count),
     )

@@ -8,16 +8,16 @@ use Rattle.planner.proofs.close.hand_pair.Goals as goal
 
 pub returns-then-is_mark : goal.returns-then-is_mark
 returns-then-is_mark c =
-    let a = c.args in (
-      rw (marked a.image.now a.at (sym (mark_at a.image.now a.at) ∙ flag c.is_mark.ensures c.if-is_mark.true))
-          c.hand_program.ensures,
-      omega (arith, c.hand_program.ensures.count),
-    )
+    let a = c.args in record {
+      handed = rw (marked a.image.now a.at (sym (mark_at a.image.now a.at) ∙ flag c.is_mark.ensures c.if-is_mark.true))
+          c.hand_program.ensures;
+      passed_bound = omega (arith, c.hand_program.ensures.count);
+    }
 
 pub returns : goal.returns
 returns c =
-    let a = c.args in (
-      rw (unmarked a.image.now a.at (sym (mark_at a.image.now a.at) ∙ flag c.is_mark.ensures c.if-is_mark.false))
-          (handed_none (slices a.kinds.now a.addresses.now a.bytes.now) a.w),
-      omega arith,
-    )
+    let a = c.args in record {
+      handed = rw (unmarked a.image.now a.at (sym (mark_at a.image.now a.at) ∙ flag c.is_mark.ensures c.if-is_mark.false))
+          (handed_none (slices a.kinds.now a.addresses.now a.bytes.now) a.w);
+      passed_bound = omega arith;
+    }

@@ -13,7 +13,7 @@ loop-i-init c =
       omega arith,
       omega arith,
       omega arith,
-      pairs_start a.image.now a.at a.d c.requires.0.0
+      pairs_start a.image.now a.at a.d c.requires.d_in_bounds.0
           (slices a.kinds.now a.addresses.now a.bytes.now) a.w,
     )
 
@@ -27,13 +27,16 @@ loop-i-preserved c =
       omega arith,
       omega arith,
       omega (arith, more),
-      omega (arith, more, h.1, l.invariant),
-      omega (arith, h.1, l.invariant),
-      pairs_more a.image.now a.at a.d c.requires.0.0 l.i l.invariant.6 more h.0,
+      omega (arith, more, h.passed_bound, l.invariant),
+      omega (arith, h.passed_bound, l.invariant),
+      pairs_more a.image.now a.at a.d c.requires.d_in_bounds.0 l.i l.invariant.6 more h.handed,
     )
 
 pub returns : goal.returns
 returns c =
     let a = c.args in
     let l = c.loop-i in
-    (pairs_end a.image.now a.at a.d c.requires.0.0 l.i l.invariant.6 (omega arith), omega arith)
+    record {
+      handed = pairs_end a.image.now a.at a.d c.requires.d_in_bounds.0 l.i l.invariant.6 (omega arith);
+      passed_bound = omega arith;
+    }

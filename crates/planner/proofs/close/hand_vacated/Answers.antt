@@ -5,9 +5,12 @@ use Rattle.planner.proofs.close.hand_vacated.Goals as goal
 
 pub hand_over-requires : goal.hand_over-requires
 hand_over-requires c =
-    ((omega (arith, c.requires), omega (arith, c.requires)), omega (arith, c.requires, c.hand_erases-a.ensures.1))
+    ((omega (arith, c.requires), omega (arith, c.requires)), omega (arith, c.requires, c.hand_erases-a.ensures.passed_bound))
 
 pub returns : goal.returns
 returns c =
-    let e = rw c.floor.ensures.0 at c.hand_erases-a.ensures.0 in
-    (handed_both e c.hand_over.ensures.0, omega (arith, c.hand_erases-a.ensures.1, c.hand_over.ensures.1))
+    let e = rw c.floor.ensures.0 at c.hand_erases-a.ensures.handed in
+    record {
+      handed = handed_both e c.hand_over.ensures.0;
+      passed_bound = omega (arith, c.hand_erases-a.ensures.passed_bound, c.hand_over.ensures.1);
+    }

@@ -13,7 +13,7 @@ pub returns-then-t-lt2 : goal.returns-then-t-lt2
 returns-then-t-lt2 c =
     let a = c.args in
     let s = slices a.kinds.now a.addresses.now a.bytes.now in
-    (rw (second_missing c.requires.0 c.if-t-lt2.true) (handed_none s a.w), omega arith)
+    record { handed = rw (second_missing c.requires.0 c.if-t-lt2.true) (handed_none s a.w); passed_bound = omega arith }
 
 pub returns-then-is_clean : goal.returns-then-is_clean
 returns-then-is_clean c =
@@ -24,14 +24,17 @@ returns-then-is_clean c =
     let clean = clean_told low c.is_clean.ensures c.if-is_clean.true in
     let same = close_same (length i) (entry_of i t.first) (entry_of i t.second) (standing t.second.at) _ refl in
     let closed = second_clean c.requires.0 c.if-t-lt2.false low clean ∙ same in
-    (rw closed h.0, omega (arith, h.1))
+    record { handed = rw closed h.handed; passed_bound = omega (arith, h.passed_bound) }
 
 pub returns-then-low-eq-START : goal.returns-then-low-eq-START
 returns-then-low-eq-START c =
     let low = c.low_of-low.ensures in
     let h = c.hand_program.ensures in
     let clean = clean_told low c.is_clean.ensures c.if-is_clean.false in
-    (rw (second_start c.requires.0 c.if-t-lt2.false low clean c.if-low-eq-START.true) h, omega (arith, h.count))
+    record {
+      handed = rw (second_start c.requires.0 c.if-t-lt2.false low clean c.if-low-eq-START.true) h;
+      passed_bound = omega (arith, h.count);
+    }
 
 pub returns : goal.returns
 returns c =
@@ -39,4 +42,7 @@ returns c =
     let s = slices a.kinds.now a.addresses.now a.bytes.now in
     let low = c.low_of-low.ensures in
     let clean = clean_told low c.is_clean.ensures c.if-is_clean.false in
-    (rw (second_other c.requires.0 c.if-t-lt2.false low clean c.if-low-eq-START.false) (handed_none s a.w), omega arith)
+    record {
+      handed = rw (second_other c.requires.0 c.if-t-lt2.false low clean c.if-low-eq-START.false) (handed_none s a.w);
+      passed_bound = omega arith;
+    }

@@ -19,11 +19,14 @@ loop-a-preserved c =
       omega arith,
       omega arith,
       omega arith,
-      leads_more l.invariant.6 (dirty_next a.image.now l.a a.to (omega arith)) c.hand_if_dirty-q.ensures.0,
+      leads_more l.invariant.6 (dirty_next a.image.now l.a a.to (omega arith)) c.hand_if_dirty-q.ensures.handed,
     )
 
 pub returns : goal.returns
 returns c =
     let l = c.loop-a in
     let a = c.args in
-    (leads_end l.invariant.6 (ap (dirty_erased a.image.now) (sectors_none l.a a.to (omega arith))), omega arith)
+    record {
+      handed = leads_end l.invariant.6 (ap (dirty_erased a.image.now) (sectors_none l.a a.to (omega arith)));
+      passed_bound = omega arith;
+    }

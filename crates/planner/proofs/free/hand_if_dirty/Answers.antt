@@ -9,11 +9,14 @@ returns-then-is_blank c =
     let a = c.args in
     let s = a.image.now in
     let none = erase_kept s a.at (dirty_is s a.at c.is_blank.ensures c.if-is_blank.true) in
-    (rw none (handed_none (slices a.kinds.now a.addresses.now a.bytes.now) a.w), omega arith)
+    record { handed = rw none (handed_none (slices a.kinds.now a.addresses.now a.bytes.now) a.w); passed_bound = omega arith }
 
 pub returns : goal.returns
 returns c =
     let a = c.args in
     let s = a.image.now in
     let h = c.hand_erase.ensures in
-    (rw (erase_kept s a.at (dirty_is s a.at c.is_blank.ensures c.if-is_blank.false)) h, omega (arith, h.count))
+    record {
+      handed = rw (erase_kept s a.at (dirty_is s a.at c.is_blank.ensures c.if-is_blank.false)) h;
+      passed_bound = omega (arith, h.count);
+    }

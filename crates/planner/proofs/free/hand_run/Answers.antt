@@ -8,13 +8,16 @@ pub returns-then-p : goal.returns-then-p
 returns-then-p c =
     let a = c.args in
     let h = c.hand_dirty.ensures in
-    let one = run_one a.image.now a.p c.floor-low.ensures.0 c.ceiling-from.ensures.0 c.if-p.true in
-    (rw one h.0, omega (arith, h.1, c.requires.0.head, c.floor-low.ensures.1))
+    let one = run_one a.image.now a.p c.floor-low.ensures.0 c.ceiling-from.ensures.value c.if-p.true in
+    record { handed = rw one h.handed; passed_bound = omega (arith, h.passed_bound, c.requires.0.head, c.floor-low.ensures.1) }
 
 pub returns : goal.returns
 returns c =
     let a = c.args in
     let g = c.hand_dirty-a.ensures in
     let h = c.hand_dirty-2.ensures in
-    let two = run_two a.image.now a.p c.floor-low.ensures.0 c.ceiling-from.ensures.0 c.if-p.false in
-    (rw two (handed_both g.0 h.0), omega (arith, g.1, h.1, c.requires.0.head, c.requires.0.whole, c.floor-low.ensures.1))
+    let two = run_two a.image.now a.p c.floor-low.ensures.0 c.ceiling-from.ensures.value c.if-p.false in
+    record {
+      handed = rw two (handed_both g.handed h.handed);
+      passed_bound = omega (arith, g.passed_bound, h.passed_bound, c.requires.0.head, c.requires.0.whole, c.floor-low.ensures.1);
+    }

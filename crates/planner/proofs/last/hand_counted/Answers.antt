@@ -8,9 +8,9 @@ pub returns-then-t-eq0 : goal.returns-then-t-eq0
 returns-then-t-eq0 c =
     let a = c.args in
     let s = slices a.kinds.now a.addresses.now a.bytes.now in
-    (rw (none_counted c.requires.0.tallied c.if-t-eq0.true) (handed_none s a.w), omega arith)
+    record { handed = rw (none_counted c.requires.0.tallied c.if-t-eq0.true) (handed_none s a.w); passed_bound = omega arith }
 
 pub returns : goal.returns
 returns c =
     let h = c.hand_void.ensures in
-    (rw (last_counted c.requires.0.tallied c.if-t-eq0.false) h.0, omega (arith, h.1))
+    record { handed = rw (last_counted c.requires.0.tallied c.if-t-eq0.false) h.handed; passed_bound = omega (arith, h.passed_bound) }

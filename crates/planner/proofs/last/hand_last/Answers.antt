@@ -7,4 +7,4 @@ pub returns : goal.returns
 returns c =
     let g = c.hand_counted-a.ensures in
     let h = c.hand_wrap.ensures in
-    (handed_both g.0 h.0, omega (arith, g.1, h.1))
+    record { handed = handed_both g.handed h.handed; passed_bound = omega (arith, g.passed_bound, h.passed_bound) }

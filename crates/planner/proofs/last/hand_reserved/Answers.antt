@@ -9,4 +9,4 @@ returns c =
     let ended = c.hand_missing-a.ensures in
     let gone = c.hand_void_status.ensures in
     let is = reserved_is c.args.image.now c.args.e c.requires.0 in
-    (rw is (handed_both ended.0 gone), omega (arith, ended.1, gone.count))
+    record { handed = rw is (handed_both ended.handed gone); passed_bound = omega (arith, ended.passed_bound, gone.count) }

@@ -9,10 +9,10 @@ hand_free-a-requires c =
 
 pub hand_finish-requires : goal.hand_finish-requires
 hand_finish-requires c =
-    (c.requires.0, omega (arith, c.requires.1, c.hand_free-a.ensures.1))
+    (c.requires.0, omega (arith, c.requires.1, c.hand_free-a.ensures.passed_bound))
 
 pub returns : goal.returns
 returns c =
     let g = c.hand_free-a.ensures in
     let h = c.hand_finish.ensures in
-    (handed_both g.0 h.0, omega (arith, g.1, h.1))
+    record { handed = handed_both g.handed h.handed; passed_bound = omega (arith, g.passed_bound, h.passed_bound) }

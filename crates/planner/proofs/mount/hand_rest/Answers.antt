@@ -4,4 +4,4 @@ use Rattle.planner.proofs.mount.hand_rest.Goals as goal
 
 pub returns : goal.returns
 returns c =
-    handed_both c.hand_last-a.ensures.0 c.hand_superseded.ensures
+    handed_both c.hand_last-a.ensures.handed c.hand_superseded.ensures

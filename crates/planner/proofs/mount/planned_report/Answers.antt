@@ -9,11 +9,11 @@ use Rattle.planner.proofs.mount.planned_report.Goals as goal
 
 pub count_files-requires : goal.count_files-requires
 count_files-requires c =
-    rw c.first_cursor.ensures c.requires.0.tallied.sound
+    rw c.first_cursor.ensures c.requires.surveyed.tallied.sound
 
 pub returns : goal.returns
 returns c =
     let a = c.args in
     let im = a.image.now in
-    report_told (reading_of im a.s) c.requires.1 c.mended_place-p.ensures
+    report_told (reading_of im a.s) c.requires.s_value c.mended_place-p.ensures
     (c.count_files.ensures ∙ ap (λ k. length (files (rest im k).entries)) c.first_cursor.ensures)

@@ -12,11 +12,11 @@ returns-then-is_superseded c =
     let s = a.image.now in
     let h = c.hand_status.ensures in
     let this = drop_this s (rest s a.start).entries (entry_of s a.e) (flag c.is_superseded.ensures c.if-is_superseded.true) in
-    (rw this h, omega (arith, h.count))
+    record { handed = rw this h; passed_bound = omega (arith, h.count) }
 
 pub returns : goal.returns
 returns c =
     let a = c.args in
     let s = a.image.now in
     let none = drop_none s (rest s a.start).entries (entry_of s a.e) (flag c.is_superseded.ensures c.if-is_superseded.false) in
-    (rw none (handed_none (slices a.kinds.now a.addresses.now a.bytes.now) a.w), omega arith)
+    record { handed = rw none (handed_none (slices a.kinds.now a.addresses.now a.bytes.now) a.w); passed_bound = omega arith }

@@ -46,6 +46,6 @@ loop-e-preserved c =
       omega arith,
       omega arith,
       t.onward.sound,
-      omega (arith, l.invariant.4, t.onward.less, h.1),
-      leads_more l.invariant.5 (drops_on (rest s a.start).entries (entry_of s e) (entries_on s l.c e next t)) h.0,
+      omega (arith, l.invariant.4, t.onward.less, h.passed_bound),
+      leads_more l.invariant.5 (drops_on (rest s a.start).entries (entry_of s e) (entries_on s l.c e next t)) h.handed,
     )

@@ -15,40 +15,43 @@ returns-in_default c =
     let i = a.image.now in
     let none = rest_done i a.v.cursor c.advance.result c.advance.ensures.0
     (other_step c.advance.result c.in_default.not-Record) in
-    move_none i (rest i a.start).entries a.v c.requires.0.1 (slices a.kinds.now a.addresses.now a.bytes.now) a.w
+    move_none i (rest i a.start).entries a.v c.requires.cursor_sound.1 (slices a.kinds.now a.addresses.now a.bytes.now) a.w
     (ap (λ (r : Run). r.entries) none)
 
 pub is_live-requires : goal.is_live-requires
 is_live-requires c =
     let t = passes c.advance.ensures c.in-Record.is in
-    (c.requires.0.0, t.whole)
+    (c.requires.cursor_sound.0, t.whole)
 
 pub hand_live-requires : goal.hand_live-requires
 hand_live-requires c =
     let t = passes c.advance.ensures c.in-Record.is in
-    let k = c.requires.0.1 in
-    ((t.onward.sound, t.whole, k.copy, k.place), (omega (arith, t.onward.name), t.onward.data_len, c.requires.1))
+    let k = c.requires.cursor_sound.1 in
+    record {
+      cursor_sound = (t.onward.sound, t.whole, k.copy, k.place);
+      name_length = (omega (arith, t.onward.name), t.onward.data_len, c.requires.passed_bound);
+    }
 
 pub returns-then-is_live : goal.returns-then-is_live
 returns-then-is_live c =
     let a = c.args in
     let i = a.image.now in
     let t = passes c.advance.ensures c.in-Record.is in
-    move_live i (rest i a.start).entries a.v c.requires.0.1 c.in-Record.x c.in-Record.past
+    move_live i (rest i a.start).entries a.v c.requires.cursor_sound.1 c.in-Record.x c.in-Record.past
     (ap (λ (r : Run). r.entries) t.split) _ _ a.w c.hand_live.result
     (flag c.is_live.ensures c.if-is_live.true) c.hand_live.ensures
 
 pub hand_over-requires : goal.hand_over-requires
 hand_over-requires c =
     let t = passes c.advance.ensures c.in-Record.is in
-    let k = c.requires.0.1 in
-    ((t.onward.sound, t.whole, k.copy, k.place), omega (arith, c.requires.1))
+    let k = c.requires.cursor_sound.1 in
+    ((t.onward.sound, t.whole, k.copy, k.place), omega (arith, c.requires.passed_bound))
 
 pub returns : goal.returns
 returns c =
     let a = c.args in
     let i = a.image.now in
     let t = passes c.advance.ensures c.in-Record.is in
-    move_dead i (rest i a.start).entries a.v c.requires.0.1 c.in-Record.x c.in-Record.past
+    move_dead i (rest i a.start).entries a.v c.requires.cursor_sound.1 c.in-Record.x c.in-Record.past
     (ap (λ (r : Run). r.entries) t.split) _ _ a.w c.hand_over.result
     (flag c.is_live.ensures c.if-is_live.false) c.hand_over.ensures

@@ -5,12 +5,12 @@ use Rattle.planner.proofs.sweep.hand_next.Goals as goal
 
 pub hand_close-requires : goal.hand_close-requires
 hand_close-requires c =
-    (c.requires.0, omega (arith, c.requires.1, c.hand_program-a.ensures.count))
+    record { whole = c.requires.whole; counts = omega (arith, c.requires.counts, c.hand_program-a.ensures.count) }
 
 pub returns : goal.returns
 returns c =
-    (
-      handed_both c.hand_program-a.ensures c.hand_close.ensures.0,
-      omega
-          (arith, c.hand_program-a.ensures.count, c.hand_close.ensures.1),
-    )
+    record {
+      handed = handed_both c.hand_program-a.ensures c.hand_close.ensures.handed;
+      passed_bound = omega
+          (arith, c.hand_program-a.ensures.count, c.hand_close.ensures.passed_bound);
+    }

@@ -22,7 +22,10 @@ pub hand_next-a-requires : goal.hand_next-a-requires
 hand_next-a-requires c =
     let y = rw c.in-At.is at c.find_next.ensures.1 in
     let g = c.requires.0.3 in
-    ((c.requires.0.1, y, omega (arith, g.sound.short, g.whole)), omega (arith, c.requires.1, g.sound.short, g.whole))
+    record {
+      whole = (c.requires.0.1, y, omega (arith, g.sound.short, g.whole));
+      counts = omega (arith, c.requires.1, g.sound.short, g.whole);
+    }
 
 pub returns : goal.returns
 returns c =
@@ -35,8 +38,8 @@ returns c =
     let e = sym c.find_next.ensures.0 ∙ c.in-At.is in
     rw c.led.ensures (record {
       steps = over_steps n (entry_of i a.x) y;
-      handed = c.hand_next-a.ensures.0;
+      handed = c.hand_next-a.ensures.handed;
       moves = λ k all ss. over_at k all n (entry_of i a.x) (rest i a.past).entries a.place a.copy ss y e;
       known = record { cursor = p.0; place = led_walkable n a.place y p.3 below; copy = p.2 };
-      few = c.hand_next-a.ensures.1;
+      few = c.hand_next-a.ensures.passed_bound;
     })

@@ -21,7 +21,7 @@ loop-left-init c =
 pub hand_move-t-requires : goal.hand_move-t-requires
 hand_move-t-requires c =
     let g = c.loop-left.invariant.4 in
-    ((c.requires.0, g.known), omega (arith, g.few, c.requires.3, c.loop-left.invariant.3))
+    record { cursor_sound = (c.requires.0, g.known); passed_bound = omega (arith, g.few, c.requires.3, c.loop-left.invariant.3) }
 
 pub returns-in-Stop : goal.returns-in-Stop
 returns-in-Stop c =

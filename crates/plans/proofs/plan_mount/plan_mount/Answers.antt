@@ -9,7 +9,6 @@ use Rattle.plans.proofs.plan_mount.plan_mount.Goals as goal
 
 pub plan_mount_from-requires : goal.plan_mount_from-requires
 plan_mount_from-requires c =
-    let x = c.x-1.given in
     let read = c.accepted-x.ensures in
     let a = rw c.in-Good.is at read.1 in
     (a.0, legal_given c.args.image.now c.in-Good.j read.0 c.in-Good.is, a.1)
@@ -19,7 +18,6 @@ returns-in-Good c =
     let a = c.args in
     let s = slices a.kinds.now a.addresses.now a.bytes.now in
     let i = a.image.now in
-    let x = c.x-1.given in
     let done = c.plan_mount_from.ensures in (
       done.0
           ∙ let_out (reading_of i c.in-Good.j.survey) a.first s (mount_of i) (sym (ap (judged_as i) c.in-Good.is) ∙ c.accepted-x.ensures.0)
@@ -33,7 +31,6 @@ returns-in-Refused c =
     let a = c.args in
     let s = slices a.kinds.now a.addresses.now a.bytes.now in
     let i = a.image.now in
-    let x = c.x-in-Refused-1.given in
     let read = c.accepted-x.ensures in
     rw c.refused_mount.ensures (
       shut_out _ a.first s (mount_of i) (sym (ap (judged_as i) c.in-Refused.is) ∙ read.0) ∙ mount_planned i a.first s,

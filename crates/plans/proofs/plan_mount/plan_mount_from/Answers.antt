@@ -8,7 +8,7 @@ use Rattle.plans.proofs.plan_mount.plan_mount_from.Goals as goal
 pub planned_report-report-requires : goal.planned_report-report-requires
 planned_report-report-requires c =
     let p = c.requires in
-    (p.0.surveyed, marks_are p.1)
+    record { surveyed = p.0.surveyed; s_value = marks_are p.1 }
 
 pub mount_space-space-requires : goal.mount_space-space-requires
 mount_space-space-requires c =
@@ -18,10 +18,10 @@ mount_space-space-requires c =
 pub hand_mend-w-requires : goal.hand_mend-w-requires
 hand_mend-w-requires c =
     let a = c.args in
-    let p = c.requires in (
-      (p.0.surveyed, torn_told a.image.now a.s p.0, omega (arith, c.from.ensures.1, p.0.led.small)),
-      marks_are p.1,
-    )
+    let p = c.requires in record {
+      surveyed = (p.0.surveyed, torn_told a.image.now a.s p.0, omega (arith, c.from.ensures.1, p.0.led.small));
+      s_value = marks_are p.1;
+    }
 
 pub returns : goal.returns
 returns c =

@@ -15,10 +15,10 @@ hand_file-requires c =
     let a = c.args in
     let p = c.requires in
     let n = length a.image.now in
-    let whole = p.0.accepted.surveyed.place.whole in (
-      ready_place a.image.now a.s (length a.name.now) (length a.content.now) a.w.passed p.0 p.1 p.2 p.3,
-      lies_same c.old_file-old.result n a.s.place.length c.old_file-old.ensures.1 whole,
-    )
+    let whole = p.0.accepted.surveyed.place.whole in record {
+      ready = ready_place a.image.now a.s (length a.name.now) (length a.content.now) a.w.passed p.0 p.1 p.2 p.3;
+      lies = lies_same c.old_file-old.result n a.s.place.length c.old_file-old.ensures.1 whole;
+    }
 
 pub returns : goal.returns
 returns c =

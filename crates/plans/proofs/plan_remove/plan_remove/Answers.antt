@@ -22,7 +22,6 @@ returns-in-Good c =
     let i = a.image.now in
     let n = a.name.now in
     let d = c.admitted_named-d in
-    let x = c.enum_told-1.given in
     let r = reading_of i c.in-Good.field-0 in
     let told = rw c.in-Good.is at d.ensures.2 in (
       c.plan_remove_from.ensures.0

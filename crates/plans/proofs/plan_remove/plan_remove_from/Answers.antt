@@ -29,14 +29,13 @@ pub hand_status-w-requires : goal.hand_status-w-requires
 hand_status-w-requires c =
     let p = c.requires in
     let w = rw c.in-At.is at p.0 in
-    (omega (arith, w.fits, p.1), omega (arith, c.from.ensures.1))
+    record { at_bound = omega (arith, w.fits, p.1); counts = omega (arith, c.from.ensures.1) }
 
 pub returns : goal.returns
 returns c =
     let a = c.args in
     let i = a.image.now in
     let s = slices a.kinds.now a.addresses.now a.bytes.now in
-    let f = c.f-1.given in
     rw (c.planned_write.ensures, c.shortest-slots.ensures) (
       written_out (status_step (entry_of i c.in-At.e) 0x00 ∷ []) a.first c.from.ensures.0 c.from.ensures.1
           c.hand_status-w.ensures

@@ -8,7 +8,6 @@ use Rattle.plans.proofs.plan_sweep.plan_sweep.Goals as goal
 
 pub plan_sweep_from-requires : goal.plan_sweep_from-requires
 plan_sweep_from-requires c =
-    let x = c.x-1.given in
     let read = c.admitted-x.ensures in
     (rw c.in-Good.is at read.1, sym (ap (answered c.args.image.now) c.in-Good.is) ∙ read.0)
 
@@ -17,7 +16,6 @@ returns-in-Good c =
     let a = c.args in
     let s = slices a.kinds.now a.addresses.now a.bytes.now in
     let i = a.image.now in
-    let x = c.x-1.given in
     let done = c.plan_sweep_from.ensures in (
       done.0
           ∙ let_out (reading_of i c.in-Good.s) a.first s (sweep_of i) (sym (ap (answered i) c.in-Good.is) ∙ c.admitted-x.ensures.0)
@@ -31,7 +29,6 @@ returns-in-Refused c =
     let a = c.args in
     let s = slices a.kinds.now a.addresses.now a.bytes.now in
     let i = a.image.now in
-    let x = c.x-in-Refused-1.given in
     let read = c.admitted-x.ensures in
     rw c.refused_sweep.ensures (
       shut_out _ a.first s (sweep_of i) (sym (ap (answered i) c.in-Refused.is) ∙ read.0) ∙ sweep_planned i a.first s,

@@ -6,13 +6,13 @@ use Rattle.recovery.proofs.last.finish_wrap.Goals as goal
 
 pub write_marker-requires : goal.write_marker-requires
 write_marker-requires c =
-    let p = rw c.in-TornWrap.is at c.requires.0 in (omega arith, omega arith)
+    let p = rw c.in-TornWrap.is at c.requires.torn_inside in record { at_in_bounds = omega arith; can_count = omega arith }
 
 pub returns-in-TornWrap : goal.returns-in-TornWrap
 returns-in-TornWrap c =
-    (rw c.in-TornWrap.is c.write_marker.ensures, omega arith)
+    record { did = rw c.in-TornWrap.is c.write_marker.ensures; asked_most = omega arith }
 
 pub returns-in_default : goal.returns-in_default
 returns-in_default c =
     let a = c.args in
-    (rw (no_torn_wrap a.ending c.in_default.in_default-own.keys2) (did_none a.image.now a.m), omega arith)
+    record { did = rw (no_torn_wrap a.ending c.in_default.in_default-own.keys2) (did_none a.image.now a.m); asked_most = omega arith }

@@ -7,8 +7,8 @@ use Rattle.recovery.proofs.last.void_counted.Goals as goal
 pub returns-then-t-eq0 : goal.returns-then-t-eq0
 returns-then-t-eq0 c =
     let a = c.args in
-    (rw (none_counted c.requires.0 c.if-t-eq0.true) (did_none a.image.now a.m), omega arith)
+    record { fact = rw (none_counted c.requires.tallied c.if-t-eq0.true) (did_none a.image.now a.m); asked_most = omega arith }
 
 pub returns : goal.returns
 returns c =
-    (rw (last_counted c.requires.0 c.if-t-eq0.false) c.void_record.ensures.0, omega arith)
+    record { fact = rw (last_counted c.requires.tallied c.if-t-eq0.false) c.void_record.ensures.fact; asked_most = omega arith }

@@ -7,5 +7,5 @@ use Rattle.recovery.proofs.last.void_reserved.Goals as goal
 pub returns : goal.returns
 returns c =
     let a = c.args in
-    let both = did_both c.end_name-a.ensures.0 c.void_status.ensures in
-    (rw (reserved_is a.image.now a.e c.requires.0) both, omega arith)
+    let both = did_both c.end_name-a.ensures.fact c.void_status.ensures in
+    record { fact = rw (reserved_is a.image.now a.e c.requires.whole) both; asked_most = omega arith }

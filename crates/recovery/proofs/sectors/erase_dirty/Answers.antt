@@ -25,17 +25,18 @@ loop-a-preserved c =
       omega arith,
       omega arith,
       omega arith,
-      e.1.1 (a + 4096) (omega arith)
+      e.by_index (a + 4096) (omega arith)
           ∙ later_on a (a + 4096) s c.loop-a.image (omega arith) inv.4,
-      e.1.1 to (omega arith)
+      e.by_index to (omega arith)
           ∙ inv.5,
-      toward_more inv.6 (dirty_more s c.loop-a.image a to (omega arith) inv.4) e.0,
+      toward_more inv.6 (dirty_more s c.loop-a.image a to (omega arith) inv.4) e.fact,
     )
 
 pub returns : goal.returns
 returns c =
-    let inv = c.loop-a.invariant in (
-      toward_end inv.6 (ap (λ l. map erase (keep (dirty c.args.image.now) l))
-          (sectors_none c.loop-a.a c.args.to (omega arith))),
-      (omega arith, inv.5),
-    )
+    let inv = c.loop-a.invariant in record {
+      fact = toward_end inv.6 (ap (λ l. map erase (keep (dirty c.args.image.now) l))
+          (sectors_none c.loop-a.a c.args.to (omega arith)));
+      asked_most = omega arith;
+      image_unchanged = inv.5;
+    }

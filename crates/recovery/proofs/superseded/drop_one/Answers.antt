@@ -8,16 +8,16 @@ use Rattle.recovery.proofs.superseded.drop_one.Goals as goal
 
 pub returns-then-is_superseded : goal.returns-then-is_superseded
 returns-then-is_superseded c =
-    let a = c.args in (
-      rw (drop_this a.image.now (rest a.image.now a.start).entries (entry_of a.image.now a.e)
-          (flag c.is_superseded.ensures c.if-is_superseded.true)) c.set_status.ensures,
-      omega arith,
-    )
+    let a = c.args in record {
+      fact = rw (drop_this a.image.now (rest a.image.now a.start).entries (entry_of a.image.now a.e)
+          (flag c.is_superseded.ensures c.if-is_superseded.true)) c.set_status.ensures;
+      asked_most = omega arith;
+    }
 
 pub returns : goal.returns
 returns c =
-    let a = c.args in (
-      rw (drop_none a.image.now (rest a.image.now a.start).entries (entry_of a.image.now a.e)
-          (flag c.is_superseded.ensures c.if-is_superseded.false)) (did_none a.image.now a.m),
-      omega arith,
-    )
+    let a = c.args in record {
+      fact = rw (drop_none a.image.now (rest a.image.now a.start).entries (entry_of a.image.now a.e)
+          (flag c.is_superseded.ensures c.if-is_superseded.false)) (did_none a.image.now a.m);
+      asked_most = omega arith;
+    }

@@ -13,7 +13,7 @@ pub loop-e-init : goal.loop-e-init
 loop-e-init c =
     let a = c.args in (
       refl,
-      rw c.first_cursor-start.ensures (first_sound a.image.now a.h (omega arith) c.requires.0.1.1),
+      rw c.first_cursor-start.ensures (first_sound a.image.now a.h (omega arith) c.requires.readable.1.1),
       omega arith,
       dropping_start a.image.now c.first_cursor-start.result a.m,
     )
@@ -31,12 +31,13 @@ returns-in_default c =
 pub drop_one-q-requires : goal.drop_one-q-requires
 drop_one-q-requires c =
     let t = passes c.advance-s.ensures c.in-Record.is in
-    let a = c.args in (
-      sound_same a.image.now c.loop-e.image c.first_cursor-start.result
-          (rw c.first_cursor-start.ensures (first_sound a.image.now a.h (omega (arith, c.requires.0.0)) c.requires.0.1.1))
-          c.loop-e.invariant.0,
-      (t.whole, omega (arith, c.loop-e.invariant.2, ap left c.first_cursor-start.ensures, t.onward.less, c.requires.1)),
-    )
+    let a = c.args in record {
+      cursor_sound = sound_same a.image.now c.loop-e.image c.first_cursor-start.result
+          (rw c.first_cursor-start.ensures (first_sound a.image.now a.h (omega (arith, c.requires.readable.0)) c.requires.readable.1.1))
+          c.loop-e.invariant.0;
+      whole = t.whole;
+      can_count = omega (arith, c.loop-e.invariant.2, ap left c.first_cursor-start.ensures, t.onward.less, c.requires.can_count);
+    }
 
 pub loop-e-smaller : goal.loop-e-smaller
 loop-e-smaller c =
@@ -49,8 +50,8 @@ loop-e-preserved c =
     let a = c.args in (
       omega (arith, c.loop-e.invariant.0),
       sound_same c.loop-e.image c.drop_one-q.new.image c.in-Record.next t.onward.sound (omega arith),
-      omega (arith, c.loop-e.invariant.2, t.onward.less, c.drop_one-q.ensures.1),
+      omega (arith, c.loop-e.invariant.2, t.onward.less, c.drop_one-q.ensures.asked_most),
       dropping_more c.loop-e.invariant.3 c.in-Record.e
-          c.in-Record.next (rw c.first_cursor-start.ensures (tidy_first a.image.now a.h (omega (arith, c.requires.0.0))))
-          (sym c.advance-s.ensures.0 ∙ c.in-Record.is) t.whole.fits c.drop_one-q.ensures.0,
+          c.in-Record.next (rw c.first_cursor-start.ensures (tidy_first a.image.now a.h (omega (arith, c.requires.readable.0))))
+          (sym c.advance-s.ensures.0 ∙ c.in-Record.is) t.whole.fits c.drop_one-q.ensures.fact,
     )

@@ -24,7 +24,7 @@ pub stride_live-requires : goal.stride_live-requires
 stride_live-requires c =
     let t = passes c.advance.ensures c.in-Record.is in
     let k = c.requires.1 in
-    ((t.onward.sound, t.whole, k.copy, k.place), (omega (arith, t.onward.name), t.onward.data_len))
+    record { cursor_sound = (t.onward.sound, t.whole, k.copy, k.place); n_bound = (omega (arith, t.onward.name), t.onward.data_len) }
 
 pub returns-then-is_live : goal.returns-then-is_live
 returns-then-is_live c =

@@ -10,7 +10,7 @@ use Rattle.space.proofs.stride.stride_live.Goals as goal
 pub returns-in_default : goal.returns-in_default
 returns-in_default c =
     let a = c.args in
-    let p = c.requires.0 in
+    let p = c.requires.cursor_sound in
     let e = rw c.size.ensures at (sym c.after.ensures ∙ c.in_default.is) in
     live_stop a.image.now a.x a.past a.place a.copy a.wall p.1 p.3
     (placed_full a.place (size_of a.x.n a.x.d) e)
@@ -19,8 +19,7 @@ pub stride_over-requires : goal.stride_over-requires
 stride_over-requires c =
     let a = c.args in
     let i = a.image.now in
-    let p = c.requires.0 in
-    let g = c.at-1.given.0 in
+    let p = c.requires.cursor_sound in
     let parts = placed_parts a.place (size_of a.x.n a.x.d) _ _ _
     (rw c.size.ensures at (sym c.after.ensures ∙ c.in-At.is)) in (
       p.0,
@@ -34,7 +33,7 @@ stride_over-requires c =
 pub returns : goal.returns
 returns c =
     let a = c.args in
-    let p = c.requires.0 in
+    let p = c.requires.cursor_sound in
     let parts = placed_parts a.place (size_of a.x.n a.x.d) _ _ _
     (rw c.size.ensures at (sym c.after.ensures ∙ c.in-At.is)) in
     live_on a.image.now a.x a.past a.place a.copy a.wall p.1 p.3 _ _ _ c.stride_over.result parts.0

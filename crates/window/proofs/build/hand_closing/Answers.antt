@@ -8,16 +8,10 @@ use Rattle.window.proofs.build.hand_closing.Goals as goal
 
 pub hand_status-requires : goal.hand_status-requires
 hand_status-requires c =
-    (
-      omega (arith, c.requires),
-      omega (
-        arith,
-        c.requires,
-        c.hand_bytes-a.ensures.count,
-        length_bytes
-            (c.args.at + (8 + c.up_8.result)) c.args.content.now,
-      ),
-    )
+    record {
+      at_bound = omega arith;
+      counts = omega (arith, c.hand_bytes-a.ensures.count, length_bytes (c.args.at + (8 + c.up_8.result)) c.args.content.now);
+    }
 
 pub returns : goal.returns
 returns c =

@@ -7,7 +7,7 @@ use Rattle.window.proofs.build.hand_header.Goals as goal
 pub hand_status-requires : goal.hand_status-requires
 hand_status-requires c =
     let lengths = rw c.four_of-four.ensures at c.hand_bytes-b.ensures in
-    (omega (arith, c.requires), omega (arith, c.requires, c.hand_bytes-a.ensures.count, lengths.count))
+    record { at_bound = omega arith; counts = omega (arith, c.hand_bytes-a.ensures.count, lengths.count) }
 
 pub returns : goal.returns
 returns c =

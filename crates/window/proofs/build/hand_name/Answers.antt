@@ -8,16 +8,10 @@ use Rattle.window.proofs.build.hand_name.Goals as goal
 
 pub hand_end-requires : goal.hand_end-requires
 hand_end-requires c =
-    (
-      omega (arith, c.requires),
-      omega (
-        arith,
-        c.requires,
-        c.hand_bytes-a.ensures.count,
-        length_bytes (c.args.at + 8)
-            c.args.name.now,
-      ),
-    )
+    record {
+      at_bound = omega arith;
+      counts = omega (arith, c.hand_bytes-a.ensures.count, length_bytes (c.args.at + 8) c.args.name.now);
+    }
 
 pub returns : goal.returns
 returns c =

@@ -6,11 +6,10 @@ use Rattle.window.proofs.build.hand_opening.Goals as goal
 
 pub hand_name-requires : goal.hand_name-requires
 hand_name-requires c =
-    (
-      (omega (arith, c.requires), omega (arith, c.requires)),
-      omega
-          (arith, c.requires, c.hand_header-a.ensures.count, header_count c.args.at c.args.d),
-    )
+    record {
+      at_bound = c.requires.at_bound;
+      counts = omega (arith, c.hand_header-a.ensures.count, header_count c.args.at c.args.d);
+    }
 
 pub returns : goal.returns
 returns c =

@@ -7,11 +7,11 @@ use Rattle.window.proofs.build.hand_record.Goals as goal
 
 pub hand_closing-requires : goal.hand_closing-requires
 hand_closing-requires c =
-    let few = opening_count c.args.at (length c.args.content.now) c.args.name.now in (
-      (omega (arith, c.requires), omega (arith, c.requires), omega (arith, c.requires)),
-      omega
-          (arith, c.requires, c.hand_opening-a.ensures.count, few),
-    )
+    let few = opening_count c.args.at (length c.args.content.now) c.args.name.now in
+    record {
+      at_bound = (omega arith, omega arith, omega arith);
+      counts = omega (arith, c.hand_opening-a.ensures.count, few);
+    }
 
 pub returns : goal.returns
 returns c =

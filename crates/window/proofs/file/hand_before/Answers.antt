@@ -8,16 +8,10 @@ use Rattle.window.proofs.file.hand_before.Goals as goal
 
 pub hand_marker-requires : goal.hand_marker-requires
 hand_marker-requires c =
-    (
-      c.requires.0.1 c.if-marker.true,
-      omega (
-        arith,
-        c.requires.1,
-        c.hand_migrate-a.ensures.count,
-        migrate_few
-            (old_entry c.args.old),
-      ),
-    )
+    record {
+      at_bound = c.requires.lies.1 c.if-marker.true;
+      counts = omega (arith, c.hand_migrate-a.ensures.count, migrate_few (old_entry c.args.old));
+    }
 
 pub returns-then-marker : goal.returns-then-marker
 returns-then-marker c =

@@ -10,8 +10,8 @@ returns-in_default c =
 
 pub hand_status-requires : goal.hand_status-requires
 hand_status-requires c =
-    let lies = rw c.in-At.is at c.requires.0 in
-    (omega arith, omega (arith, c.requires.1))
+    let lies = rw c.in-At.is at c.requires.lies in
+    record { at_bound = omega arith; counts = c.requires.counts }
 
 pub returns : goal.returns
 returns c =

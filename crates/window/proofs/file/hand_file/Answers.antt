@@ -11,28 +11,34 @@ use Rattle.window.proofs.file.hand_file.Goals as goal
 pub returns-in_default : goal.returns-in_default
 returns-in_default c =
     let a = c.args in
-    absurd (never_full a.place _ c.requires.0.taken (rw c.size.ensures at (sym c.after.ensures ∙ c.in_default.is)))
+    absurd (never_full a.place _ c.requires.ready.taken (rw c.size.ensures at (sym c.after.ensures ∙ c.in_default.is)))
 
 pub hand_before-a-requires : goal.hand_before-a-requires
 hand_before-a-requires c =
     let a = c.args in
-    let r = c.requires.0 in
+    let r = c.requires.ready in
     let e = rw c.size.ensures at (sym c.after.ensures ∙ c.in-At.is) in
     let short = r.sound.short in
-    let lies = lies_below a.old a.place.length (2 ^ 24) c.requires.1 short in
-    ((lies, λ k. omega (arith, marker_spot a.place _ _ _ _ _ _ _ r e k, short)), omega (arith, r.few))
+    let lies = lies_below a.old a.place.length (2 ^ 24) c.requires.lies short in
+    record {
+      lies = (lies, λ k. omega (arith, marker_spot a.place _ _ _ _ _ _ _ r e k, short));
+      counts = omega (arith, r.few);
+    }
 
 pub hand_new-requires : goal.hand_new-requires
 hand_new-requires c =
     let a = c.args in
-    let r = c.requires.0 in
+    let r = c.requires.ready in
     let e = rw c.size.ensures at (sym c.after.ensures ∙ c.in-At.is) in
     let inside = spot a.place _ _ _ _ _ _ _ r e in
     let short = r.sound.short in
-    let lies = lies_below a.old a.place.length (2 ^ 24) c.requires.1 short in
+    let lies = lies_below a.old a.place.length (2 ^ 24) c.requires.lies short in
     let before = prepare_few a.old c.in-At.marker a.place.tail in
     let count = c.hand_before-a.ensures.count in
-    ((lies, omega (arith, inside, short), r.named, omega (arith, inside, short)), omega (arith, r.few, count, before))
+    record {
+      lies = (lies, omega (arith, inside, short), r.named, omega (arith, inside, short));
+      counts = omega (arith, r.few, count, before);
+    }
 
 pub returns : goal.returns
 returns c =

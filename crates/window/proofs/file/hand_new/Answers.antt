@@ -7,7 +7,10 @@ use Rattle.window.proofs.file.hand_new.Goals as goal
 pub hand_delete-requires : goal.hand_delete-requires
 hand_delete-requires c =
     let a = c.args in
-    (c.requires.0.0, omega (arith, c.requires.1, c.hand_record-a.ensures.count, record_count a.at a.name.now a.content.now))
+    record {
+      lies = c.requires.lies.0;
+      counts = omega (arith, c.hand_record-a.ensures.count, record_count a.at a.name.now a.content.now);
+    }
 
 pub returns : goal.returns
 returns c =

@@ -16,7 +16,7 @@ use Rattle.history.specs.Between.{Between, between_is}
 use Rattle.history.specs.Kinds.{Inv}
 use Rattle.history.specs.Sweeps.{Removes, remove_step}
 use Rattle.history.specs.Induction.{left, Keeps, carried_done, carried_cut}
-use Rattle.history.specs.Calls.{Finds, find_no, find_yes, finds_of}
+use Rattle.history.proofs.Calls.{Finds, find_no, find_yes, finds_of}
 use Rattle.history.specs.Partly.{partly_by, partly_none}
 
 removed : (im : Image) (n : List ℕ) (m : Numbers) (w : ℕ) (l : Ledger) → remove_done m w ≡ true → fed im (Request.remove n) m w l ≡ without n l

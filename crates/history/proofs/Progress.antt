@@ -28,8 +28,8 @@ use Rattle.history.specs.Landing.{AfterPut, new_after, replaced_after, put_lengt
 use Rattle.history.specs.Ahead.{Ahead}
 use Rattle.history.specs.Induction.{carried_done}
 use Rattle.history.specs.Formats.{done_image, refused}
-use Rattle.history.specs.Calls.{Puts, put_no, put_yes, puts_of, room_fits, sweep_is, sweep_by}
-use Rattle.history.specs.Theorem.{history_inv}
+use Rattle.history.proofs.Calls.{Puts, put_no, put_yes, puts_of, room_fits, sweep_is, sweep_by}
+use Rattle.history.proofs.Theorem.{history_inv}
 use Rattle.history.specs.Passing.{goes_on, Passed, passes}
 use Rattle.history.specs.PutAhead.{live_new, live_over, put_ahead}
 

@@ -10,8 +10,8 @@ use Rattle.spec.specs.Bounds.{AtMost, MountBound, MountKinds, MountByHead}
 use Rattle.history.specs.StepCounts.{most_length, most_take}
 use Rattle.history.specs.Kinds.{Inv}
 use Rattle.history.specs.Mending.{Mends}
-use Rattle.history.specs.Mounts.{mends}
-use Rattle.history.specs.Theorem.{mount_is, history_inv}
+use Rattle.history.proofs.Mounts.{mends}
+use Rattle.history.proofs.Theorem.{mount_is, history_inv}
 use Rattle.history.specs.Used.{used_most}
 
 module _ (im : Image) (l : Ledger) (i : Inv l im) where

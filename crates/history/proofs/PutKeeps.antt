@@ -26,7 +26,7 @@ use Rattle.history.specs.OkLaws.{old_file, Old}
 use Rattle.history.specs.Settled.{rested_reads}
 use Rattle.history.specs.Puts.{Commits, put_commits}
 use Rattle.history.specs.Induction.{left, Keeps, carried_done, carried_cut}
-use Rattle.history.specs.Calls.{Puts, put_no, put_yes, puts_of, room_fits}
+use Rattle.history.proofs.Calls.{Puts, put_no, put_yes, puts_of, room_fits}
 use Rattle.history.specs.Partly.{partly_none}
 use Rattle.history.specs.Commit.{InsideCommit, not_yet, all_done, commits_sound, commits_early, commits_late, commits_end, commit_left, commits_inside}
 
