@@ -1,6 +1,8 @@
 -- Data cleaned of false heads, pair by pair.
-use Rattle.std.specs.Prelude.{ℕ, zero, suc, ◌+◌, ◌-◌, ◌≤◌, ◌<◌, ◌≡◌, refl, Bool, true, false, ◌&&◌, ◌||◌, List, [], ◌∷◌, ◌++◌, length, take, drop, get_or}
-use Rattle.std.proofs.Common.{arith, add-zero, add_assoc, sym, ap, ap₂, ◌∙◌, ⊎_elim, length-drop, get_or-drop, get_or-take, length-take-le, drop-drop, drop-set-lt}
+use Rattle.std.specs.Prelude.{ℕ, zero, suc, ◌+◌, ◌-◌, ◌≤◌, ◌<◌, ◌≡◌, refl, Bool, true}
+use Rattle.std.specs.Prelude.{false, ◌&&◌, ◌||◌, List, [], ◌∷◌, ◌++◌, length, take, drop, get_or}
+use Rattle.std.proofs.Common.{arith, add-zero, add_assoc, sym, ap, ap₂, ◌∙◌}
+use Rattle.std.proofs.Common.{⊎_elim, length-drop, get_or-drop, get_or-take, length-take-le, drop-drop, drop-set-lt}
 use Rattle.std.proofs.Math.Seq.{take-nil}
 use Rattle.spec.specs.Step.{Image, Step, program, run}
 use Rattle.spec.specs.Geometry.{up8}

@@ -1,6 +1,6 @@
 -- Step (a): the head's record, copied as in put. Where the copy lies, its phases, how many steps it is, and that it leaves the
 -- head's first byte alone.
-use Rattle.std.specs.Prelude.{ℕ, ◌+◌, ◌≤◌, ◌≡◌, refl, Bool, true, false, ◌⊎◌, List, [], ◌∷◌, ◌++◌, length, take, drop, get_or}
+use Rattle.std.specs.Prelude.{ℕ, ◌+◌, ◌≤◌, ◌≡◌, refl, Bool, true, false, List, [], ◌∷◌, ◌++◌, length, take, drop, get_or}
 use Rattle.std.proofs.Common.{arith, add-zero, sym, ap, ◌∙◌, inl, inr, ⊎_elim, length-append, get_or-take, get_or-drop}
 use Rattle.std.proofs.Math.Option.{some}
 use Rattle.spec.specs.declared.Place.{Place}

@@ -1,5 +1,5 @@
 -- The phases of a record, at its address.
-use Rattle.std.specs.Prelude.{ℕ, ◌+◌, ◌≤◌, ◌≡◌, refl, List, [], ◌∷◌, ◌++◌, length}
+use Rattle.std.specs.Prelude.{ℕ, ◌+◌, ◌≡◌, List, [], ◌∷◌, ◌++◌, length}
 use Rattle.std.proofs.Common.{arith, add-zero, sym, ap, ap₂, ◌∙◌, append_assoc, length-append}
 use Rattle.spec.specs.Step.{Step, program, bytes_at, shifted}
 use Rattle.spec.specs.Geometry.{up8}

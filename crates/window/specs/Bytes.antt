@@ -1,11 +1,11 @@
 -- A run of bytes: those before the window, the next one, and those that are left.
 use Rattle.std.specs.Prelude.{ℕ, zero, suc, ◌+◌, ◌≤◌, ◌<◌, ◌≡◌, refl, List, [], ◌∷◌, ◌++◌, length, take, drop, get_or}
-use Rattle.std.proofs.Common.{arith, sym, ap, ◌∙◌, drop_of_length-le, length-drop, drop-cons}
+use Rattle.std.proofs.Common.{arith, ap, ◌∙◌, drop_of_length-le, length-drop, drop-cons}
 use Rattle.spec.specs.Step.{Step, program, bytes_at}
 use Rattle.spec.specs.Planner.{Slices}
 use Rattle.laws.specs.Steps.{length_bytes, length_first}
 use Rattle.window.specs.declared.Window.{Window}
-use Rattle.window.specs.Handed.{Handed, Leads, handed_before, handed_behind, leads_all, leads_more, leads_end}
+use Rattle.window.specs.Handed.{Leads, handed_before, leads_all, leads_more}
 
 -- the bytes from the one with the number i on
 abbrev pub left : ℕ → List ℕ → ℕ → List Step

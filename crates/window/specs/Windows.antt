@@ -1,13 +1,12 @@
 -- A whole step list handed out from the first step on: the slices hold its window, as the definition says.
-use Rattle.std.specs.Prelude.{ℕ, zero, suc, ◌+◌, ◌-◌, ◌≤◌, ◌<◌, min, ◌≡◌, refl, List, [], ◌∷◌, ◌++◌, map, length, take, drop, set}
-use Rattle.std.proofs.Common.{arith, zero-add, add-zero, sym, ap, ◌∙◌, length-set, length-take, length-drop}
+use Rattle.std.specs.Prelude.{ℕ, zero, suc, ◌+◌, ◌-◌, ◌≤◌, min, ◌≡◌, refl, List, [], ◌∷◌, ◌++◌, map, length, take, drop}
+use Rattle.std.proofs.Common.{arith, sym, ap, ◌∙◌, length-set, length-take, length-drop}
 use Rattle.std.proofs.lemmas.List.{length-map}
 use Rattle.std.proofs.lemmas.List.Edits.{sets, sets-eq}
 use Rattle.std.proofs.Math.Seq.{take-nil}
 use Rattle.spec.specs.Step.{Step}
 use Rattle.spec.specs.Planner.{kind_of, address_of, byte_of, Slices, shortest, window, filled, filled_with}
-use Rattle.window.specs.declared.Window.{Window}
-use Rattle.window.specs.Handed.{slices, Shown, shown_of, write_slot, hand_one, hand_all, Handed, one_before, one_inside, all_behind}
+use Rattle.window.specs.Handed.{slices, Shown, shown_of, write_slot, hand_all, one_before, one_inside, all_behind}
 
 -- these steps, one after another from the slot i on
 abbrev into : ℕ → List Step → Slices → Slices

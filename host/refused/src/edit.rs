@@ -102,7 +102,8 @@ impl Place {
     }
 }
 
-fn names_in(folder: &Path) -> Vec<String> {
+/// What stands in the folder, by name.
+pub fn names_in(folder: &Path) -> Vec<String> {
     let Ok(entries) = fs::read_dir(folder) else { return Vec::new() };
     let mut names: Vec<String> = entries.map(|e| e.unwrap().file_name().into_string().unwrap()).collect();
     names.sort();

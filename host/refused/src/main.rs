@@ -111,6 +111,9 @@ fn all(root: &Path, editions: &[Edition], jobs: usize) -> Result<usize, String> 
     Ok(refused.into_inner())
 }
 
+/// What of a crate is checked.
+const PARTS: [&str; 3] = ["src", "specs", "proofs"];
+
 /// A copy of crates.txt and crates/, in which one edition after another is tried.
 struct Copied {
     folder: Folder,
@@ -120,7 +123,11 @@ impl Copied {
     fn new(root: &Path, job: usize) -> Result<Copied, String> {
         let folder = Folder::new(&format!("refused-{job}"))?;
         let to = &folder.0;
-        copy(&root.join("crates"), &to.join("crates"))?;
+        for name in edit::names_in(&root.join("crates")) {
+            let (from, to) = (root.join("crates").join(&name), to.join("crates").join(&name));
+            let parts = PARTS.iter().filter(|part| from.join(part).is_dir());
+            parts.map(|part| copy(&from.join(part), &to.join(part))).collect::<Result<(), String>>()?;
+        }
         write(&to.join("crates.txt"), &read(&root.join("crates.txt"))?)?;
         let spec = to.join("crates/spec");
         write(&spec.join("src/lib.rt"), &types(&read(&spec.join("src/lib.rt"))?))?;
@@ -180,7 +187,8 @@ impl Copied {
     /// What rt says of a crate, and whether it is proved.
     fn check(&self, name: &str) -> Result<(String, bool), String> {
         let rt = std::env::var("RT").unwrap_or("rt".into());
-        let run = Command::new(&rt).args(["check", name]).current_dir(&self.folder.0).env("RT_CUT", "400").output();
+        let folder = self.folder.0.join("crates").join(name);
+        let run = Command::new(&rt).arg("check").current_dir(folder).output();
         let out = run.map_err(|e| format!("{rt}: {e}"))?;
         Ok((String::from_utf8_lossy(&[out.stdout, out.stderr].concat()).into_owned(), out.status.success()))
     }

@@ -38,7 +38,7 @@ mod tests {
 
     #[test]
     fn rows_by_their_text() {
-        let table = "row = 1\n\ntable =\n    -- \"first\"\n    row a b\n    ∷ row-bytes c\n    (0 ∷ d ∷ [])\n    ∷ row b e\n    ∷ []\n";
+        let table = "row = 1\n\ntable =\n    -- \"first\"\n    row a b\n    ∷ row_bytes c\n    (0 ∷ d ∷ [])\n    ∷ row b e\n    ∷ []\n";
         assert_eq!(number(table, "row a b"), Some(1));
         assert_eq!(number(table, "0 ∷ d"), Some(2));
         assert_eq!(number(table, "row b e"), Some(3));

@@ -5,15 +5,16 @@ use Rattle.moving.proofs.close.Goals as goal
 
 pub returns : goal.returns
 returns c =
-    let a = c.args in (
-      closed a.image.now a.x a.y a.low (omega arith) (omega arith) c.clean_data-a.ensures.0
-          c.vacate-b.ensures.0 c.to_start-c.ensures.0 c.forget.ensures.0,
-      omega (
+    let a = c.args in
+    record {
+      fact = closed a.image.now a.x a.y a.low (omega arith) (omega arith) c.clean_data-a.ensures.fact
+          c.vacate-b.ensures.fact c.to_start-c.ensures.did c.forget.ensures.fact;
+      asked_most = omega (
         arith,
-        c.requires.0.0.fits,
-        c.clean_data-a.ensures.1,
-        c.vacate-b.ensures.1,
-        c.to_start-c.ensures.1,
-        c.forget.ensures.1,
-      ),
-    )
+        c.requires.whole.0.fits,
+        c.clean_data-a.ensures.asked_most,
+        c.vacate-b.ensures.asked_most,
+        c.to_start-c.ensures.asked_most,
+        c.forget.ensures.asked_most,
+      );
+    }

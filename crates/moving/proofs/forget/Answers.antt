@@ -13,7 +13,7 @@ returns-then-floor-to c =
     let s = a.image.now in
     let ends = c.vacated_end-to.ensures.0 ∙ end_is (length s) (entry_of s a.y) in
     let none = forget_none (length s) (entry_of s a.x) (entry_of s a.y) c.floor.ensures.0 ends c.if-floor-to.true in
-    (rw none (did_none s a.m), omega arith)
+    record { fact = rw none (did_none s a.m); asked_most = omega arith }
 
 pub returns : goal.returns
 returns c =
@@ -21,4 +21,4 @@ returns c =
     let s = a.image.now in
     let ends = c.vacated_end-to.ensures.0 ∙ end_is (length s) (entry_of s a.y) in
     let one = forget_this (length s) (entry_of s a.x) (entry_of s a.y) c.floor.ensures.0 ends c.if-floor-to.false in
-    (rw one c.program.ensures, omega arith)
+    record { fact = rw one c.program.ensures; asked_most = omega arith }

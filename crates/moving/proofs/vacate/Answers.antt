@@ -10,4 +10,4 @@ pub returns : goal.returns
 returns c =
     let a = c.args in
     let ends = c.vacated_end-to.ensures.0 ∙ end_is (length a.image.now) (entry_of a.image.now a.y) in
-    (rw (c.floor.ensures.0, ends) at c.erase_sectors.ensures.0, omega arith)
+    record { fact = rw (c.floor.ensures.0, ends) at c.erase_sectors.ensures.0; asked_most = omega arith }

@@ -5,8 +5,7 @@ use Rattle.moving.proofs.clean.clean_data.Goals as goal
 
 pub returns : goal.returns
 returns c =
-    (
-      rw (cleaned_is c.args.image.now c.args.x c.requires.0 c.up_8.ensures)
-          c.clean_bytes.ensures.0,
-      omega arith,
-    )
+    record {
+      fact = rw (cleaned_is c.args.image.now c.args.x c.requires.whole c.up_8.ensures) c.clean_bytes.ensures.fact;
+      asked_most = omega arith;
+    }

@@ -26,7 +26,7 @@ loop-i-preserved c =
       omega arith,
       copy_more a.from a.to a.n
           c.loop-i.i
-          c.requires.0.2 (omega arith) (omega arith)
+          c.requires.n_in_bounds.2 (omega arith) (omega arith)
           c.loop-i.invariant.2
           c.program-q.ensures,
     )

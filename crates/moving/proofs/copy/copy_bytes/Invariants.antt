@@ -8,7 +8,8 @@ use Rattle.moving.proofs.copy.copy_bytes.Given as goal
 
 abbrev pub invariant-loop-i : goal.invariant-loop-i
 invariant-loop-i l =
-    (l.i ≤ l.n) × (length l.image ≡ length l.initial.image) × Did l.initial.image l.initial.q (bytes_at l.to (take l.i (take l.n (drop l.from l.initial.image)))) l.image l.q
+    (l.i ≤ l.n) × (length l.image ≡ length l.initial.image)
+    × Did l.initial.image l.initial.q (bytes_at l.to (take l.i (take l.n (drop l.from l.initial.image)))) l.image l.q
 
 abbrev pub decreases-loop-i : goal.decreases-loop-i
 decreases-loop-i l = l.n - l.i

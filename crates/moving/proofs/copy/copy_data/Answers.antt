@@ -11,8 +11,8 @@ copy_bytes-requires c =
     let a = c.args in
     let z = 8 + c.up_8-start.result in
     let apart = off_part a.to (a.to + size_of a.n a.d) a.from (size_of a.n a.d) z a.d (a.to + z) (a.to + z + a.d)
-    c.requires.0.3 (omega arith) (omega arith) (omega arith) in
-    ((omega arith, omega arith, apart), omega arith)
+    c.requires.copyable.3 (omega arith) (omega arith) (omega arith) in
+    record { n_in_bounds = (omega arith, omega arith, apart); can_count = omega arith }
 
 pub returns : goal.returns
 returns c =

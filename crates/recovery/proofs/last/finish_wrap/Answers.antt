@@ -15,4 +15,4 @@ returns-in-TornWrap c =
 pub returns-in_default : goal.returns-in_default
 returns-in_default c =
     let a = c.args in
-    record { did = rw (no_torn_wrap a.ending c.in_default.in_default-own.keys2) (did_none a.image.now a.m); asked_most = omega arith }
+    record { did = rw (no_torn_wrap a.ending c.in_default.not-TornWrap) (did_none a.image.now a.m); asked_most = omega arith }

@@ -41,9 +41,7 @@ carry_entry-requires c =
 pub returns-then-carry_entry-ne0 : goal.returns-then-carry_entry-ne0
 returns-then-carry_entry-ne0 c =
     let l = c.loop-i in
-    let s =
-    c in
-    let a = s.args in
+    let a = c.args in
     let e = c.carry_entry.ensures in
     let n : fault l.image (get_or a.kinds.now l.i 0) (get_or a.addresses.now l.i 0) (get_or a.bytes.now l.i 0) ≡ 0 → ⊥ =
     λ q. c.if-carry_entry-ne0.true (e.0 ∙ q) in
@@ -51,26 +49,21 @@ returns-then-carry_entry-ne0 c =
     (get_or a.bytes.now l.i 0) n in
     ap (refusing 0 false l.i) same
     ∙ sym (l.invariant.2
-    ∙ watch_stop l.i l.image a.kinds.now a.addresses.now a.bytes.now (omega arith) (omega (arith, s.pre.1))
-    (omega (arith, s.pre.1, s.pre.2))
-    (flag c.refused_now.ensures
-    c.if-refused_now.false) n)
+    ∙ watch_stop l.i l.image a.kinds.now a.addresses.now a.bytes.now (omega arith) (omega (arith, c.requires.1))
+    (omega (arith, c.requires.1, c.requires.2))
+    (flag c.refused_now.ensures c.if-refused_now.false) n)
 
 pub loop-i-preserved : goal.loop-i-preserved
 loop-i-preserved c =
     let l = c.loop-i in
-    let s =
-    c in
-    let a = s.args in
+    let a = c.args in
     let e = c.carry_entry.ensures in
-    let calm =
-    flag c.refused_now.ensures
-    c.if-refused_now.false in (
+    let calm = flag c.refused_now.ensures c.if-refused_now.false in (
       omega arith,
       omega arith,
       l.invariant.2
-          ∙ watch_next l.i l.image a.kinds.now a.addresses.now a.bytes.now (omega arith) (omega (arith, s.pre.1))
-          (omega (arith, s.pre.1, s.pre.2)) calm (sym e.0 ∙ c.if-carry_entry-ne0.false)
+          ∙ watch_next l.i l.image a.kinds.now a.addresses.now a.bytes.now (omega arith) (omega (arith, c.requires.1))
+          (omega (arith, c.requires.1, c.requires.2)) calm (sym e.0 ∙ c.if-carry_entry-ne0.false)
           ∙ ap (λ (m : Image). watch_from (l.i + 1) m a.kinds.now a.addresses.now a.bytes.now) (sym e.1),
       λ q. ap mount_refuses (e.1 ∙ c.changes_entry-changed.ensures q) ∙ calm,
     )

@@ -6,14 +6,17 @@ use Rattle.sweeping.proofs.one_move.copy.Goals as goal
 
 pub copy_head-requires : goal.copy_head-requires
 copy_head-requires c =
-    let g = subst (Going c.args.image.now c.args.place) c.in-Copy.is c.requires.1.0 in
-    (ready c.requires.0 c.args.m g c.requires.1.1, g.ends)
+    let g = subst (Going c.args.image.now c.args.place) c.in-Copy.is c.requires.going in
+    record { ready = ready c.requires.place_of c.args.m g c.requires.can_count; head_ends = g.ends }
 
 pub returns-in-Copy : goal.returns-in-Copy
 returns-in-Copy c =
-    copied c.requires.0 (subst (Going c.args.image.now c.args.place) c.in-Copy.is c.requires.1.0)
-    c.copy_head.ensures
+    let done = copied c.requires.place_of (subst (Going c.args.image.now c.args.place) c.in-Copy.is c.requires.going)
+    c.copy_head.ensures in
+    record { fact = done.0; asked_most = done.1.0; head_unchanged = done.1.1 }
 
 pub returns-in_default : goal.returns-in_default
 returns-in_default c =
-    not_copied c.requires.0 (not_copying c.args.image.now c.args.place c.args.plan c.in_default.in_default-own.keys2 c.requires.1.0)
+    let none = not_copying c.args.image.now c.args.place c.args.plan c.in_default.not-Copy c.requires.going in
+    let done = not_copied c.requires.place_of {m = c.args.m} none in
+    record { fact = done.0; asked_most = done.1.0; head_unchanged = done.1.1 }

@@ -5,17 +5,16 @@ use Rattle.sweeping.proofs.one_move.move_head.Goals as goal
 
 pub returns-then-a : goal.returns-then-a
 returns-then-a c =
-    moved_cut c.requires.0.led c.copy-a.ensures.0 c.copy-a.ensures.1.0 c.if-a.true
+    moved_cut c.requires.place_of.led c.copy-a.ensures.fact c.copy-a.ensures.asked_most c.if-a.true
 
 pub hand_over-requires : goal.hand_over-requires
 hand_over-requires c =
-    (
-      led_still c.requires.0.led (omega arith) c.copy-a.ensures.1.1,
-      omega
-          (arith, c.copy-a.ensures.1.0, c.requires.1.1, c.requires.0.led.small),
-    )
+    record {
+      led = led_still c.requires.place_of.led (omega arith) c.copy-a.ensures.head_unchanged;
+      can_count = omega (arith, c.copy-a.ensures.asked_most, c.requires.can_count, c.requires.place_of.led.small);
+    }
 
 pub returns : goal.returns
 returns c =
-    moved_over c.requires.0.led c.copy-a.ensures.0 c.copy-a.ensures.1.0 c.if-a.false (omega arith)
+    moved_over c.requires.place_of.led c.copy-a.ensures.fact c.copy-a.ensures.asked_most c.if-a.false (omega arith)
     c.hand_over.ensures

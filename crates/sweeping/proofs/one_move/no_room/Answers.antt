@@ -10,5 +10,5 @@ returns-in-Stop c =
 
 pub returns-in_default : goal.returns-in_default
 returns-in_default c =
-    not_full c.plan-p.result c.in_default.in_default-own.keys2
+    not_full c.plan-p.result c.in_default.not-Stop
     ∙ full_is c.args.image.now c.args.place c.plan-p.result c.plan-p.ensures

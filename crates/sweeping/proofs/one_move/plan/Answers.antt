@@ -3,7 +3,7 @@ use native.Mathlib.Omega.{arith}
 use mathlib.Core.Path.{refl}
 use Rattle.chain.proofs.Others.{other_step}
 use Rattle.reading.specs.Standing.{taken, start_sound}
-use Rattle.sweeping.specs.Planned.{plan_none, plan_full, plan_copy, plan_last, plan_leave, sound}
+use Rattle.sweeping.specs.Planned.{plan_none, plan_full, plan_copy, plan_last, plan_leave}
 use Rattle.sweeping.proofs.one_move.plan.Goals as goal
 
 pub advance-requires : goal.advance-requires
@@ -47,7 +47,7 @@ pub returns-in_default-advance : goal.returns-in_default-advance
 returns-in_default-advance c =
     let t = taken c.first_cursor-start.ensures c.advance.ensures.0 c.advance.ensures.1 c.in-Record.is in
     plan_last c.requires t c.first_cursor-start.ensures c.is_live.ensures c.if-is_live.false
-    c.advance-2.result c.advance-2.ensures.0 (other_step c.advance-2.result c.in_default-advance.in_default-advance-own.keys2)
+    c.advance-2.result c.advance-2.ensures.0 (other_step c.advance-2.result c.in_default-advance.not-Record)
 
 pub returns : goal.returns
 returns c =

@@ -12,15 +12,15 @@ returns-in-Stop c =
 
 pub move_head-r-requires : goal.move_head-r-requires
 move_head-r-requires c =
-    let going = not_stopped c.args.image.now c.args.place c.plan-p.result c.in_default.in_default-own.keys2 c.plan-p.ensures in
-    (c.requires.0, (going, c.requires.1))
+    let going = not_stopped c.args.image.now c.args.place c.plan-p.result c.in_default.not-Stop c.plan-p.ensures in
+    record { place_of = c.requires.place_of; going = going; can_count = c.requires.can_count }
 
 pub returns-then-q : goal.returns-then-q
 returns-then-q c =
     record {
       on =
           going_on c.args.image.now c.args.place c.plan-p.result
-          (not_stopped c.args.image.now c.args.place c.plan-p.result c.in_default.in_default-own.keys2 c.plan-p.ensures);
+          (not_stopped c.args.image.now c.args.place c.plan-p.result c.in_default.not-Stop c.plan-p.ensures);
       begun = c.move_head-r.ensures.begun;
       over = c.if-q.true;
     }
@@ -33,5 +33,5 @@ survey-s-requires c =
 pub returns : goal.returns
 returns c =
     done_seen (going_on c.args.image.now c.args.place c.plan-p.result
-    (not_stopped c.args.image.now c.args.place c.plan-p.result c.in_default.in_default-own.keys2 c.plan-p.ensures))
+    (not_stopped c.args.image.now c.args.place c.plan-p.result c.in_default.not-Stop c.plan-p.ensures))
     c.move_head-r.ensures c.if-q.false c.survey-s.ensures

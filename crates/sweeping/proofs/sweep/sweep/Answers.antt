@@ -9,11 +9,13 @@ loop-left-init c = (
   refl,
   omega (arith, c.at_most-left.ensures),
   rw c.at_most-left.ensures
-      (sweeping_start c.args.place c.requires.0 (omega arith) c.requires.1),
+      (sweeping_start c.args.place c.requires.place_of (omega arith) c.requires.asked_bound),
 )
 
 pub next_move-t-requires : goal.next_move-t-requires
-next_move-t-requires c = let w = c.loop-left.invariant.2 in (w.headed, omega (arith, w.few))
+next_move-t-requires c =
+    let w = c.loop-left.invariant.2 in
+    record { place_of = w.headed; can_count = omega (arith, w.few) }
 
 pub returns-in-Stuck : goal.returns-in-Stuck
 returns-in-Stuck c =
@@ -28,14 +30,13 @@ returns-in-Cut c =
     c.next_move-t.ensures)
 
 pub loop-left-preserved : goal.loop-left-preserved
-loop-left-preserved c =
-    (
-      omega arith,
-      omega arith,
-      sweeping_more c.loop-left.invariant.2 (c.loop-left.left - 1) (omega arith)
-          (subst (MoveEnded c.loop-left.image c.loop-left.p.head c.loop-left.q c.next_move-t.new.image) c.in-Done.is
-          c.next_move-t.ensures),
-    )
+loop-left-preserved c = (
+  omega arith,
+  omega arith,
+  sweeping_more c.loop-left.invariant.2 (c.loop-left.left - 1) (omega arith)
+      (subst (MoveEnded c.loop-left.image c.loop-left.p.head c.loop-left.q c.next_move-t.new.image) c.in-Done.is
+      c.next_move-t.ensures),
+)
 
 pub returns : goal.returns
 returns c = sweeping_end c.loop-left.invariant.2 (omega arith)

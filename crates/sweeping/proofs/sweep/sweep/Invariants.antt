@@ -7,7 +7,8 @@ use Rattle.sweeping.proofs.sweep.sweep.Given as goal
 
 abbrev pub invariant-loop-left : goal.invariant-loop-left
 invariant-loop-left l =
-    (length l.image ≡ length l.initial.image) × (l.n + l.left ≤ 5) × Sweeping l.initial.image l.initial.q (min 5 l.records) l.initial.p.head l.image l.q l.left l.p l.n
+    (length l.image ≡ length l.initial.image) × (l.n + l.left ≤ 5)
+    × Sweeping l.initial.image l.initial.q (min 5 l.records) l.initial.p.head l.image l.q l.left l.p l.n
 
 abbrev pub decreases-loop-left : goal.decreases-loop-left
 decreases-loop-left l = l.left
