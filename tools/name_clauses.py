@@ -17,6 +17,7 @@ def labels():
     found = {}
     for path in glob.glob("crates/*/src/**/*.rt", recursive=True):
         crate = path.split("/")[1]
+        module = re.sub(r"^crates/\w+/src/|\.rt$", "", path).replace("/", "::")
         name, kinds = None, None
         with open(path, encoding="utf-8") as f:
             for line in f:
@@ -24,6 +25,7 @@ def labels():
                 if m:
                     name, kinds = m.group(1), {"requires": [], "ensures": []}
                     found.setdefault((crate, name), []).append(kinds)
+                    found.setdefault((crate, f"{module}::{name}"), []).append(kinds)
                 m = re.match(r"\s+(requires|ensures)\s*(\w*)\s*\{", line)
                 if m and kinds is not None:
                     kinds[m.group(1)].append(m.group(2))
@@ -110,12 +112,12 @@ def mend(path, function, info, known, crate):
     with open(path, encoding="utf-8") as f:
         text = f.read()
     said = []
-    own = known.get((crate, function.split(".")[-1]), {"requires": [], "ensures": []})
+    own = known.get((crate, function.replace(".", "::")), known.get((crate, function.split(".")[-1]), {"requires": [], "ensures": []}))
     calls = {}
     for p in info["places"]:
         if p[3]:
             parts = p[3].split("::")
-            calls[p[2][1]] = known.get((parts[0], parts[-1]))
+            calls[p[2][1]] = known.get((parts[0], "::".join(parts[1:])), known.get((parts[0], parts[-1])))
     chunks = re.split(r"\n\n(?=(?:--|pub |\S))", text)
     out = []
     for chunk in chunks:

@@ -14,6 +14,6 @@ returns c =
     let image = c.args.image in
     let p = c.list_place-p in (
       part_is image.now (listed p.result) _ p.ensures.0,
-      ap (λ (o : Outcome). (image.ptr.0, o.numbers.extent.offset + image.ptr.1)) p.ensures.0,
+      ap (λ (o : Outcome). (image.ref_ptr.0, o.numbers.extent.offset + image.ref_ptr.1)) p.ensures.0,
       refl,
     )

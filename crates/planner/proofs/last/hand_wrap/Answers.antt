@@ -18,4 +18,4 @@ pub returns-in_default : goal.returns-in_default
 returns-in_default c =
     let a = c.args in
     let s = slices a.kinds.now a.addresses.now a.bytes.now in
-    record { handed = rw (no_torn_wrap a.ending c.in_default.in_default-own.keys2) (handed_none s a.w); passed_bound = omega arith }
+    record { handed = rw (no_torn_wrap a.ending c.in_default.not-TornWrap) (handed_none s a.w); passed_bound = omega arith }

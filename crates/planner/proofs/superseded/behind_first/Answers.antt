@@ -16,7 +16,6 @@ returns-in_default c =
 pub returns-then-gone : goal.returns-then-gone
 returns-then-gone c =
     let a = c.args in
-    let s = c.s-1 in
     let t = passes c.advance-s.ensures c.in-Record.is in
     (t.onward.sound, rw c.if-gone.true (sym (ap later (entries_on a.image.now a.start c.in-Record.spot c.in-Record.next t))))
 

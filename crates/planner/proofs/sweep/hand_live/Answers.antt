@@ -31,17 +31,17 @@ hand_over-requires c =
     let i = a.image.now in
     let p = c.requires.cursor_sound in
     let parts = placed_parts a.place (size_of a.x.n a.x.d) _ _ _
-    (rw c.size.ensures at (sym c.after.ensures ∙ c.in-At.is)) in (
-      (
+    (rw c.size.ensures at (sym c.after.ensures ∙ c.in-At.is)) in record {
+      cursor_sound = (
         p.0,
         p.1,
         rw c.first_of.ensures (first_below a.copy c.in-At.at (length i) p.2
             (copy_inside i a.x a.past a.place a.copy p.1 p.3 parts.0 c.in-At.at parts.1 _ parts.3)),
         rw c.come_round.ensures (copy_walkable i a.x a.past a.place a.copy p.1 p.3 parts.0 c.in-At.at parts.1 _
             parts.3),
-      ),
-      omega (arith, c.requires.name_length, c.hand_copy-a.ensures.passed_bound_2),
-    )
+      );
+      passed_bound = omega (arith, c.requires.name_length, c.hand_copy-a.ensures.passed_bound_2);
+    }
 
 pub returns : goal.returns
 returns c =

@@ -45,7 +45,7 @@ pub hand_over-requires : goal.hand_over-requires
 hand_over-requires c =
     let t = passes c.advance.ensures c.in-Record.is in
     let k = c.requires.cursor_sound.1 in
-    ((t.onward.sound, t.whole, k.copy, k.place), omega (arith, c.requires.passed_bound))
+    record { cursor_sound = (t.onward.sound, t.whole, k.copy, k.place); passed_bound = omega (arith, c.requires.passed_bound) }
 
 pub returns : goal.returns
 returns c =

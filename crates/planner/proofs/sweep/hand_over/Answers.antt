@@ -9,7 +9,7 @@ use Rattle.planner.proofs.sweep.hand_over.Goals as goal
 
 pub find_next-requires : goal.find_next-requires
 find_next-requires c =
-    (c.requires.0.0, c.requires.0.2)
+    (c.requires.cursor_sound.0, c.requires.cursor_sound.2)
 
 pub returns-in_default : goal.returns-in_default
 returns-in_default c =
@@ -21,17 +21,17 @@ returns-in_default c =
 pub hand_next-a-requires : goal.hand_next-a-requires
 hand_next-a-requires c =
     let y = rw c.in-At.is at c.find_next.ensures.1 in
-    let g = c.requires.0.3 in
+    let g = c.requires.cursor_sound.3 in
     record {
-      whole = (c.requires.0.1, y, omega (arith, g.sound.short, g.whole));
-      counts = omega (arith, c.requires.1, g.sound.short, g.whole);
+      whole = (c.requires.cursor_sound.1, y, omega (arith, g.sound.short, g.whole));
+      counts = omega (arith, c.requires.passed_bound, g.sound.short, g.whole);
     }
 
 pub returns : goal.returns
 returns c =
     let a = c.args in
     let i = a.image.now in
-    let p = c.requires.0 in
+    let p = c.requires.cursor_sound in
     let n = length i in
     let y = c.in-At.y in
     let below = rw c.in-At.is at c.find_next.ensures.1 in

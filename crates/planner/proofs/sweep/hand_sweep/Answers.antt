@@ -38,7 +38,6 @@ loop-left-preserved c =
     let a = c.args in
     let l = c.loop-left in
     let more = c.loop-left-test.true in
-    let next = c.t-1.given.0 in
     (
       omega (arith, c.hand_move-t.auto.kinds, l.invariant.0),
       omega (arith, c.hand_move-t.auto.addresses, l.invariant.1),
