@@ -1,14 +1,14 @@
 //! Links liblilota.a: the file that LILOTA_LIB names, or the one that
-//! `rt staticlib lilota` writes.
+//! `rt lib` writes in crates/lilota.
 use std::path::{Path, PathBuf};
 
-const BUILT: &str = "../../target/staticlib/liblilota.a";
+const BUILT: &str = "../../crates/lilota/out/liblilota.a";
 
 fn main() {
     println!("cargo:rerun-if-env-changed=LILOTA_LIB");
     let path = std::env::var("LILOTA_LIB").map_or(PathBuf::from(BUILT), PathBuf::from);
     let path = path.canonicalize().unwrap_or_else(|e| {
-        panic!("{}: {e}; run `rt staticlib lilota`, or name a library by its whole path in LILOTA_LIB", path.display())
+        panic!("{}: {e}; run `bash host/prove`, or name a library by its whole path in LILOTA_LIB", path.display())
     });
     println!("cargo:rerun-if-changed={}", path.display());
     println!("cargo:rustc-env=LILOTA_LIB_PATH={}", path.display());

@@ -1,6 +1,5 @@
 -- Document 02, K5: names with what the check says of them, worked out by hand and proved by computing.
-use Rattle.spec.specs.Prelude.{ℕ, ◌≡◌, List, [], ◌∷◌, ◌++◌, replicate}
-use Rattle.std.specs.Prelude.{refl}
+use Rattle.std.specs.Prelude.{ℕ, ◌≡◌, List, [], ◌∷◌, ◌++◌, replicate, refl}
 use Rattle.spec.specs.declared.NameFault.{NameFault}
 use Rattle.spec.specs.Basics.{Each}
 use Rattle.spec.specs.Bytes as Bytes

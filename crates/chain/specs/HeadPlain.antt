@@ -3,7 +3,7 @@ use Rattle.std.specs.Prelude.{ℕ, ◌+◌, ◌-◌, ◌≡◌, refl, true, fals
 use Rattle.std.proofs.Common.{arith, length-drop}
 use Rattle.spec.specs.declared.Next.{Next}
 use Rattle.spec.specs.Bytes.{is_record, is_high, is_erased, is_reserved, is_unfinished}
-use Rattle.spec.specs.Record.{size_of, low_of, high_of, status_of}
+use Rattle.spec.specs.Record.{size_of, status_of}
 use Rattle.spec.specs.Next.{record_at}
 use Rattle.spec.specs.Head.{torn_here, walked_here, walk_next}
 use Rattle.laws.specs.Tests.{or_left, or_right}

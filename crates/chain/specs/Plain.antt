@@ -1,5 +1,5 @@
 -- A plain record: what its four bytes say of it, and the step over it.
-use Rattle.std.specs.Prelude.{ℕ, ◌+◌, ◌-◌, ◌*◌, ◌/◌, ◌%◌, ◌≤◌, ◌<◌, ◌≡◌, refl, Bool, true, false, List, length, take, drop, get_or, ltb, eqb}
+use Rattle.std.specs.Prelude.{ℕ, ◌+◌, ◌-◌, ◌*◌, ◌/◌, ◌%◌, ◌≤◌, ◌<◌, ◌≡◌, refl, Bool, true, false, List, length, take, drop, get_or, ltb}
 use Rattle.std.proofs.Common.{arith, sym, ap, ap₂, ◌∙◌, length-take, get_or-take, ltb-true, ne_eqb}
 use Rattle.spec.specs.declared.Kind.{Kind}
 use Rattle.spec.specs.declared.Next.{Next}
@@ -7,7 +7,6 @@ use Rattle.spec.specs.Bytes.{is_record, is_high, is_erased, is_reserved, is_unfi
 use Rattle.spec.specs.Bytes.{under_way, on_way, clears, is_start, is_clean}
 use Rattle.spec.specs.Record.{size_of, low_of, high_of, status_of, spare_of}
 use Rattle.spec.specs.Next.{is_torn_marker, kind, record_at, next_at, next}
-use Rattle.spec.specs.Chain.{allowed}
 use Rattle.laws.specs.Next.{next_arm}
 use Rattle.record.specs.Within.{Within, RecordIf}
 use Rattle.record.specs.Digits.{digits}
@@ -15,7 +14,7 @@ use Rattle.chain.specs.declared.Cursor.{Cursor}
 use Rattle.chain.specs.declared.Spot.{Spot}
 use Rattle.chain.specs.declared.Item.{Item}
 use Rattle.chain.specs.declared.Nearby.{Nearby}
-use Rattle.chain.specs.Cursor.{look, past, settle, advance, unfinished_at, CursorSound, Inside}
+use Rattle.chain.specs.Cursor.{look, past, settle, unfinished_at, CursorSound}
 use Rattle.chain.specs.CursorLaws.{look_is, advanced_here}
 use Rattle.spec.specs.Reading.{marked}
 use Rattle.chain.specs.Rest.{entry_of}

@@ -1,5 +1,5 @@
 -- The first records of the chain: how a loop counts them, and the search for a name among them.
-use Rattle.std.specs.Prelude.{ℕ, suc, ◌+◌, ◌≤◌, ◌≡◌, refl, Bool, true, false, ◌||◌, List, [], ◌∷◌, ◌++◌, take, drop}
+use Rattle.std.specs.Prelude.{ℕ, suc, ◌+◌, ◌≤◌, ◌≡◌, refl, Bool, ◌||◌, List, [], ◌∷◌, ◌++◌, take, drop}
 use Rattle.std.proofs.Common.{arith, sym, ap, ap₂, ◌∙◌, append-nil, take-append-drop, take-add, drop-drop}
 use Rattle.std.proofs.Math.Seq.{take-nil}
 use Rattle.spec.specs.Basics.{Each}

@@ -1,5 +1,5 @@
 -- Records that are no files of a name, passed over in a search for it.
-use Prim.Native.Nat.{ℕ, zero, suc, ◌+◌, ◌-◌}
+use Prim.Native.Nat.{ℕ, zero, suc, ◌+◌}
 use Rattle.std.proofs.Common.{arith, zero-add, suc-add, ap₂, ◌∙◌}
 use Rattle.std.specs.Prelude.{◌≡◌, refl, Bool, true, false, ◌&&◌, ◌||◌, take, drop}
 use Rattle.std.proofs.Math.Path.{sym, ap}

@@ -1,6 +1,6 @@
 -- Request K3: sizes of records summed along the chain. A sum and what is left to read are never more than there was at the start.
-use Rattle.std.specs.Prelude.{ℕ, ◌+◌, ◌≤◌, ◌≡◌, refl, Bool, true, false, List, [], ◌∷◌, length}
-use Rattle.std.proofs.Common.{arith, add-zero, zero-add, sym, ap, ap₂, ◌∙◌}
+use Rattle.std.specs.Prelude.{ℕ, ◌+◌, ◌≤◌, ◌≡◌, Bool, true, false, List}
+use Rattle.std.proofs.Common.{arith, add-zero, zero-add, sym, ap₂, ◌∙◌}
 use Rattle.spec.specs.Basics.{keep}
 use Rattle.spec.specs.Record.{Entry, size, size_of}
 use Rattle.spec.specs.Space.{sizes}
@@ -9,7 +9,7 @@ use Rattle.chain.specs.declared.Cursor.{Cursor}
 use Rattle.chain.specs.declared.Spot.{Spot}
 use Rattle.chain.specs.declared.Item.{Item}
 use Rattle.chain.specs.Cursor.{advance, left, CursorSound}
-use Rattle.chain.specs.Along.{Reached, reached, from_left, from_sound, Way, way, along}
+use Rattle.chain.specs.Along.{Reached, from_left, from_sound, Way, way, along}
 use Rattle.chain.specs.Rest.{Run, followed, rest, rest_step, entry_of}
 use Rattle.chain.specs.Fold.{Whole, name_length_is, content_length_is, Passes, NotRecord, Folded, fold_start, fold_end, fold_step}
 

@@ -5,60 +5,62 @@
 use checking::Checked;
 use checking::check::check;
 use spec::{Rule, Verdict};
+use std::io::{self, Read};
 
-fn text(bytes: &[u8]) {
-    io::write_all(1, bytes);
+// The longest image that is read.
+const LONGEST: usize = 65536;
+
+fn text(rt: &impl Print, words: &str) -> io::Result<()> {
+    print!(rt; "{words}")
 }
 
-fn rule_word(rule: Rule) {
+fn rule_word(rt: &impl Print, rule: Rule) -> io::Result<()> {
     match rule {
-        Rule::Head => text(b"head"),
-        Rule::Unfinished => text(b"unfinished"),
-        Rule::Header => text(b"header"),
-        Rule::Name => text(b"name"),
-        Rule::End => text(b"end"),
-        Rule::Mark => text(b"mark"),
-        Rule::Free => text(b"free"),
+        Rule::Head => text(rt, "head"),
+        Rule::Unfinished => text(rt, "unfinished"),
+        Rule::Header => text(rt, "header"),
+        Rule::Name => text(rt, "name"),
+        Rule::End => text(rt, "end"),
+        Rule::Mark => text(rt, "mark"),
+        Rule::Free => text(rt, "free"),
     }
 }
 
-fn broken_line(rule: Rule, at: usize) {
-    text(b"broken ");
-    rule_word(rule);
-    text(b" ");
-    io::print_decimal(1, at as u64);
-    text(b"\n");
+fn broken_line(rt: &impl Print, rule: Rule, at: usize) -> io::Result<()> {
+    text(rt, "broken ")?;
+    rule_word(rt, rule)?;
+    println!(rt; " {at}")
 }
 
-fn recovery_line(number: u32) {
-    text(b"recovery ");
-    io::print_decimal(1, number as u64);
-    text(b"\n");
+fn recovery_line(rt: &impl Print, number: u32) -> io::Result<()> {
+    println!(rt; "recovery {number}")
 }
 
-fn verdict_line(v: Verdict) {
+fn verdict_line(rt: &impl Print, v: Verdict) -> io::Result<()> {
     match v {
-        Verdict::Settled => text(b"settled\n"),
-        Verdict::Recovery { number } => recovery_line(number),
-        Verdict::Broken { rule, at } => broken_line(rule, at),
+        Verdict::Settled => text(rt, "settled\n"),
+        Verdict::Recovery { number } => recovery_line(rt, number),
+        Verdict::Broken { rule, at } => broken_line(rt, rule, at),
     }
 }
 
 // 22 is the only refusal.
-fn line(c: Checked) {
+fn line(rt: &impl Print, c: Checked) -> io::Result<()> {
     match c {
-        Checked::Done(v) => verdict_line(v),
-        Checked::Refused(_) => text(b"22\n"),
+        Checked::Done(v) => verdict_line(rt, v),
+        Checked::Refused(_) => text(rt, "22\n"),
     }
 }
 
-fn main() {
-    let mut image = io::large_buffer();
-    let n = io::read_full(0, &mut image);
-    let mut more = [0u8; 1];
-    if io::read_full(0, &mut more) == 0 {
-        line(check(&image[..n]));
+// One byte more than the longest image is asked for, which tells a longer one.
+fn main(rt: HostRuntime) -> io::Result<()> {
+    let mut image = Vec::new(rt.alloc());
+    rt.reader()
+        .take(LONGEST as u64 + 1)
+        .read_to_end(&mut image)?;
+    if image.len() <= LONGEST {
+        line(&rt, check(&image))
     } else {
-        text(b"22\n");
+        text(&rt, "22\n")
     }
 }

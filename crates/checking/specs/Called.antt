@@ -1,11 +1,11 @@
 -- The name of the record at which the chain breaks off, as the code looks at it.
-use Rattle.std.specs.Prelude.{ℕ, zero, suc, ◌≡◌, Bool, ◌&&◌, ◌||◌, List, [], ◌∷◌, ◌++◌, length}
+use Rattle.std.specs.Prelude.{ℕ, ◌≡◌, Bool, ◌&&◌, ◌||◌, List, [], ◌∷◌, ◌++◌, length}
 use Rattle.std.proofs.Common.{arith, ◌∙◌}
 use Rattle.std.proofs.Math.Path.{refl, sym, ap, ap₂}
 use Rattle.std.proofs.Math.Bool.{true, false, not}
 use Rattle.std.proofs.Math.Dec.{eqb}
 use borrow.Author.Tests.{eq-eqb, ne_eqb, eqb-true}
-use Rattle.spec.specs.Basics.{same, empty, any}
+use Rattle.spec.specs.Basics.{empty, any}
 use Rattle.spec.specs.Record.{name_ok, Entry, name_of}
 use Rattle.spec.specs.Files.{named, named_as, has_named, has_name, live}
 use Rattle.spec.specs.Reading.{name_legal}

@@ -1,5 +1,5 @@
 -- What the answer of the check says in document 02's words.
-use Rattle.std.specs.Prelude.{ℕ, ◌≡◌, refl, Bool, true, false, length}
+use Rattle.std.specs.Prelude.{ℕ, ◌≡◌, Bool, true, false, length}
 use Rattle.std.proofs.Common.{arith, sym, ap, ◌∙◌}
 use Rattle.spec.specs.declared.Rule.{Rule}
 use Rattle.spec.specs.declared.Verdict.{Verdict}
@@ -7,7 +7,7 @@ use Rattle.spec.specs.Step.{Image}
 use Rattle.spec.specs.Basics.{Answer, refuse, give, numbered}
 use Rattle.spec.specs.Geometry.{good_length}
 use Rattle.spec.specs.Verdict.{verdict, check, rule_number, VerdictNumbers, verdict_told, verdict_numbers}
-use Rattle.laws.specs.Length.{Good, good, Workable}
+use Rattle.laws.specs.Length.{good, Workable}
 use Rattle.checking.specs.declared.Checked.{Checked}
 use Rattle.checking.specs.declared.Told.{Told}
 

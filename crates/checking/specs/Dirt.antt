@@ -1,5 +1,5 @@
 -- The first byte of the free run that is not FF, as the code looks for it.
-use Prim.Native.Nat.{ℕ, zero, suc, ◌+◌, ◌-◌, ◌≤◌, ◌<◌, min}
+use Prim.Native.Nat.{ℕ, suc, ◌+◌, ◌-◌, ◌≤◌, ◌<◌, min}
 use Rattle.std.proofs.Common.{arith, not-suc-le-zero, ap, ◌∙◌, length-take, length-drop, drop_of_length-le, length-take-le}
 use Rattle.std.specs.Prelude.{◌≡◌, refl, Bool, true, false, List, [], ◌∷◌, length, take, drop, eqb}
 use Rattle.std.proofs.Math.Path.{sym}

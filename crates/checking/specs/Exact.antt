@@ -1,13 +1,13 @@
 -- The theorem as three equations, one for each thing that the check may say, against mount's plan.
-use Rattle.std.specs.Prelude.{ℕ, zero, suc, ◌≡◌, refl, Bool, true, false, ◌||◌, List, [], ◌∷◌, eqb}
-use Rattle.std.proofs.Common.{sym, ◌∙◌}
+use Rattle.std.specs.Prelude.{ℕ, ◌≡◌, refl, Bool, true, false, ◌||◌, eqb}
+use Rattle.std.proofs.Common.{sym}
 use Rattle.std.proofs.Math.Path.{ap}
 use Rattle.spec.specs.declared.Refusal.{Refusal}
 use Rattle.spec.specs.declared.Verdict.{Verdict}
 use Rattle.spec.specs.Step.{Image}
-use Rattle.spec.specs.Basics.{Answer, refuse, give, numbered, onward, empty}
+use Rattle.spec.specs.Basics.{Answer, refuse, give, onward, empty}
 use Rattle.spec.specs.Chain.{Reading}
-use Rattle.spec.specs.Mount.{settled, mended}
+use Rattle.spec.specs.Mount.{settled}
 use Rattle.spec.specs.Door.{accepted}
 use Rattle.spec.specs.Answers.{Plan, mount_of, mount_plan}
 use Rattle.spec.specs.Verdict.{check}

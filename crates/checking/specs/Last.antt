@@ -1,6 +1,6 @@
 -- Behind the records: where the chain breaks off, or the free run; and what comes of it.
-use Rattle.std.specs.Prelude.{ℕ, zero, suc, ◌+◌, ◌-◌, ◌≤◌, ◌<◌, Bool, ◌&&◌, ◌||◌, not, length, take, drop, get_or}
-use Rattle.std.proofs.Common.{arith, ap₂, ◌∙◌, get_or-drop}
+use Rattle.std.specs.Prelude.{ℕ, zero, suc, ◌+◌, ◌-◌, Bool, take, drop, get_or}
+use Rattle.std.proofs.Common.{ap₂, ◌∙◌, get_or-drop}
 use Rattle.std.proofs.Math.Path.{◌≡◌, refl, sym, ap}
 use Rattle.std.proofs.Math.Bool.{true, false}
 use mathlib.Core.List.{List, [], ◌∷◌, ◌++◌}
@@ -10,7 +10,7 @@ use Rattle.spec.specs.Step.{Image}
 use Rattle.spec.specs.declared.Fault.{Fault}
 use Rattle.spec.specs.declared.Verdict.{Verdict}
 use Rattle.spec.specs.Basics.{Answer, refuse, give, numbered, any}
-use Rattle.spec.specs.Record.{data_len_of, rec_of, Entry, name_of}
+use Rattle.spec.specs.Record.{data_len_of, rec_of, Entry}
 use Rattle.spec.specs.Head.{head}
 use Rattle.spec.specs.Chain.{Reading, reading_from}
 use Rattle.spec.specs.Files.{superseded}

@@ -1,16 +1,15 @@
 -- No rule is broken exactly if the reading is legal.
-use Rattle.std.specs.Prelude.{◌≡◌, Bool, true, ◌&&◌, not}
+use Rattle.std.specs.Prelude.{◌≡◌, Bool, true, ◌&&◌}
 use Rattle.std.proofs.Math.Path.{refl, sym, ap, ap₂}
 use Rattle.std.proofs.Common.{◌∙◌}
 use Rattle.std.proofs.Math.Bool.{false}
-use mathlib.Core.List.{List, [], ◌∷◌, ◌++◌, append-nil}
-use Rattle.spec.specs.declared.Ending.{Ending}
+use mathlib.Core.List.{List, [], ◌++◌, append-nil}
 use Rattle.spec.specs.declared.Fault.{Fault}
 use Rattle.spec.specs.Step.{Image}
 use Rattle.spec.specs.Record.{Entry}
 use Rattle.spec.specs.Chain.{Reading}
 use Rattle.spec.specs.Reading.{free_ok, whole, names_ok, single, marks_ok, legal}
-use Rattle.spec.specs.Fault.{chain_fault, cut_off, free_fault, end_fault, first_fault}
+use Rattle.spec.specs.Fault.{chain_fault, cut_off, end_fault, first_fault}
 use Rattle.checking.specs.Clear.{and_assoc, clear, free_clear, records_clear}
 
 -- where the chain ends as it may, no record is cut off

@@ -1,6 +1,6 @@
 -- The records that were read, as the code looks at them.
 use Rattle.std.specs.Prelude.{ℕ, zero, suc, ◌+◌, ◌-◌, ◌≤◌, ◌<◌, ◌≡◌, Bool, ◌&&◌, ◌||◌, not, length, take, drop, get_or, eqb}
-use Rattle.std.proofs.Common.{arith, not-suc-le-zero, ap₂, ◌∙◌, length-drop}
+use Rattle.std.proofs.Common.{arith, not-suc-le-zero, ◌∙◌, length-drop}
 use Rattle.std.proofs.Math.Path.{refl, sym, ap}
 use Rattle.std.proofs.Math.Bool.{true, false}
 use mathlib.Core.List.{List, [], ◌∷◌, ◌++◌}
@@ -19,12 +19,12 @@ use Rattle.chain.specs.declared.Item.{Item}
 use Rattle.chain.specs.declared.Earlier.{Earlier}
 use Rattle.chain.specs.Cursor.{advance}
 use Rattle.chain.specs.Rest.{Run, rest, entry_of}
-use Rattle.chain.specs.Fold.{Whole, Passes, NotRecord, rest_done}
+use Rattle.chain.specs.Fold.{Passes, NotRecord, rest_done}
 use Rattle.chain.specs.FileLaws.{name_part}
 use Rattle.chain.specs.Repeats.{earlier_of}
 use Rattle.chain.specs.Prefix.{front}
 use Rattle.checking.specs.declared.CutOff.{CutOff}
-use Rattle.checking.specs.Stop.{cut_list, CutInside}
+use Rattle.checking.specs.Stop.{cut_list}
 
 -- all records that were read, the one that is cut off too
 unfoldable pub all_of : Image → Cursor → CutOff → List Entry

@@ -2,7 +2,7 @@
 -- settled
 -- exactly if mount has no step, and needs the recovery of a number exactly if that is the first repair that has one.
 use Prim.Native.Nat.{ℕ, zero, suc}
-use Rattle.std.specs.Prelude.{◌≡◌, Bool, List, [], length, drop}
+use Rattle.std.specs.Prelude.{◌≡◌, Bool, length, drop}
 use Rattle.std.proofs.Math.Path.{refl, sym, ap}
 use Rattle.std.proofs.Common.{◌∙◌}
 use Rattle.std.proofs.Math.Bool.{true, false}
@@ -11,16 +11,16 @@ use Rattle.spec.specs.declared.Rule.{Rule}
 use Rattle.spec.specs.declared.Fault.{Fault}
 use Rattle.spec.specs.declared.Verdict.{Verdict}
 use Rattle.spec.specs.Step.{Image}
-use Rattle.spec.specs.Basics.{Answer, refuse, give, numbered, checked, onward}
+use Rattle.spec.specs.Basics.{Answer, refuse, give, numbered, checked}
 use Rattle.spec.specs.Geometry.{good_length}
 use Rattle.spec.specs.Record.{start_here, clean_here, wrap_here}
 use Rattle.spec.specs.Head.{sought, walk, chosen, head}
 use Rattle.spec.specs.Chain.{Reading, reading_from}
-use Rattle.spec.specs.Reading.{legal, judged, read_at, reading}
+use Rattle.spec.specs.Reading.{legal, judged, reading}
 use Rattle.spec.specs.Mount as Mount
 use Rattle.spec.specs.Door.{accepted}
 use Rattle.spec.specs.Fault.{first_fault}
-use Rattle.spec.specs.Verdict.{first_repair, repair_verdict, verdict_of, verdict_from, verdict, check}
+use Rattle.spec.specs.Verdict.{first_repair, verdict_of, verdict_from, verdict, check}
 use Rattle.checking.specs.Clear.{clear}
 use Rattle.checking.specs.Legal.{clear_legal}
 use Rattle.checking.specs.Repairs.{FirstStep, first_step, first_with_step, is_none, number_is, settled_number}

@@ -1,5 +1,5 @@
 -- The hash of a name. Nothing is proved of it but that a name has one, below 2^32: no answer depends on how well it spreads.
-use Rattle.std.specs.Prelude.{ℕ, zero, suc, ◌+◌, ◌-◌, ◌*◌, ◌/◌, ◌%◌, ◌≤◌, ◌<◌, ◌^◌, ◌≡◌, refl, List, [], ◌∷◌, length, take, drop, get_or}
+use Rattle.std.specs.Prelude.{ℕ, zero, suc, ◌+◌, ◌-◌, ◌*◌, ◌/◌, ◌%◌, ◌≤◌, ◌<◌, ◌^◌, ◌≡◌, List, ◌∷◌, length, take, drop, get_or}
 use Rattle.std.proofs.Common.{arith, pow-suc, sym, ap, ◌∙◌, drop-drop}
 use Rattle.laws.specs.Parts.{drop_next}
 use Rattle.record.specs.Digits.{number}

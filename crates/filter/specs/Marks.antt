@@ -1,12 +1,12 @@
 -- A name's bytes, word by word: whether all of them may stand in one, and the hash of all.
-use Rattle.std.specs.Prelude.{ℕ, ◌+◌, ◌-◌, ◌%◌, ◌≤◌, ◌<◌, ◌^◌, min, ◌≡◌, refl, Bool, true, false, ◌&&◌, not, List, [], ◌∷◌, length, take, drop, get_or, leb}
+use Rattle.std.specs.Prelude.{ℕ, ◌+◌, ◌%◌, ◌≤◌, ◌<◌, ◌^◌, min, ◌≡◌, refl, Bool, true, false, ◌&&◌, not, List, [], ◌∷◌, length, take, drop, get_or}
 use Rattle.std.proofs.Common.{arith, sym, ap, ap₂, subst, ◌∙◌, length-take, take-append-drop, drop_of_length-le, take-take, drop-drop, le-leb, eq-eqb, ne_eqb}
 use Rattle.spec.specs.Basics.{all}
 use Rattle.spec.specs.Bytes.{is_space}
 use Rattle.spec.specs.Record.{ends_in_slash, name_ok}
 use Rattle.laws.specs.Parts.{part_first}
 use Rattle.laws.specs.Names.{name_ok_is}
-use Rattle.laws.specs.Spaces.{is_readable, ends_in_space, None_bad, all_good}
+use Rattle.laws.specs.Spaces.{is_readable, ends_in_space, all_good}
 use Rattle.filter.specs.declared.NameMarks.{NameMarks}
 use Rattle.filter.specs.declared.Looked.{Looked}
 use Rattle.filter.specs.Hash.{mixed, name_hash, Hashed, hashed_first, hashed_next, hashed_all}

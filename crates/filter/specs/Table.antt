@@ -1,7 +1,7 @@
 -- A Bloom filter over names: the bits that a name sets, and that they stay set.
-use Prim.Native.Nat.{ℕ, zero, suc, ◌+◌, ◌*◌, ◌/◌, ◌%◌, ◌≤◌, ◌<◌, ◌^◌, min, max}
-use Rattle.std.proofs.Common.{arith, sym, ap, ◌∙◌, length-set, drop_of_length-le, get_or-set_same, get_or-set_other, eq-eqb, eqb-true}
-use Rattle.std.specs.Prelude.{◌≡◌, Bool, true, false, ◌&&◌, List, [], ◌∷◌, length, drop, get_or, set, eqb}
+use Prim.Native.Nat.{ℕ, ◌*◌, ◌/◌, ◌%◌, ◌≤◌, ◌<◌, ◌^◌, max}
+use Rattle.std.proofs.Common.{arith, ap, ◌∙◌, length-set, get_or-set_same, get_or-set_other, eq-eqb, eqb-true}
+use Rattle.std.specs.Prelude.{◌≡◌, Bool, true, false, ◌&&◌, List, length, get_or, set, eqb}
 use Rattle.std.proofs.Math.Path.{refl}
 use Rattle.std.specs.Int.Bits.{bit_and, bit_or, and_step, or_step, and_zero_r, and_self}
 use Rattle.std.proofs.lemmas.Nat.{or_comm}

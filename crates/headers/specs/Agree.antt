@@ -1,23 +1,16 @@
 -- Two stretches that agree in what the walk looks at: the walk finds the same records in both, or meets in both what can't stand there.
-use Rattle.std.specs.Prelude.{ℕ, zero, suc, ◌+◌, ◌-◌, ◌≤◌, ◌<◌, ◌≡◌, Bool, ◌&&◌, ◌||◌, not, ◌⊎◌, List, [], ◌∷◌, ◌++◌, length, take, drop, get_or, eqb, ltb}
-use Rattle.std.proofs.Common.{arith, sym, ap, ap₂, subst, ◌∙◌, inl, inr, length-take, length-drop, get_or-take, take-take, length-take-le, ne_eqb, ltb-true}
+use Rattle.std.specs.Prelude.{ℕ, zero, suc, ◌+◌, ◌≡◌, Bool, ◌&&◌, ◌⊎◌, List, [], ◌∷◌, length, take, drop, eqb, ltb}
 use Rattle.std.proofs.Math.Path.{refl}
-use Rattle.std.proofs.Math.Bool.{true, false, and-eq-true_iff}
-use Rattle.spec.specs.declared.Kind.{Kind}
+use Rattle.std.proofs.Math.Bool.{true, false}
 use Rattle.spec.specs.declared.Next.{Next}
 use Rattle.spec.specs.Basics.{long, blank, all}
-use Rattle.spec.specs.Geometry.{up8}
-use Rattle.spec.specs.Bytes.{is_unfinished, is_erased, is_reserved}
-use Rattle.spec.specs.Record.{Entry, low_of, high_of, status_of, spare_of, data_len_of, name_length, size_of, rec_of}
-use Rattle.spec.specs.Next.{kind, sized, torn_at, torn_wrap_at, clear_at, next_at, next}
-use Rattle.spec.specs.Chain.{Chain, add, stop, chain}
-use Rattle.spec.specs.Length.{right_mark, stands, is_plain, header_stands, name_read, standing_size}
-use Rattle.laws.specs.Tests.{wrong, and_left, and_right}
-use Rattle.laws.specs.Parts.{long_le, long_lt, long_true}
+use Rattle.spec.specs.Bytes.{is_unfinished}
+use Rattle.spec.specs.Record.{Entry, low_of, status_of, size_of, rec_of}
+use Rattle.spec.specs.Next.{sized, torn_at, torn_wrap_at, next}
+use Rattle.spec.specs.Chain.{Chain, chain}
+use Rattle.spec.specs.Length.{right_mark, stands, header_stands, name_read, standing_size}
 use Rattle.laws.specs.Chain.{chain_record, chain_stop}
-use Rattle.headers.specs.Kinds.{kind_of}
-use Rattle.headers.specs.Twins.{Twin, Twins, stands_alike, all_alike}
-use Rattle.headers.specs.NameBytes.{one_name}
+use Rattle.headers.specs.Twins.{Twins}
 
 -- ---- what the walk finds in a stretch
 

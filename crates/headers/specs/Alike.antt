@@ -1,5 +1,5 @@
 -- Two stretches that agree in what the walk looks at are alike to it.
-use Rattle.std.specs.Prelude.{ℕ, zero, suc, ◌+◌, ◌≤◌, ◌<◌, ◌≡◌, Bool, ◌&&◌, ◌||◌, not, ◌⊎◌, List, [], ◌∷◌, length, drop, get_or, eqb}
+use Rattle.std.specs.Prelude.{ℕ, zero, suc, ◌+◌, ◌≤◌, ◌<◌, ◌≡◌, Bool, ◌&&◌, ◌||◌, not, List, [], ◌∷◌, length, drop, get_or, eqb}
 use Rattle.std.proofs.Common.{arith, ap, subst, ◌∙◌, inl, inr, length-drop, get_or-take, length-take-le, ne_eqb}
 use Rattle.std.proofs.Math.Path.{refl, sym, ap₂}
 use Rattle.std.proofs.Math.Bool.{true, false}
@@ -12,16 +12,16 @@ use Rattle.spec.specs.Geometry.{up8}
 use Rattle.spec.specs.Bytes.{is_unfinished, is_erased, is_reserved, is_spare, is_high, is_wrap, is_wrapped, is_record, is_start, is_clean}
 use Rattle.spec.specs.Record.{Entry, low_of, high_of, status_of, spare_of, data_len_of, name_length, size_of, rec_of}
 use Rattle.spec.specs.Next.{is_torn_marker, kind, sized, clear_at, next_at, next}
-use Rattle.spec.specs.Chain.{Chain, add, stop, chain}
-use Rattle.spec.specs.Length.{right_mark, own_name_ok, stands, is_plain, header_stands, name_read, standing_size}
-use Rattle.laws.specs.Tests.{wrong, not_true, and_left, and_right}
+use Rattle.spec.specs.Chain.{Chain, add, chain}
+use Rattle.spec.specs.Length.{right_mark, own_name_ok, stands, header_stands, name_read, standing_size}
+use Rattle.laws.specs.Tests.{not_true, and_left, and_right}
 use Rattle.laws.specs.Next.{NotRecord}
 use Rattle.laws.specs.Parts.{long_true}
 use Rattle.laws.specs.Chain.{chain_record, chain_stop}
 use Rattle.headers.specs.Kinds.{kind_of}
-use Rattle.headers.specs.Twins.{Twin, Twins, stands_alike}
+use Rattle.headers.specs.Twins.{Twin, stands_alike}
 use Rattle.headers.specs.NameBytes.{OneName, one_name}
-use Rattle.headers.specs.Agree.{all_right, fine, Same, Alike, Agree, Fails_if}
+use Rattle.headers.specs.Agree.{all_right, fine, Alike, Agree, Fails_if}
 use Rattle.headers.specs.Agree.{fails, marked_wrong, open_wrong, sized_fails, torn_if, torn_wrap_if}
 
 pub long_same : (j : ℕ) (s t : List ℕ) → length s ≡ length t → long j s ≡ long j t

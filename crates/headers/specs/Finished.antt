@@ -1,5 +1,5 @@
 -- The records of a chain: only the last may be unfinished, and the first byte of one that is finished is a record's, START or CLEAN.
-use Rattle.std.specs.Prelude.{ℕ, ◌-◌, ◌≤◌, ◌≡◌, refl, Bool, true, false, ◌||◌, List, [], ◌∷◌, take, drop}
+use Rattle.std.specs.Prelude.{ℕ, ◌-◌, ◌≡◌, refl, Bool, true, false, ◌||◌, List, [], ◌∷◌, take, drop}
 use Rattle.std.proofs.Common.{arith, ap, ◌∙◌, get_or-take}
 use Rattle.std.proofs.Math.Path.{sym}
 use Rattle.spec.specs.declared.Next.{Next}

@@ -1,8 +1,8 @@
 -- A chain that breaks no rule, from a head with a START or CLEAN byte on, begins with the record that stands there.
-use Rattle.std.specs.Prelude.{ℕ, ◌≤◌, ◌<◌, ◌≡◌, refl, Bool, true, false, length, take, drop, get_or}
+use Rattle.std.specs.Prelude.{ℕ, ◌<◌, ◌≡◌, refl, true, false, length, drop, get_or}
 use Rattle.std.proofs.Common.{arith, add-zero, sym, ◌∙◌, length-drop, get_or-drop}
 use Rattle.std.proofs.Math.Path.{ap}
-use mathlib.Core.List.{List, [], ◌∷◌}
+use mathlib.Core.List.{List, ◌∷◌}
 use Rattle.std.proofs.Math.Seq.{take-length}
 use Rattle.spec.specs.declared.Next.{Next}
 use Rattle.spec.specs.Step.{Image}

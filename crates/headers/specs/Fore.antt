@@ -15,7 +15,6 @@ use Rattle.spec.specs.Chain.{allowed}
 use Rattle.laws.specs.Parts.{long_le, long_lt, part_window}
 use Rattle.record.specs.Within.{Within}
 use Rattle.chain.specs.declared.Cursor.{Cursor}
-use Rattle.chain.specs.declared.Spot.{Spot}
 use Rattle.chain.specs.declared.Item.{Item}
 use Rattle.chain.specs.Cursor.{window, goes_on, turn, settle, look, advance, torn_end, CursorSound, Inside}
 use Rattle.chain.specs.CursorLaws.{inside_settle, sound_turn, advance_on, advance_here}

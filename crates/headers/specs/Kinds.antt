@@ -1,6 +1,6 @@
 -- What the four bytes of a header say of what stands there.
-use Rattle.std.specs.Prelude.{ℕ, ◌≡◌, Bool, ◌||◌, ◌⊎◌, List, ltb, eqb}
-use Rattle.std.proofs.Common.{arith, sym, ap, ◌∙◌, inl, inr}
+use Rattle.std.specs.Prelude.{ℕ, ◌≡◌, Bool, ◌||◌, List, ltb, eqb}
+use Rattle.std.proofs.Common.{sym, inl, inr}
 use Rattle.std.proofs.Math.Path.{refl}
 use Rattle.std.proofs.Math.Bool.{true, false}
 use lib.ListN.{length, drop}
@@ -8,10 +8,10 @@ use Rattle.spec.specs.declared.Kind.{Kind}
 use Rattle.spec.specs.declared.Next.{Next}
 use Rattle.spec.specs.Basics.{long, blank}
 use Rattle.spec.specs.Bytes.{is_record, is_start, is_clean, is_wrap, is_high}
-use Rattle.spec.specs.Bytes.{is_high_begun, is_erased, is_reserved, is_unfinished, is_wrapped, is_spare}
+use Rattle.spec.specs.Bytes.{is_erased, is_reserved, is_unfinished, is_wrapped, is_spare}
 use Rattle.spec.specs.Bytes.{clears, on_way, under_way, is_record_begun, is_wrap_begun}
 use Rattle.spec.specs.Record.{low_of, high_of, status_of, spare_of, size_of, data_len_of, name_length}
-use Rattle.spec.specs.Next.{is_torn_marker, kind, sized, torn_at, torn_wrap_at, clear_at, next_at, next}
+use Rattle.spec.specs.Next.{is_torn_marker, kind, sized, torn_wrap_at, clear_at, next_at, next}
 use Rattle.laws.specs.Tests.{wrong}
 use Rattle.laws.specs.Head.{Low}
 

@@ -1,5 +1,5 @@
 -- Two lists that agree in the bytes of a name, with its 00 or without, have one name.
-use Rattle.std.specs.Prelude.{ℕ, zero, suc, ◌≡◌, refl, Bool, true, false, List, [], ◌∷◌, length, take, drop}
+use Rattle.std.specs.Prelude.{ℕ, zero, suc, ◌≡◌, refl, Bool, true, false, List, [], ◌∷◌, length, take}
 use Rattle.std.proofs.Common.{arith, sym, ap, ◌∙◌}
 use Rattle.spec.specs.Bytes.{ends_name}
 use Rattle.spec.specs.Record.{name_length}

@@ -1,16 +1,16 @@
 -- Where no F8 record has an FC record of its name, the file of a name is the first FC record of the name, else the first F8.
-use Rattle.std.specs.Prelude.{ℕ, ◌≡◌, Bool, ◌&&◌, ◌||◌, eqb}
+use Rattle.std.specs.Prelude.{ℕ, ◌≡◌, Bool, ◌&&◌, ◌||◌}
 use Rattle.std.proofs.Math.Path.{refl, sym, ap}
-use Rattle.std.proofs.Common.{ap₂, ◌∙◌, eq-eqb}
+use Rattle.std.proofs.Common.{◌∙◌, eq-eqb}
 use Rattle.std.proofs.Math.Bool.{true, false}
-use Rattle.std.proofs.Math.Option.{Option, none, some}
+use Rattle.std.proofs.Math.Option.{none, some}
 use mathlib.Core.List.{List, [], ◌∷◌}
 use Rattle.spec.specs.Basics.{same, any, keep, first_such}
 use Rattle.spec.specs.Record.{Entry, name_of}
-use Rattle.spec.specs.Files.{named, named_as, has_named, superseded, files, has_name, file_named}
+use Rattle.spec.specs.Files.{named, named_as, has_named, superseded, has_name, file_named}
 use Rattle.spec.specs.Length.{of_name}
-use Rattle.laws.specs.Tests.{wrong, and_left, and_right}
-use Rattle.laws.specs.Lists.{same_is, any_yes, any_no, first_yes, first_no}
+use Rattle.laws.specs.Tests.{wrong}
+use Rattle.laws.specs.Lists.{same_is}
 use Rattle.chain.specs.FileLaws.{is_file}
 use Rattle.reading.specs.NamesLaw.{files_are}
 

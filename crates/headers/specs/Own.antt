@@ -1,5 +1,5 @@
 -- What is known of an image that was read: it is read from its own head, which stands inside at an 8-byte boundary.
-use Rattle.std.specs.Prelude.{ℕ, ◌%◌, ◌<◌, ◌≡◌, true, length, get_or}
+use Rattle.std.specs.Prelude.{◌≡◌, true, length}
 use Rattle.std.proofs.Common.{arith, sym, ap, ◌∙◌}
 use Rattle.spec.specs.Step.{Image}
 use Rattle.spec.specs.Basics.{give, numbered}

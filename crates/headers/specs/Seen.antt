@@ -1,6 +1,6 @@
 -- From the stretches that the walk looks at, byte by byte, to stretches that agree.
 use Prim.Native.Nat.{ℕ, zero, suc, ◌+◌, ◌-◌, ◌≤◌, ◌<◌}
-use Rattle.std.proofs.Common.{arith, sym, ap, ap₂, subst, ◌∙◌, length-take, drop_of_length-le, drop-drop, leb-true, leb-false}
+use Rattle.std.proofs.Common.{arith, sym, ap, subst, ◌∙◌, length-take, drop_of_length-le, drop-drop, leb-true, leb-false}
 use Rattle.std.specs.Prelude.{◌≡◌, Bool, true, List, [], ◌∷◌, length, take, drop, eqb, leb}
 use Rattle.std.proofs.Math.Path.{refl}
 use Rattle.std.proofs.Math.Bool.{false}

@@ -1,37 +1,29 @@
 -- THE first theorem of K8: "On a settled image with its own head, the answer is get's length, or 2."
-use Rattle.std.specs.Prelude.{ℕ, ◌%◌, ◌≤◌, ◌<◌, ◌≡◌, Bool, ◌&&◌, ◌||◌, not, ◌⊎◌, List, [], ◌∷◌, length, take, drop, get_or}
-use Rattle.std.proofs.Common.{arith, add-zero, sym, ◌∙◌, inl, inr, length-drop, get_or-drop}
+use Rattle.std.specs.Prelude.{ℕ, ◌%◌, ◌≡◌, Bool, ◌&&◌, ◌||◌, not, List, [], ◌∷◌, length}
+use Rattle.std.proofs.Common.{arith, sym, ◌∙◌, inl, inr}
 use Rattle.std.proofs.Math.Path.{refl, ap}
 use Rattle.std.proofs.Math.Bool.{true, false}
 use Rattle.std.proofs.Math.Option.{Option, none, some}
-use Rattle.std.proofs.Math.Seq.{take-length}
 use borrow.Author.Tests.{eq-eqb, lt-ltb}
-use Rattle.spec.specs.declared.Next.{Next}
 use Rattle.spec.specs.declared.Ending.{Ending}
-use Rattle.spec.specs.declared.NameFault.{NameFault}
 use Rattle.spec.specs.Step.{Image}
 use Rattle.spec.specs.declared.Refusal.{Refusal}
 use Rattle.spec.specs.Basics.{Answer, refuse, give, numbered, onward, Each, any, all, first_such}
-use Rattle.spec.specs.Geometry.{good_length, floor}
-use Rattle.spec.specs.Bytes.{is_record, is_start, is_clean, is_unfinished}
-use Rattle.spec.specs.Record.{Entry, name_ok, name_of, content_of, low_of}
-use Rattle.spec.specs.Next.{next}
-use Rattle.spec.specs.Chain.{Reading, allowed, reading_from}
-use Rattle.spec.specs.Files.{named, superseded, file_named}
+use Rattle.spec.specs.Geometry.{good_length}
+use Rattle.spec.specs.Bytes.{is_record, is_start, is_clean}
+use Rattle.spec.specs.Record.{Entry, name_ok, content_of}
+use Rattle.spec.specs.Chain.{Reading}
+use Rattle.spec.specs.Files.{superseded, file_named}
 use Rattle.spec.specs.Reading.{head_clean, free_ok, whole, marked, marks_ok, names_ok, single, legal}
-use Rattle.spec.specs.Mount.{settled}
-use Rattle.spec.specs.Door.{settled_reading, admitted, misnamed, admitted_named}
-use Rattle.spec.specs.Numbers.{Numbers, Outcome}
+use Rattle.spec.specs.Door.{settled_reading, admitted, misnamed}
+use Rattle.spec.specs.Numbers.{Numbers}
 use Rattle.spec.specs.Answers.{Plan, carry_out, numbers_of, found, file_of, getting, file_plan, get_plan, get}
 use Rattle.spec.specs.Length.{own_name_ok, stands, all_stand, at_tail, of_name, or_else}
 use Rattle.spec.specs.Length.{length_in, walked, head_fits, length_from, length_asked, measured, file_length}
-use Rattle.laws.specs.Tests.{wrong, not_true, and_left, and_right, or_left, or_right}
-use Rattle.laws.specs.Head.{Low, clean_two}
-use Rattle.laws.specs.Parts.{long_le}
+use Rattle.laws.specs.Tests.{wrong, not_true, and_left, and_right}
+use Rattle.laws.specs.Head.{Low}
 use Rattle.laws.specs.Settled.{second_marked, last_open, wrap_torn, unmarked, calm, settled_is}
 use Rattle.laws.specs.Door.{settled_gives, admitted_gives, named_good, named_bad}
-use Rattle.chain.specs.declared.Cursor.{Cursor}
-use Rattle.chain.specs.declared.Item.{Item}
 use Rattle.chain.specs.Rest.{rest}
 use Rattle.reading.specs.Read.{first_cursor}
 use Rattle.reading.specs.Survey.{first_sound}

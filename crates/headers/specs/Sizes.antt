@@ -1,8 +1,6 @@
 -- What the walk gathers: the lengths of the first FC record and of the first F8 record of a name; and the answer as a fold over the chain.
-use Rattle.std.specs.Prelude.{ℕ, ◌≡◌, refl, Bool, true, false, ◌&&◌, List, [], ◌∷◌, length}
-use Rattle.std.proofs.Common.{sym, ap, ap₂, ◌∙◌}
-use Rattle.std.proofs.Math.Option.{Option, none, some}
-use Rattle.spec.specs.Basics.{Answer, refuse, give, numbered, checked, all, first_such}
+use Rattle.std.specs.Prelude.{ℕ, Bool, true, false, List, [], ◌∷◌, length}
+use Rattle.spec.specs.Basics.{Answer, refuse, give, numbered, checked, all}
 use Rattle.spec.specs.Record.{Entry, content_of}
 use Rattle.spec.specs.Length.{stands, of_name}
 use Rattle.chain.specs.declared.Item.{Item}

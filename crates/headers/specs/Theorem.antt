@@ -1,8 +1,8 @@
 -- THE second theorem of K8: "Two images of one length that agree in all headers and names on that walk, and in the end that stops it,
 -- give the same answer." So no data byte can matter.
-use Prim.Native.Nat.{ℕ, zero, suc, ◌≤◌}
+use Prim.Native.Nat.{ℕ, zero, suc}
 use Rattle.std.proofs.Common.{arith, sym, subst, ◌∙◌, inl, inr, length-take, length-drop, ne_eqb}
-use Rattle.std.specs.Prelude.{◌≡◌, Bool, ◌&&◌, not, ◌⊎◌, length, take, drop}
+use Rattle.std.specs.Prelude.{◌≡◌, Bool, ◌&&◌, not, length, take, drop}
 use Rattle.std.proofs.Math.Path.{refl, ap, ap₂}
 use Rattle.std.proofs.Math.Bool.{true, false}
 use mathlib.Core.List.{List, [], ◌∷◌, ◌++◌}
@@ -10,7 +10,6 @@ use Rattle.std.proofs.Math.Seq.{take-length}
 use Rattle.std.proofs.Math.Dec.{eqb}
 use Rattle.std.proofs.lemmas.Bool.{eqb-false}
 use Rattle.spec.specs.declared.Next.{Next}
-use Rattle.spec.specs.declared.Ending.{Ending}
 use Rattle.spec.specs.declared.Extent.{Extent}
 use Rattle.spec.specs.Step.{Image}
 use Rattle.spec.specs.Basics.{Answer, refuse, give, numbered, checked, Each, all}
@@ -19,10 +18,9 @@ use Rattle.spec.specs.Record.{Entry, name_ok}
 use Rattle.spec.specs.Door.{misnamed}
 use Rattle.spec.specs.Next.{next}
 use Rattle.spec.specs.Chain.{Chain, Reading, allowed, chain, ended, read_straight}
-use Rattle.spec.specs.Chain.{read_turned, turn_torn, joined, from_head, from_zero, read_on, reading_from}
-use Rattle.spec.specs.Numbers.{Numbers, Outcome}
+use Rattle.spec.specs.Chain.{read_turned, joined, from_head, from_zero, read_on, reading_from}
 use Rattle.spec.specs.Answers.{Plan, carry_out}
-use Rattle.spec.specs.Length.{stands, all_stand, at_tail, length_in, walked, head_fits}
+use Rattle.spec.specs.Length.{stands, all_stand, at_tail, walked, head_fits}
 use Rattle.spec.specs.Length.{length_from, length_asked, measured, file_length, seen, goes_round, seen_from}
 use Rattle.laws.specs.Tests.{wrong}
 use Rattle.laws.specs.Lists.{each_left, each_right}

@@ -5,10 +5,10 @@ use Rattle.std.proofs.Math.Path.{ap, ap₂}
 use Rattle.std.proofs.Math.Bool.{true, false, not}
 use Rattle.std.proofs.Math.Option.{Option, none, some}
 use mathlib.Core.List.{List, [], ◌∷◌, ◌++◌}
-use Rattle.spec.specs.Basics.{Answer, refuse, give, numbered, all, first_such, same, empty}
+use Rattle.spec.specs.Basics.{Answer, refuse, give, numbered, all, first_such}
 use Rattle.spec.specs.Bytes.{is_unfinished}
 use Rattle.spec.specs.Record.{Entry, name_ok, name_of, content_of}
-use Rattle.spec.specs.Files.{named, has_name}
+use Rattle.spec.specs.Files.{named}
 use Rattle.spec.specs.Length.{right_mark, own_name_ok, stands, all_stand, of_name, or_else, length_in}
 
 pub record Twin (x y : Entry) : Type 0 where

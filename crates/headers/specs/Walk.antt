@@ -1,7 +1,7 @@
 -- The code's walk is the definition's: each turn of the loop, and how it ends.
 use Prim.Native.Nat.{ℕ, ◌%◌, ◌≤◌, ◌<◌}
 use Rattle.std.proofs.Common.{arith, ap₂, ◌∙◌}
-use Rattle.std.specs.Prelude.{◌≡◌, Bool, ◌&&◌, eqb}
+use Rattle.std.specs.Prelude.{◌≡◌, Bool, ◌&&◌}
 use Rattle.std.proofs.Math.Path.{refl, sym, ap}
 use Rattle.std.proofs.Math.Bool.{true, false}
 use Rattle.std.proofs.Math.Option.{Option, none, some}
@@ -9,7 +9,7 @@ use mathlib.Core.List.{List, [], ◌∷◌}
 use Rattle.std.proofs.Math.ListN.{length}
 use borrow.Author.Tests.{eq-eqb, ne_eqb, lt-ltb, le-ltb}
 use Rattle.spec.specs.Step.{Image}
-use Rattle.spec.specs.Basics.{Answer, refuse, give, numbered, checked, all, first_such}
+use Rattle.spec.specs.Basics.{Answer, refuse, numbered, checked, all, first_such}
 use Rattle.spec.specs.Record.{Entry, content_of}
 use Rattle.spec.specs.Chain.{Reading, reading_from}
 use Rattle.spec.specs.Length.{stands, all_stand, at_tail, of_name, or_else, length_in, walked, head_fits, length_from}
@@ -17,7 +17,7 @@ use Rattle.laws.specs.Length.{InRange}
 use Rattle.chain.specs.declared.Cursor.{Cursor}
 use Rattle.chain.specs.declared.Spot.{Spot}
 use Rattle.chain.specs.declared.Item.{Item}
-use Rattle.chain.specs.Cursor.{advance, CursorSound, Inside, unfinished_at}
+use Rattle.chain.specs.Cursor.{advance, CursorSound, Inside}
 use Rattle.chain.specs.Rest.{Run, entry_of, ahead, done, rest}
 use Rattle.chain.specs.Fold.{Passes, passes, NotRecord, rest_done, Folded, fold_start}
 use Rattle.reading.specs.Read.{first_cursor}

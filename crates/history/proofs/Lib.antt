@@ -1,4 +1,4 @@
--- What rests on mount's bounds (specs/Mending.antt, Few): mount on every kind of image, and the theorems. They stand here and not in specs/,
+-- What rests on mount's bounds (specs/Mending.antt, Few): mount on every kind of image, and the theorems. They stand here, not in specs/,
 -- since rt judges an edit of a definition (must-fail/) only where no theorem of specs/ rests on the theorem that it makes false.
 -- The files stand lowest first.
 

@@ -5,7 +5,7 @@ use Rattle.std.proofs.Math.Option.{Option, none, some}
 use Rattle.spec.specs.Step.{Image, Step, run}
 use Rattle.spec.specs.Basics.{Answer, give, keep, concat}
 use Rattle.spec.specs.Record.{Entry, size_of, name_ok}
-use Rattle.spec.specs.Chain.{Reading, read}
+use Rattle.spec.specs.Chain.{Reading}
 use Rattle.spec.specs.Files.{files, file_named}
 use Rattle.spec.specs.Place.{fits, with_marker, address, other_name, room}
 use Rattle.spec.specs.Write.{put_steps}

@@ -1,5 +1,5 @@
 -- A put, whatever it is given and wherever it is cut: the invariant holds of the ledger that it is fed.
-use Rattle.std.specs.Prelude.{ℕ, suc, ◌+◌, ◌-◌, ◌≤◌, ◌<◌, ◌≡◌, Bool, false, List, [], length, take, drop, eqb, leb}
+use Rattle.std.specs.Prelude.{ℕ, suc, ◌+◌, ◌≤◌, ◌<◌, ◌≡◌, Bool, false, List, [], length, take, drop, eqb, leb}
 use Rattle.std.proofs.Common.{arith, sym, ap, ◌∙◌, drop_of_length-le, leb-true, leb-false, le-leb, eqb-true, eq-eqb, ne_eqb}
 use Rattle.std.proofs.Math.Path.{refl, subst}
 use Rattle.std.proofs.Math.Bool.{true}
@@ -7,7 +7,7 @@ use Rattle.std.proofs.Math.Seq.{drop-nil}
 use Rattle.std.proofs.lemmas.Bool.{lt-leb, eqb-false}
 use Rattle.spec.specs.declared.Refusal.{Refusal}
 use Rattle.spec.specs.Step.{Image, Step, run}
-use Rattle.spec.specs.Basics.{Answer, refuse, give, numbered}
+use Rattle.spec.specs.Basics.{Answer, refuse, give}
 use Rattle.spec.specs.Bytes.{is_committed}
 use Rattle.spec.specs.Record.{size_of}
 use Rattle.spec.specs.Chain.{Reading}

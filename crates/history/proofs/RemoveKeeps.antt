@@ -1,10 +1,10 @@
 -- A remove likewise: its one step done, not done, or cut inside.
-use Rattle.std.specs.Prelude.{ℕ, zero, suc, ◌+◌, ◌-◌, ◌≡◌, refl, Bool, true, false, ◌&&◌, ◌||◌, not, List, [], ◌∷◌, drop, set, get_or, length, eqb}
+use Rattle.std.specs.Prelude.{ℕ, zero, suc, ◌+◌, ◌≡◌, refl, Bool, true, false, ◌&&◌, ◌||◌, not, List, [], ◌∷◌, drop, set, get_or, length, eqb}
 use Rattle.std.proofs.Common.{arith, sym, ap, ◌∙◌, subst, get_or-set_same}
 use Rattle.std.proofs.Math.Seq.{drop-nil}
 use Rattle.spec.specs.declared.Refusal.{Refusal}
 use Rattle.spec.specs.Step.{Image, Step, program}
-use Rattle.spec.specs.Basics.{Answer, refuse, give, numbered}
+use Rattle.spec.specs.Basics.{Answer, refuse, give}
 use Rattle.spec.specs.Bytes.{is_committed, is_migrating}
 use Rattle.spec.specs.Record.{Entry}
 use Rattle.spec.specs.Write.{status_step}

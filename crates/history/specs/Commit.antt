@@ -13,7 +13,6 @@ use Rattle.history.specs.Between.{Between, between_is, one_bit}
 use Rattle.history.specs.Kinds.{Inv}
 use Rattle.history.specs.PutOld.{same_set}
 use Rattle.history.specs.Puts.{Commits}
-use Rattle.history.specs.Induction.{left}
 use Rattle.history.specs.Partly.{partly_append, partly_by}
 
 -- inside the commit: the byte is FE still and the invariant holds of k, or it is FC and the invariant holds of l

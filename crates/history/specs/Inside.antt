@@ -4,7 +4,7 @@ use Rattle.std.proofs.Common.{arith, ◌∙◌, subst, length-drop, length-take,
 use Rattle.std.proofs.Math.Bool.{true, false}
 use Rattle.spec.specs.declared.Next.{Next}
 use Rattle.spec.specs.Step.{Image, Step, program, erase, apply, run}
-use Rattle.spec.specs.Basics.{refuse, give, Each, numbered}
+use Rattle.spec.specs.Basics.{give, Each, numbered}
 use Rattle.spec.specs.Bytes.{is_unfinished}
 use Rattle.spec.specs.Geometry.{floor, up8}
 use Rattle.spec.specs.Record.{size_of, status_of, rec_of, Entry, size}
@@ -12,7 +12,6 @@ use Rattle.spec.specs.Next.{next}
 use Rattle.spec.specs.Chain.{Chain, add, stop, allowed, chain, from_head, from_zero, Reading, read_straight, read_turned, turn_torn, joined, read_on, reading_from}
 use Rattle.spec.specs.Head.{head}
 use Rattle.spec.specs.Reading.{legal, judged, read_at, reading}
-use Rattle.spec.specs.Mount.{settled}
 use Rattle.spec.specs.Door.{settled_reading}
 use Rattle.laws.specs.Lists.{each_append}
 use Rattle.laws.specs.Steps.{Programs}

@@ -1,5 +1,5 @@
 -- What a call that was cut leaves, by the steps that are left: only the first of them counts.
-use Rattle.std.specs.Prelude.{ℕ, ◌+◌, ◌-◌, ◌≤◌, ◌≡◌, refl, Bool, true, false, List, [], ◌∷◌, ◌++◌, length, set, get_or}
+use Rattle.std.specs.Prelude.{ℕ, ◌≤◌, ◌≡◌, refl, Bool, true, false, List, [], ◌∷◌, ◌++◌, length, set, get_or}
 use Rattle.std.proofs.Common.{arith, ap}
 use Rattle.spec.specs.Step.{Image, Step, program, erase}
 use Rattle.spec.specs.History.{between, partly}

@@ -10,7 +10,7 @@ use Rattle.spec.specs.Chain.{Reading, reading_from}
 use Rattle.spec.specs.Files.{live}
 use Rattle.spec.specs.Write.{put_steps}
 use Rattle.spec.specs.Move.{Work, begin, after, copy_steps, to_clean_step, hand_over, move, clean_steps, vacated_end, vacated, start_steps, forget_steps, vacate_steps, close_steps}
-use Rattle.spec.specs.Sweep.{no_room, stuck, moves, sweep_moves}
+use Rattle.spec.specs.Sweep.{no_room, stuck, moves}
 use Rattle.spec.specs.Answers.{Plan, sweeping, sweep_of, sweep_plan}
 use Rattle.spec.specs.Door.{settled_reading, admitted}
 use Rattle.spec.specs.Bounds.{AtMost, move_most, SweepBound, SweepKinds}

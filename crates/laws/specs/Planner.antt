@@ -1,5 +1,5 @@
 -- Planned steps (02, K1): what is read back from the slices, windows put together, and that the steps planned are the steps done.
-use Rattle.std.specs.Prelude.{ℕ, zero, suc, ◌+◌, ◌≤◌, min, ◌≡◌, Bool, true, false, length, take, drop, leb}
+use Rattle.std.specs.Prelude.{ℕ, zero, suc, ◌+◌, ◌≤◌, ◌≡◌, Bool, true, false, length, take, drop}
 use Rattle.std.proofs.Common.{arith, sym, ◌∙◌, length-take, take-take, take-add, drop-drop, le-leb}
 use Rattle.std.proofs.Math.Path.{refl, ap, ap₂}
 use mathlib.Core.List.{List, [], ◌∷◌, ◌++◌, map}
@@ -9,7 +9,7 @@ use Rattle.spec.specs.Basics.{Answer, refuse, give}
 use Rattle.spec.specs.Numbers.{Numbers}
 use Rattle.spec.specs.Answers.{Plan, cut, numbers_of, carry_out}
 use Rattle.spec.specs.History.{steps_of}
-use Rattle.spec.specs.Planner.{Writing, plan_of, direct, planned_steps, kind_of, address_of, byte_of, Slices, shortest, window, done_numbers}
+use Rattle.spec.specs.Planner.{Writing, plan_of, planned_steps, kind_of, address_of, byte_of, Slices, shortest, window, done_numbers}
 use Rattle.spec.specs.Planner.{hand_out, planned, steps_in, handed_steps, in_turn, slots, PlannedAsDone}
 
 -- ---- one window

@@ -7,7 +7,7 @@ use Rattle.std.proofs.Math.Seq.{append_snoc, take-nil, take-append-add, drop-app
 use Rattle.std.specs.Int.Bits.{bit_and}
 use Rattle.std.proofs.lemmas.Nat.{and_mask}
 use Rattle.spec.specs.Step.{Image, Step, program, erase, sector, apply, run, bytes_at, shifted}
-use Rattle.spec.specs.Demand.{StepSound, StepsSound}
+use Rattle.spec.specs.Demand.{StepsSound}
 use Rattle.spec.specs.Write.{name_end_steps}
 use Rattle.spec.specs.Mount.{missing_steps}
 

@@ -1,7 +1,6 @@
 -- Steps (c) to (f) of a move from the image as it is, with Y told by its address.
-use Rattle.std.specs.Prelude.{ℕ, ◌+◌, ◌≤◌, ◌<◌, ◌≡◌, refl, Bool, true, false, List, [], ◌∷◌, ◌++◌, length, take, drop, eqb}
-use Rattle.std.proofs.Common.{arith, add-zero, add_assoc, sym, ap, ap₂, ◌∙◌, length-drop, length-take-le, drop-drop, eq-eqb, ne_eqb, eqb-true}
-use Rattle.std.proofs.lemmas.Bool.{eqb-false}
+use Rattle.std.specs.Prelude.{ℕ, ◌+◌, ◌≤◌, ◌<◌, ◌≡◌, refl, List, [], ◌∷◌, ◌++◌, length, drop}
+use Rattle.std.proofs.Common.{arith, add-zero, add_assoc, sym, ap, ap₂, ◌∙◌, length-drop, length-take-le, drop-drop}
 use Rattle.spec.specs.Step.{Image, Step, program}
 use Rattle.spec.specs.Geometry.{floor, sectors}
 use Rattle.spec.specs.Record.{Entry}

@@ -1,12 +1,12 @@
 -- A record as it stands in the image, for its copy: name and content are parts of the image.
-use Rattle.std.specs.Prelude.{ℕ, ◌+◌, ◌-◌, ◌≤◌, ◌≡◌, refl, List, length, take, drop, get_or}
+use Rattle.std.specs.Prelude.{ℕ, ◌+◌, ◌-◌, ◌≡◌, List, length, take, drop, get_or}
 use Rattle.std.proofs.Common.{arith, sym, ap, ap₂, ◌∙◌, get_or-drop, drop-drop}
 use Rattle.std.proofs.Math.Option.{some}
 use Rattle.spec.specs.declared.Place.{Place}
 use Rattle.spec.specs.declared.Status.{Status}
-use Rattle.spec.specs.Step.{Image, Step}
+use Rattle.spec.specs.Step.{Image}
 use Rattle.spec.specs.Geometry.{up8}
-use Rattle.spec.specs.Record.{Entry, name_of, content_of}
+use Rattle.spec.specs.Record.{name_of, content_of}
 use Rattle.spec.specs.Write.{put_steps}
 use Rattle.chain.specs.declared.Spot.{Spot}
 use Rattle.chain.specs.Rest.{entry_of}

@@ -5,20 +5,17 @@ use Rattle.std.specs.Prelude.{◌≡◌, refl, Bool, true, false, length}
 use Rattle.std.proofs.Math.Path.{sym, ap, ap₂}
 use mathlib.Core.List.{List, [], ◌∷◌, ◌++◌, append_assoc}
 use Rattle.spec.specs.declared.Place.{Place}
-use Rattle.spec.specs.declared.Report.{Report}
-use Rattle.spec.specs.declared.Ending.{Ending}
 use Rattle.spec.specs.Step.{Image, Step}
 use Rattle.spec.specs.Basics.{Each}
 use Rattle.spec.specs.Record.{Entry}
 use Rattle.spec.specs.Chain.{Reading}
 use Rattle.spec.specs.Files.{files}
-use Rattle.spec.specs.Reading.{marked, marks_ok}
-use Rattle.spec.specs.Mount.{drop_steps}
+use Rattle.spec.specs.Reading.{marks_ok}
 use Rattle.spec.specs.Answers.{report_of}
 use Rattle.spec.specs.Planner.{Slices}
 use Rattle.laws.specs.Settled.{second_marked}
 use Rattle.planning.specs.Repairs.{steps_1, steps_2, steps_3}
-use Rattle.planning.specs.Planned.{led_place, half_mended, planned_mend, mended_reading}
+use Rattle.planning.specs.Planned.{led_place, planned_mend, mended_reading}
 use Rattle.planning.specs.Told.{behind, behind_place, last_told, drops_told, place_told, files_told}
 use Rattle.chain.specs.declared.Item.{Item}
 use Rattle.chain.specs.declared.Tally.{Tally}

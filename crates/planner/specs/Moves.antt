@@ -1,14 +1,14 @@
 -- What a planned move leaves: nothing where there is none; else its steps, and a place, a cursor and a first copy to go on from.
-use Rattle.std.specs.Prelude.{ℕ, zero, suc, ◌+◌, ◌*◌, ◌/◌, ◌%◌, ◌≤◌, ◌<◌, ◌^◌, ◌≡◌, refl, Bool, true, false, ◌&&◌, ◌||◌, not, List, [], ◌∷◌, ◌++◌, length, eqb, ltb}
+use Rattle.std.specs.Prelude.{ℕ, suc, ◌+◌, ◌*◌, ◌%◌, ◌≤◌, ◌<◌, ◌^◌, ◌≡◌, refl, Bool, true, false, ◌&&◌, not, List, [], ◌∷◌, ◌++◌, length, eqb, ltb}
 use Rattle.std.proofs.Common.{arith, sym, ap, ap₂, subst, ◌∙◌}
-use Rattle.std.proofs.Math.Option.{Option, none, some}
+use Rattle.std.proofs.Math.Option.{some}
 use Rattle.spec.specs.declared.Place.{Place}
 use Rattle.spec.specs.Step.{Image, Step}
-use Rattle.spec.specs.Geometry.{floor, up8}
+use Rattle.spec.specs.Geometry.{floor}
 use Rattle.spec.specs.Record.{Entry, name_of, content_of, size, size_of}
 use Rattle.spec.specs.Files.{live}
 use Rattle.spec.specs.Place.{fits, fits_at_tail, address, place_after}
-use Rattle.spec.specs.Placed.{PlaceSound, with_tail}
+use Rattle.spec.specs.Placed.{PlaceSound}
 use Rattle.spec.specs.Write.{put_steps}
 use Rattle.spec.specs.Planner.{Slices}
 use Rattle.planning.specs.Planned.{come_round, copied_place, led_place, walked}
@@ -24,7 +24,7 @@ use Rattle.planner.specs.declared.Copied.{Copied}
 use Rattle.planner.specs.declared.Walk.{Walk}
 use Rattle.planner.specs.declared.Moved.{Moved}
 use Rattle.window.specs.Handed.{Handed, handed_both}
-use Rattle.planner.specs.Walk.{copy_entry, first_of, going_on, over_steps, walked_full, walked_live, walked_dead, walked_end}
+use Rattle.planner.specs.Walk.{copy_entry, first_of, going_on, walked_full, walked_live, walked_dead, walked_end}
 
 -- ---- what a move goes by
 

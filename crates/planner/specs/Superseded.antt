@@ -1,11 +1,10 @@
 -- Repair 4, from the first reading: the records that repair 2 leaves, one after another.
-use Rattle.std.specs.Prelude.{ℕ, ◌≡◌, refl, Bool, true, false, List, [], ◌∷◌, ◌++◌, map}
-use Rattle.std.proofs.Common.{sym, ap, ◌∙◌}
-use Rattle.spec.specs.Step.{Image, Step}
+use Rattle.std.specs.Prelude.{◌≡◌, refl, Bool, true, false, List, [], ◌∷◌, ◌++◌}
+use Rattle.std.proofs.Common.{ap, ◌∙◌}
+use Rattle.spec.specs.Step.{Image}
 use Rattle.spec.specs.Basics.{keep}
 use Rattle.spec.specs.Record.{Entry}
 use Rattle.spec.specs.Files.{superseded}
-use Rattle.spec.specs.Mount.{delete_step}
 use Rattle.laws.specs.Settled.{second_marked}
 use Rattle.planning.specs.Told.{later, behind}
 use Rattle.chain.specs.declared.Cursor.{Cursor}

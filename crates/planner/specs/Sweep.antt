@@ -1,13 +1,11 @@
 -- The moves of a planned sweep, one after another.
-use Rattle.std.specs.Prelude.{ℕ, zero, suc, ◌+◌, ◌*◌, ◌≤◌, ◌^◌, ◌≡◌, refl, List, [], ◌∷◌, ◌++◌, length}
+use Rattle.std.specs.Prelude.{ℕ, suc, ◌+◌, ◌*◌, ◌≤◌, ◌^◌, ◌≡◌, refl, List, [], ◌∷◌, length}
 use Rattle.std.proofs.Common.{arith, sym, ap, subst, ◌∙◌}
-use Rattle.std.proofs.Math.Option.{none}
 use Rattle.spec.specs.Step.{Image, Step}
 use Rattle.spec.specs.Basics.{concat}
 use Rattle.spec.specs.Record.{Entry}
 use Rattle.spec.specs.Planner.{Slices}
 use Rattle.planning.specs.Planned.{walked}
-use Rattle.chain.specs.Rest.{rest}
 use Rattle.window.specs.declared.Window.{Window}
 use Rattle.planner.specs.declared.Walk.{Walk}
 use Rattle.planner.specs.declared.Moved.{Moved}

@@ -1,8 +1,8 @@
 -- A sweep's moves by the entry chain: one move, and what the next one goes by.
-use Rattle.std.specs.Prelude.{ℕ, zero, suc, ◌+◌, ◌*◌, ◌%◌, ◌≤◌, ◌<◌, ◌^◌, ◌≡◌, refl, Bool, true, false, ◌&&◌, ◌||◌, not, List, [], ◌∷◌, ◌++◌, length}
+use Rattle.std.specs.Prelude.{ℕ, zero, suc, ◌≡◌, refl, Bool, true, false, List, [], ◌∷◌, ◌++◌}
 use Rattle.std.proofs.Common.{arith, sym, ap, ap₂, ◌∙◌}
 use Rattle.std.proofs.Math.Option.{Option, none, some}
-use Rattle.spec.specs.Step.{Image, Step, program}
+use Rattle.spec.specs.Step.{Step, program}
 use Rattle.spec.specs.Record.{Entry, name_of, content_of, size}
 use Rattle.spec.specs.declared.Place.{Place}
 use Rattle.spec.specs.Files.{live}

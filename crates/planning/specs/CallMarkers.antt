@@ -1,11 +1,11 @@
 -- The wrap marker of the image that a mount or a sweep leaves, from the marker of the first reading.
-use Rattle.std.specs.Prelude.{ℕ, zero, suc, ◌+◌, ◌≤◌, min, ◌≡◌, true, false, length, leb}
+use Rattle.std.specs.Prelude.{ℕ, zero, suc, ◌+◌, ◌≤◌, ◌≡◌, true, false, length, leb}
 use Rattle.std.proofs.Common.{arith, sym, ap, ap₂, ◌∙◌, subst}
 use Rattle.std.proofs.Math.Path.{refl}
 use Rattle.std.proofs.Math.Bool.{Bool}
 use Rattle.std.proofs.lemmas.Bool.{false≢true}
 use Rattle.std.proofs.Math.Option.{Option}
-use mathlib.Core.List.{List, [], ◌∷◌, ◌++◌, map}
+use mathlib.Core.List.{List, [], ◌∷◌}
 use Rattle.spec.specs.declared.Ending.{Ending}
 use Rattle.spec.specs.declared.Place.{Place}
 use Rattle.spec.specs.Step.{Image, run}
@@ -24,9 +24,8 @@ use Rattle.laws.specs.Sweep.{room_on, room_live}
 use Rattle.planning.specs.Planned.{led_place, with_status, with_low, copy_of, copied, after_copy, handed, moved_reading, start_if}
 use Rattle.planning.specs.Planned.{void_by, voided}
 use Rattle.planning.specs.Planned.{dropped, half_mended, mended_reading, move_steps}
-use Rattle.planning.specs.First.{head_recordish, one_of, Pair, pair_of, reads_head}
+use Rattle.planning.specs.First.{head_recordish, one_of, pair_of, reads_head}
 use Rattle.planning.specs.Known.{accepted_known}
-use Rattle.planning.specs.Dropped.{drop_if}
 use Rattle.planning.specs.Half.{behind, behind_place, lowered, half}
 use Rattle.planning.specs.Rivals.{dropped_is}
 use Rattle.planning.specs.Rested.{Rested}

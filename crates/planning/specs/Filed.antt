@@ -1,5 +1,5 @@
 -- On a settled image a record is live by its status and name alone, so that sizes of live records and of others are counted one by one.
-use Rattle.std.specs.Prelude.{ℕ, zero, suc, ◌+◌, ◌≡◌, refl, Bool, true, false, ◌||◌, not, List, [], ◌∷◌, ◌++◌, length, take}
+use Rattle.std.specs.Prelude.{ℕ, zero, suc, ◌+◌, ◌≡◌, refl, Bool, true, false, ◌||◌, not, List, [], ◌∷◌, ◌++◌, take}
 use Rattle.std.proofs.Common.{arith, ap, ◌∙◌}
 use Rattle.spec.specs.Step.{Image}
 use Rattle.spec.specs.Basics.{give, keep, Each}

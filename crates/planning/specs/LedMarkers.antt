@@ -1,10 +1,10 @@
 -- The wrap marker when the head goes on to the second record: it is gone if that stands at 0, and otherwise as it was. A torn wrap is told
 -- as the marker that it becomes.
-use Rattle.std.specs.Prelude.{ℕ, ◌+◌, ◌≤◌, ◌≡◌, Bool, ◌&&◌, List, [], ◌∷◌, ◌++◌, length, eqb, leb, ltb}
+use Rattle.std.specs.Prelude.{ℕ, ◌≤◌, ◌≡◌, Bool, ◌&&◌, List, ◌∷◌, ◌++◌, length, eqb, leb, ltb}
 use Rattle.std.proofs.Common.{arith, ◌∙◌, subst, eqb-true, eq-eqb, ne_eqb, ltb-true, ltb-false}
 use Rattle.std.proofs.Math.Path.{refl, sym, ap}
 use Rattle.std.proofs.Math.Bool.{true, false, not}
-use Rattle.std.proofs.lemmas.Bool.{false≢true, eqb-false}
+use Rattle.std.proofs.lemmas.Bool.{eqb-false}
 use Rattle.std.proofs.Math.Option.{Option, none}
 use Rattle.spec.specs.declared.Ending.{Ending}
 use Rattle.spec.specs.declared.Place.{Place}
@@ -12,14 +12,13 @@ use Rattle.spec.specs.Step.{Image}
 use Rattle.spec.specs.Geometry.{floor}
 use Rattle.spec.specs.Bytes.{is_unfinished}
 use Rattle.spec.specs.Record.{Entry, size}
-use Rattle.spec.specs.Chain.{Reading, read}
+use Rattle.spec.specs.Chain.{Reading}
 use Rattle.spec.specs.Placed.{with_tail}
-use Rattle.spec.specs.Space.{sizes}
 use Rattle.planning.specs.Planned.{come_round, led_place}
 use Rattle.planning.specs.Row.{Row, row_end}
 use Rattle.planning.specs.First.{row_cons, Pair, pair_here, pair_torn, pair_round, pair_low}
 use Rattle.planning.specs.Places.{place_of, round_on, round_off, round_turned}
-use Rattle.planning.specs.Space.{upper, marker_at, marker_told, row_upper, row_lower, row_sizes}
+use Rattle.planning.specs.Space.{marker_at, marker_told, row_upper, row_lower, row_sizes}
 use Rattle.planning.specs.Filed.{kept_yes, kept_no}
 use Rattle.planning.specs.Markers.{top, row_top, marker_end, told_turned, told_straight}
 

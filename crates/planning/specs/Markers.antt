@@ -1,7 +1,7 @@
 -- The wrap marker of the image that a call leaves, from the marker of the first reading: a put or a copy may write one, the head passes one
 -- on its way to 0, and a torn wrap becomes one.
-use Rattle.std.specs.Prelude.{ℕ, ◌+◌, ◌≤◌, ◌<◌, ◌≡◌, Bool, ◌&&◌, ◌||◌, not, List, [], ◌∷◌, ◌++◌, map, length, eqb, leb, ltb}
-use Rattle.std.proofs.Common.{arith, ap₂, ◌∙◌, subst, append-nil, eqb-true, le-leb, le-ltb, lt-ltb, ltb-true, ltb-false}
+use Rattle.std.specs.Prelude.{ℕ, ◌+◌, ◌≤◌, ◌<◌, ◌≡◌, Bool, List, [], ◌∷◌, ◌++◌, map, length, eqb, leb, ltb}
+use Rattle.std.proofs.Common.{arith, ◌∙◌, subst, append-nil, eqb-true, le-leb, le-ltb, lt-ltb, ltb-true, ltb-false}
 use Rattle.std.proofs.Math.Path.{refl, sym, ap}
 use Rattle.std.proofs.Math.Bool.{true, false}
 use Rattle.std.proofs.lemmas.Bool.{false≢true, eqb-false, lt-leb}
@@ -9,19 +9,16 @@ use Rattle.std.proofs.Math.Option.{Option, none, some}
 use Rattle.spec.specs.declared.Ending.{Ending}
 use Rattle.spec.specs.declared.Place.{Place}
 use Rattle.spec.specs.Step.{Image}
-use Rattle.spec.specs.Basics.{keep, Each}
 use Rattle.spec.specs.Geometry.{floor}
 use Rattle.spec.specs.Record.{size_of, Entry, size}
 use Rattle.spec.specs.Chain.{Reading}
 use Rattle.spec.specs.Files.{file_named}
 use Rattle.spec.specs.Reading.{limit}
-use Rattle.spec.specs.Place.{fits_at_tail, fits, address, with_marker, place_after}
+use Rattle.spec.specs.Place.{fits_at_tail, fits, address, with_marker}
 use Rattle.spec.specs.Placed.{with_tail}
 use Rattle.spec.specs.Space.{sizes}
-use Rattle.laws.specs.Lists.{keep_yes, keep_no}
 use Rattle.planning.specs.Planned.{come_round, copied_place, with_status, dead_if}
-use Rattle.planning.specs.Row.{Row, row_none, row_more, row_end}
-use Rattle.planning.specs.Frame.{row_le}
+use Rattle.planning.specs.Row.{Row, row_end}
 use Rattle.planning.specs.Reads.{Reads, reads_here, reads_round, reads_torn}
 use Rattle.planning.specs.Places.{place_of, round_on, round_off, round_turned, tail_address, tail_unmarked, tail_after, tail_room}
 use Rattle.planning.specs.Places.{zero_address, zero_marked, zero_turned, zero_after}
@@ -31,7 +28,7 @@ use Rattle.planning.specs.Rested.{Rested}
 use Rattle.planning.specs.PutRested.{stands_at}
 use Rattle.planning.specs.Puts.{old_at, new_record, put_left}
 use Rattle.planning.specs.Filed.{kept_yes, kept_no, kept_both}
-use Rattle.planning.specs.Space.{upper, marker_at, marker_told, row_upper, row_lower, row_sizes}
+use Rattle.planning.specs.Space.{upper, marker_at, marker_told, row_upper, row_sizes}
 
 -- ---- where the records before the turn end
 

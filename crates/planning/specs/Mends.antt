@@ -16,8 +16,6 @@ use Rattle.spec.specs.Files.{superseded}
 use Rattle.spec.specs.Reading.{reading}
 use Rattle.spec.specs.Move.{Work, begin, close_steps}
 use Rattle.spec.specs.Mount.{last_steps, torn_wrap_steps, drop_steps, repair_1, repair_2, repair_2_on, repair_3, repair_4, mended}
-use Rattle.spec.specs.Numbers.{of_mount}
-use Rattle.spec.specs.Answers.{report_of, mount_of}
 use Rattle.laws.specs.Length.{Good, good}
 use Rattle.laws.specs.Steps.{run_append}
 use Rattle.laws.specs.Settled.{close_filled, filled_some}

@@ -12,7 +12,7 @@ use Rattle.spec.specs.Basics.{part}
 use Rattle.spec.specs.Geometry.{up8}
 use Rattle.spec.specs.Bytes.{is_spare, ends_name}
 use Rattle.spec.specs.Record.{Entry, name_of, content_of, size}
-use Rattle.spec.specs.Next.{next, kind}
+use Rattle.spec.specs.Next.{next}
 use Rattle.spec.specs.Place.{address, with_marker}
 use Rattle.spec.specs.Write.{marker_steps, record_steps, put_steps}
 use Rattle.laws.specs.Parts.{Outside}

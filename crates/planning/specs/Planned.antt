@@ -1,5 +1,6 @@
 -- The steps of a sweep and of a mount from the first reading and the unchanged image alone: no step is carried out, nothing is read again.
-use Rattle.spec.specs.Prelude.{ℕ, zero, suc, min, Bool, true, false, ◌&&◌, not, Option, none, some, List, [], ◌∷◌, ◌++◌, length, eqb, ltb}
+use Rattle.std.specs.Prelude.{ℕ, zero, suc, min, Bool, true, false, ◌&&◌, not, List, [], ◌∷◌, ◌++◌, length, eqb, ltb}
+use Rattle.spec.specs.Prelude.{Option, none, some}
 use Rattle.spec.specs.declared.Place.{Place}
 use Rattle.spec.specs.declared.Ending.{Ending}
 use Rattle.spec.specs.Step.{Image, Step, program}

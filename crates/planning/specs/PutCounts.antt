@@ -1,6 +1,6 @@
 -- How many bytes are in live records after a put, and how many in others, counted in the first reading.
 use Rattle.std.specs.Prelude.{ℕ, ◌+◌, ◌<◌, ◌≡◌, ◌||◌, not, length}
-use Rattle.std.proofs.Common.{arith, sym, ap₂, ◌∙◌, subst, eq-eqb, ne_eqb}
+use Rattle.std.proofs.Common.{arith, sym, ◌∙◌, subst, eq-eqb, ne_eqb}
 use Rattle.std.proofs.Math.Path.{refl, ap}
 use Rattle.std.proofs.Math.Bool.{Bool, true, false}
 use Rattle.std.proofs.lemmas.Bool.{false≢true}

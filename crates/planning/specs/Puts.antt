@@ -1,20 +1,19 @@
 -- The call put: on every image that admits it, with room, it leaves a settled image.
-use Rattle.std.specs.Prelude.{ℕ, zero, suc, ◌+◌, ◌≤◌, ◌<◌, ◌≡◌, refl, Bool, true, false, ◌&&◌, not, List, [], ◌∷◌, ◌++◌, map, length, get_or, set, leb, eqb}
-use Rattle.std.proofs.Common.{arith, not-suc-le-zero, sym, ap, ap₂, ◌∙◌, subst, length-set, eqb-true, eq-eqb, ne_eqb, leb-true}
+use Rattle.std.specs.Prelude.{ℕ, zero, suc, ◌+◌, ◌<◌, ◌≡◌, refl, Bool, true, false, List, [], ◌∷◌, ◌++◌, map, length, set}
+use Rattle.std.proofs.Common.{arith, not-suc-le-zero, sym, ap, ◌∙◌, subst, length-set, eq-eqb, ne_eqb}
 use Rattle.std.proofs.lemmas.Bool.{false≢true}
 use Rattle.std.proofs.Math.Option.{Option, none, some}
 use Rattle.std.proofs.Math.Seq.{set_out}
 use Rattle.spec.specs.declared.Ending.{Ending}
 use Rattle.spec.specs.declared.Place.{Place}
 use Rattle.spec.specs.Step.{Image, Step, program, run, shifted}
-use Rattle.spec.specs.Basics.{all, keep, first_such, Each}
+use Rattle.spec.specs.Basics.{keep, first_such, Each}
 use Rattle.spec.specs.Bytes.{ends_name, is_committed}
 use Rattle.spec.specs.Record.{size_of, name_ok, Entry}
 use Rattle.spec.specs.Chain.{Reading}
 use Rattle.spec.specs.Files.{live, has_name, file_named}
 use Rattle.spec.specs.Place.{fits, fits_all, address, room}
 use Rattle.spec.specs.Write.{turn_steps, record_steps, put_steps}
-use Rattle.laws.specs.Tests.{and_left, and_right}
 use Rattle.laws.specs.Names.{Readable, good_name, name_readable}
 use Rattle.laws.specs.Lists.{keep_yes, keep_no, first_yes, first_no, each_map}
 use Rattle.laws.specs.Length.{Good}

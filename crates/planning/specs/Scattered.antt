@@ -1,9 +1,8 @@
 -- No two records of a reading stand at one address.
-use Rattle.std.specs.Prelude.{ℕ, ◌+◌, ◌≤◌, ◌<◌, ◌≡◌, Bool, List, [], ◌∷◌, ◌++◌, length}
+use Rattle.std.specs.Prelude.{ℕ, ◌+◌, ◌≤◌, ◌<◌, ◌≡◌, Bool, List, [], ◌∷◌, ◌++◌}
 use Rattle.std.proofs.Common.{arith, sym, subst}
 use Rattle.spec.specs.Step.{Image}
 use Rattle.spec.specs.Basics.{Each}
-use Rattle.spec.specs.Geometry.{floor}
 use Rattle.spec.specs.Record.{Entry, size}
 use Rattle.spec.specs.Chain.{Reading}
 use Rattle.laws.specs.Lists.{each_map, each_append}

@@ -12,16 +12,14 @@ use Rattle.std.proofs.Math.Dec.{ltb}
 use borrow.Author.Tests.{eq-eqb, ne_eqb, le-leb, lt-leb, lt-ltb, le-ltb}
 use Rattle.spec.specs.declared.Next.{Next}
 use Rattle.spec.specs.declared.Ending.{Ending}
-use Rattle.spec.specs.declared.Place.{Place}
 use Rattle.spec.specs.Step.{Image}
 use Rattle.spec.specs.Basics.{keep, part}
 use Rattle.spec.specs.Geometry.{floor}
-use Rattle.spec.specs.Record.{Entry, size}
-use Rattle.spec.specs.Next.{next}
-use Rattle.spec.specs.Chain.{Reading, read, from_head, reading_from}
-use Rattle.spec.specs.Files.{live, files}
+use Rattle.spec.specs.Record.{Entry}
+use Rattle.spec.specs.Chain.{Reading, read, from_head}
+use Rattle.spec.specs.Files.{live}
 use Rattle.spec.specs.declared.Space.{Space}
-use Rattle.spec.specs.Space.{sizes, live_bytes, others, marker_of, marker_bytes, dead_bytes, free_bytes, behind_marker, lost_bytes}
+use Rattle.spec.specs.Space.{sizes, live_bytes, others, marker_of, free_bytes}
 use Rattle.spec.specs.Space.{space_by, space_of}
 use Rattle.laws.specs.Tests.{wrong}
 use Rattle.laws.specs.Lists.{keep_yes, keep_no}

@@ -1,22 +1,21 @@
 -- Request K3's theorem over the calls: on every image, what mount, put and sweep leave at answer 0 has its four numbers sum to N; and the
 -- first reading alone tells them.
-use Rattle.std.specs.Prelude.{ℕ, zero, suc, ◌≤◌, ◌<◌, min, ◌≡◌, refl, Bool, true, false, not, List, [], ◌∷◌, ◌++◌, length}
+use Rattle.std.specs.Prelude.{ℕ, zero, suc, ◌≤◌, min, ◌≡◌, refl, Bool, true, false, not, List, [], ◌∷◌, length}
 use Rattle.std.proofs.Common.{arith, sym, ap, ap₂, ◌∙◌, subst}
-use Rattle.std.proofs.Math.Option.{Option}
 use Rattle.spec.specs.declared.Ending.{Ending}
 use Rattle.spec.specs.Step.{Image, Step, run}
-use Rattle.spec.specs.Basics.{Answer, give, numbered, checked, onward, concat}
+use Rattle.spec.specs.Basics.{Answer, give, numbered, concat}
 use Rattle.spec.specs.Geometry.{good_length}
-use Rattle.spec.specs.Record.{size_of, Entry, name_ok}
+use Rattle.spec.specs.Record.{size_of, name_ok}
 use Rattle.spec.specs.Chain.{Reading, reading_from}
 use Rattle.spec.specs.Reading.{reading}
 use Rattle.spec.specs.Files.{file_named}
 use Rattle.spec.specs.Place.{room}
 use Rattle.spec.specs.Write.{put_steps}
-use Rattle.spec.specs.Move.{Work, begin, after, move}
+use Rattle.spec.specs.Move.{Work, begin, after}
 use Rattle.spec.specs.Mount.{mended}
 use Rattle.spec.specs.Sweep.{no_room, stuck, moves, sweep_moves}
-use Rattle.spec.specs.Door.{accepted, admitted, admitted_named, settled_reading}
+use Rattle.spec.specs.Door.{accepted, admitted, admitted_named}
 use Rattle.spec.specs.Numbers.{of_mount}
 use Rattle.spec.specs.Answers.{Plan, report_of, mount_work, mount_of, mount_plan, putting, put_into, put_plan, sweeping, sweep_of}
 use Rattle.spec.specs.Answers.{sweep_plan}
@@ -27,7 +26,6 @@ use Rattle.laws.specs.Answer.{gave, passed, given_is}
 use Rattle.laws.specs.Door.{settled_gives, accepted_gives, admitted_gives, named_gives}
 use Rattle.laws.specs.Steps.{run_append}
 use Rattle.planning.specs.Planned.{move_steps, moved_reading, planned_mend, mended_reading}
-use Rattle.planning.specs.Reads.{Reads}
 use Rattle.planning.specs.Places.{copied_head}
 use Rattle.planning.specs.Rested.{Rested, rested_reading, settled_rested}
 use Rattle.planning.specs.Moves.{Move, moved}

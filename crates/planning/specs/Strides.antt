@@ -1,6 +1,6 @@
 -- Place and wall (Walls.antt) that a sweep leaves, by the entry chain: as Walked.antt walks its moves, with Y and the first copy told by
 -- their addresses.
-use Rattle.std.specs.Prelude.{ℕ, zero, suc, ◌≤◌, min, ◌≡◌, refl, Bool, not, length}
+use Rattle.std.specs.Prelude.{ℕ, zero, suc, ◌≤◌, min, ◌≡◌, refl, Bool, length}
 use Rattle.std.proofs.Common.{arith, sym, ◌∙◌}
 use Rattle.std.proofs.Math.Path.{ap, ap₂}
 use Rattle.std.proofs.Math.Bool.{true, false}
@@ -27,8 +27,8 @@ use Rattle.planning.specs.Rested.{settled_rested}
 use Rattle.planning.specs.First.{reads_head}
 use Rattle.planning.specs.Walked.{onward_from, queue, now, own, stuck_live, stuck_dead, stuck_last, copied_is, live_left, same_is}
 use Rattle.planning.specs.Walked.{dead_left}
-use Rattle.planning.specs.Space.{total, marker_at, marker_told}
-use Rattle.planning.specs.Spaces.{swept_reading, space_read, sweep_leaves}
+use Rattle.planning.specs.Space.{total, marker_at}
+use Rattle.planning.specs.Spaces.{swept_reading, sweep_leaves}
 use Rattle.planning.specs.CallMarkers.{copied_marker, handed_marker, moved_marker, swept_marker, sweep_marked}
 use Rattle.planning.specs.SweepCounts.{sweep_live}
 use Rattle.planning.specs.Walls.{put_wall, led_wall, wall_of, first_told, put_walled, led_walled, space_filled, filled_is}

@@ -15,7 +15,7 @@ use Rattle.spec.specs.Basics.{long, part}
 use Rattle.spec.specs.Bytes.{is_record_begun}
 use Rattle.spec.specs.Bytes.{is_erased, is_reserved, is_spare, is_unfinished, ends_name}
 use Rattle.spec.specs.Record.{Entry, name_of, content_of, size, data_at, name_length, data_len_of, four}
-use Rattle.spec.specs.Next.{next_at, kind, sized, torn_at}
+use Rattle.spec.specs.Next.{next_at, sized, torn_at}
 use Rattle.spec.specs.Mount.{status_void_steps, torn_steps, missing_steps, reserved_steps, void_steps}
 use Rattle.laws.specs.Next.{sized_is}
 use Rattle.laws.specs.Parts.{Outside}

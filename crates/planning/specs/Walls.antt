@@ -1,7 +1,7 @@
 -- Request K3 for one who counts before the first step. The wrap marker is told by a number, the wall: it stands there, or the wall is N and
 -- there is none. Live bytes, a place and a wall give all four numbers; dead is what the others leave of N, by the sum.
-use Rattle.std.specs.Prelude.{ℕ, ◌+◌, ◌-◌, ◌≤◌, ◌<◌, ◌≡◌, refl, Bool, true, false, ◌&&◌, not, List, [], ◌∷◌, length, eqb, ltb}
-use Rattle.std.proofs.Common.{arith, sym, ap, ap₂, ◌∙◌, ltb-true}
+use Rattle.std.specs.Prelude.{ℕ, ◌+◌, ◌-◌, ◌≡◌, refl, Bool, true, false, not, List, [], ◌∷◌, length, eqb, ltb}
+use Rattle.std.proofs.Common.{arith, sym, ap, ap₂, ◌∙◌}
 use Rattle.std.proofs.Math.Option.{Option, none, some}
 use Rattle.spec.specs.declared.Place.{Place}
 use Rattle.spec.specs.declared.Space.{Space}
@@ -28,7 +28,7 @@ use Rattle.planning.specs.Places.{copied_head, led_length}
 use Rattle.planning.specs.Puts.{put_left, room_fits}
 use Rattle.planning.specs.Reads.{Reads}
 use Rattle.planning.specs.Space.{total, upper, turned_upper, marker_at, marker_told}
-use Rattle.planning.specs.Spaces.{space_read, Leaves, mount_leaves, put_leaves}
+use Rattle.planning.specs.Spaces.{space_read, mount_leaves, put_leaves}
 use Rattle.planning.specs.MountCounts.{mount_live}
 use Rattle.planning.specs.Markers.{put_marker, marker_end, told_turned, told_straight, put_marked}
 use Rattle.planning.specs.LedMarkers.{led_marker}

@@ -1,5 +1,5 @@
 -- What mount answers once its repairs are done.
-use Rattle.std.specs.Prelude.{ℕ, ◌-◌, ◌≡◌, length}
+use Rattle.std.specs.Prelude.{ℕ, ◌≡◌, length}
 use Rattle.std.proofs.Common.{arith, sym, ap, ◌∙◌}
 use Rattle.spec.specs.Step.{Image}
 use Rattle.spec.specs.Chain.{Reading, reading_from}

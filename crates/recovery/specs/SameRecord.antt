@@ -1,5 +1,5 @@
 -- A record reads the same where no byte of it is written, and where its status goes from F8 to 00.
-use Rattle.std.specs.Prelude.{ℕ, ◌+◌, ◌≤◌, ◌<◌, ◌≡◌, false, List, length, get_or}
+use Rattle.std.specs.Prelude.{ℕ, ◌≤◌, ◌<◌, ◌≡◌, false, List, length, get_or}
 use Rattle.std.proofs.Common.{arith}
 use Rattle.spec.specs.declared.Next.{Next}
 use Rattle.spec.specs.Record.{size_of}

@@ -10,27 +10,18 @@ use calls::put::put;
 use calls::remove::remove;
 use calls::sweep::sweep;
 use spec::NameFault;
+use std::io;
 
 // More steps than any call here needs.
 const ENOUGH: usize = 1000000;
 
-fn text(bytes: &[u8]) {
-    io::write_all(1, bytes);
+fn text(rt: &impl Print, words: &str) -> io::Result<()> {
+    print!(rt; "{words}")
 }
 
-// A number, set to the right in six places.
-fn number(n: usize) {
-    text(b"  ");
-    if n < 1000 {
-        text(b" ");
-    }
-    if n < 100 {
-        text(b" ");
-    }
-    if n < 10 {
-        text(b" ");
-    }
-    io::print_decimal(1, n as u64);
+// A number, set to the right in six places; a longer one behind two spaces.
+fn number(rt: &impl Print, n: usize) -> io::Result<()> {
+    print!(rt; "  {n:>4}")
 }
 
 fn wide(byte: u8) -> u64 {
@@ -38,144 +29,170 @@ fn wide(byte: u8) -> u64 {
 }
 
 // The byte at this index, if the file is so long.
-fn byte_at(file: &[u8], i: usize) {
+fn byte_at(rt: &impl Print, file: &[u8], i: usize) -> io::Result<()> {
     if i < file.len() {
-        text(b" ");
-        io::print_hex(1, wide(file[i]), 2);
+        let byte = wide(file[i]);
+        print!(rt; " {byte:02x}")?;
     }
+    Ok(())
 }
 
 // The first three bytes of a file, or as many as it has.
-fn first_bytes(file: &[u8]) {
+fn first_bytes(rt: &impl Print, file: &[u8]) -> io::Result<()> {
     if file.len() > 0 {
-        text(b" ");
+        text(rt, " ")?;
     }
-    byte_at(file, 0);
-    byte_at(file, 1);
-    byte_at(file, 2);
-    text(b"\n");
+    byte_at(rt, file, 0)?;
+    byte_at(rt, file, 1)?;
+    byte_at(rt, file, 2)?;
+    text(rt, "\n")
 }
 
 // What mount answers, and the four numbers of its success.
-fn mounted(image: &mut [u8]) {
+fn mounted(rt: &impl Print, image: &mut [u8]) -> io::Result<()> {
     let m = mount(image, ENOUGH);
-    number(m.answer() as usize);
-    number(m.steps());
+    number(rt, m.answer() as usize)?;
+    number(rt, m.steps())?;
     let r = m.report();
-    number(r.head);
-    number(r.tail);
-    number(r.files);
+    number(rt, r.head)?;
+    number(rt, r.tail)?;
+    number(rt, r.files)
 }
 
 // A put within an allowance, the mount after it, and what get then gives of that name.
-fn put_row(image: &mut [u8], name: &[u8], content: &[u8], allowance: usize) {
+fn put_row(
+    rt: &impl Print,
+    image: &mut [u8],
+    name: &[u8],
+    content: &[u8],
+    allowance: usize,
+) -> io::Result<()> {
     let w = put(image, name, content, allowance);
-    number(w.answer() as usize);
-    number(w.steps());
-    mounted(image);
+    number(rt, w.answer() as usize)?;
+    number(rt, w.steps())?;
+    mounted(rt, image)?;
     let h = get_place(image, name);
-    number(h.answer as usize);
+    number(rt, h.answer as usize)?;
     let x = h.extent;
-    number(x.length);
-    first_bytes(get(image, name));
+    number(rt, x.length)?;
+    first_bytes(rt, get(image, name))
 }
 
 // The same on an image that was just formatted.
-fn first_put_row(image: &mut [u8], name: &[u8], content: &[u8], allowance: usize) {
+fn first_put_row(
+    rt: &impl Print,
+    image: &mut [u8],
+    name: &[u8],
+    content: &[u8],
+    allowance: usize,
+) -> io::Result<()> {
     format(image, ENOUGH);
-    put_row(image, name, content, allowance);
+    put_row(rt, image, name, content, allowance)
 }
 
 // A put that replaces a file of that name.
-fn second_put_row(image: &mut [u8], name: &[u8], old: &[u8], new: &[u8], allowance: usize) {
+fn second_put_row(
+    rt: &impl Print,
+    image: &mut [u8],
+    name: &[u8],
+    old: &[u8],
+    new: &[u8],
+    allowance: usize,
+) -> io::Result<()> {
     format(image, ENOUGH);
     put(image, name, old, ENOUGH);
-    put_row(image, name, new, allowance);
+    put_row(rt, image, name, new, allowance)
 }
 
 // A sweep after the first put, and the mount after it.
-fn sweep_row(image: &mut [u8], name: &[u8], content: &[u8]) {
+fn sweep_row(rt: &impl Print, image: &mut [u8], name: &[u8], content: &[u8]) -> io::Result<()> {
     format(image, ENOUGH);
     put(image, name, content, ENOUGH);
     let w = sweep(image, ENOUGH);
-    number(w.answer() as usize);
-    number(w.moves());
-    number(w.steps());
-    mounted(image);
-    first_bytes(get(image, name));
+    number(rt, w.answer() as usize)?;
+    number(rt, w.moves())?;
+    number(rt, w.steps())?;
+    mounted(rt, image)?;
+    first_bytes(rt, get(image, name))
 }
 
 // What is wrong with a name: the reason, and the bad byte's place.
-fn fault(f: NameFault) {
-    number(f.reason as usize);
-    number(f.place);
+fn fault(rt: &impl Print, f: NameFault) -> io::Result<()> {
+    number(rt, f.reason as usize)?;
+    number(rt, f.place)
 }
 
 // What put answers to a name, and what it says is wrong with it.
-fn put_named(image: &mut [u8], name: &[u8], content: &[u8]) {
+fn put_named(rt: &impl Print, image: &mut [u8], name: &[u8], content: &[u8]) -> io::Result<()> {
     let w = put(image, name, content, ENOUGH);
-    number(w.answer() as usize);
-    fault(w.fault());
+    number(rt, w.answer() as usize)?;
+    fault(rt, w.fault())
 }
 
 // The same of get, with where it says that the bytes stand.
-fn get_named(image: &[u8], name: &[u8]) {
+fn get_named(rt: &impl Print, image: &[u8], name: &[u8]) -> io::Result<()> {
     let h = get_place(image, name);
-    number(h.answer as usize);
-    fault(h.name);
+    number(rt, h.answer as usize)?;
+    fault(rt, h.name)?;
     let x = h.extent;
-    number(x.offset);
-    number(x.length);
+    number(rt, x.offset)?;
+    number(rt, x.length)
 }
 
 // The same of remove.
-fn remove_named(image: &mut [u8], name: &[u8]) {
+fn remove_named(rt: &impl Print, image: &mut [u8], name: &[u8]) -> io::Result<()> {
     let w = remove(image, name, ENOUGH);
-    number(w.answer() as usize);
-    fault(w.fault());
+    number(rt, w.answer() as usize)?;
+    fault(rt, w.fault())
 }
 
 // The three calls with one name, on this image.
-fn name_row(image: &mut [u8], name: &[u8], content: &[u8]) {
-    put_named(image, name, content);
-    get_named(image, name);
-    text(b"  ");
-    remove_named(image, name);
-    text(b"\n");
+fn name_row(rt: &impl Print, image: &mut [u8], name: &[u8], content: &[u8]) -> io::Result<()> {
+    put_named(rt, image, name, content)?;
+    get_named(rt, image, name)?;
+    text(rt, "  ")?;
+    remove_named(rt, image, name)?;
+    text(rt, "\n")
 }
 
 // The same on an image that was just formatted.
-fn first_name_row(image: &mut [u8], name: &[u8], content: &[u8]) {
+fn first_name_row(
+    rt: &impl Print,
+    image: &mut [u8],
+    name: &[u8],
+    content: &[u8],
+) -> io::Result<()> {
     format(image, ENOUGH);
-    name_row(image, name, content);
+    name_row(rt, image, name, content)
 }
 
 // Names that are allowed, and each reason for which one is refused.
-fn name_table(overlong: &[u8], content: &[u8]) {
+fn name_table(rt: &impl Print, overlong: &[u8], content: &[u8]) -> io::Result<()> {
     let mut image = [0u8; 8192];
     text(
-        b"\nname                      put   why place   get   why place    at bytes  remove   why place\n",
-    );
-    text(b"\"night basal\"          ");
-    first_name_row(&mut image, b"night basal", content);
-    text(b"empty                  ");
-    first_name_row(&mut image, b"", content);
-    text(b"64 bytes               ");
-    first_name_row(&mut image, overlong, content);
-    text(b"\" basal\"               ");
-    first_name_row(&mut image, b" basal", content);
-    text(b"\"night \"               ");
-    first_name_row(&mut image, b"night ", content);
-    text(b"\"b\", 1F, \"/\"           ");
-    first_name_row(&mut image, b"b\x1F/", content);
-    text(b"\"night basal/\"         ");
-    first_name_row(&mut image, b"night basal/", content);
-    text(b"\"a/\", N of 4,096       ");
+        rt,
+        "\nname                      put   why place   get   why place    at bytes  remove   why place\n",
+    )?;
+    text(rt, "\"night basal\"          ")?;
+    first_name_row(rt, &mut image, b"night basal", content)?;
+    text(rt, "empty                  ")?;
+    first_name_row(rt, &mut image, b"", content)?;
+    text(rt, "64 bytes               ")?;
+    first_name_row(rt, &mut image, overlong, content)?;
+    text(rt, "\" basal\"               ")?;
+    first_name_row(rt, &mut image, b" basal", content)?;
+    text(rt, "\"night \"               ")?;
+    first_name_row(rt, &mut image, b"night ", content)?;
+    text(rt, "\"b\", 1F, \"/\"           ")?;
+    first_name_row(rt, &mut image, b"b\x1F/", content)?;
+    text(rt, "\"night basal/\"         ")?;
+    first_name_row(rt, &mut image, b"night basal/", content)?;
+    text(rt, "\"a/\", N of 4,096       ")?;
     let mut sector = [0xFFu8; 4096];
-    name_row(&mut sector, b"a/", content);
+    name_row(rt, &mut sector, b"a/", content)
 }
 
-fn main() {
+fn main(rt: HostRuntime) -> io::Result<()> {
     let mut image = [0u8; 8192];
     let large = [7u8; 2024];
     let dose = b"dose";
@@ -185,29 +202,33 @@ fn main() {
     let overlong = b"abcdefghijklmnopqrstuvwxyz0123456789ABCDEFGHIJKLMNOPQRSTUVWXYZ_+";
 
     text(
-        b"case                      put steps mount steps  head  tail files   get bytes  the first\n",
-    );
-    text(b"put, cut after 16      ");
-    first_put_row(&mut image, dose, old, 16);
-    text(b"put, with 17           ");
-    first_put_row(&mut image, dose, old, 17);
-    text(b"replacing, cut at 17   ");
-    second_put_row(&mut image, dose, old, new, 17);
-    text(b"2,024 bytes            ");
-    first_put_row(&mut image, dose, &large, ENOUGH);
-    text(b"name of 63 bytes       ");
-    first_put_row(&mut image, named, old, ENOUGH);
-    text(b"name of 64 bytes       ");
-    first_put_row(&mut image, overlong, old, ENOUGH);
-    text(b"name \"a/\"              ");
-    first_put_row(&mut image, b"a/", old, ENOUGH);
-    text(b"empty content          ");
-    first_put_row(&mut image, dose, b"", ENOUGH);
+        &rt,
+        "case                      put steps mount steps  head  tail files   get bytes  the first\n",
+    )?;
+    text(&rt, "put, cut after 16      ")?;
+    first_put_row(&rt, &mut image, dose, old, 16)?;
+    text(&rt, "put, with 17           ")?;
+    first_put_row(&rt, &mut image, dose, old, 17)?;
+    text(&rt, "replacing, cut at 17   ")?;
+    second_put_row(&rt, &mut image, dose, old, new, 17)?;
+    text(&rt, "2,024 bytes            ")?;
+    first_put_row(&rt, &mut image, dose, &large, ENOUGH)?;
+    text(&rt, "name of 63 bytes       ")?;
+    first_put_row(&rt, &mut image, named, old, ENOUGH)?;
+    text(&rt, "name of 64 bytes       ")?;
+    first_put_row(&rt, &mut image, overlong, old, ENOUGH)?;
+    text(&rt, "name \"a/\"              ")?;
+    first_put_row(&rt, &mut image, b"a/", old, ENOUGH)?;
+    text(&rt, "empty content          ")?;
+    first_put_row(&rt, &mut image, dose, b"", ENOUGH)?;
 
-    text(b"\ncase                    sweep moves steps mount steps  head  tail files  the first\n");
-    text(b"sweep, data 00 5A 03   ");
-    sweep_row(&mut image, dose, b"\x00\x5A\x03");
-    text(b"sweep, 2,024 bytes     ");
-    sweep_row(&mut image, dose, &large);
-    name_table(overlong, old);
+    text(
+        &rt,
+        "\ncase                    sweep moves steps mount steps  head  tail files  the first\n",
+    )?;
+    text(&rt, "sweep, data 00 5A 03   ")?;
+    sweep_row(&rt, &mut image, dose, b"\x00\x5A\x03")?;
+    text(&rt, "sweep, 2,024 bytes     ")?;
+    sweep_row(&rt, &mut image, dose, &large)?;
+    name_table(&rt, overlong, old)
 }

@@ -1,5 +1,5 @@
 -- The four ways in which a size is placed or not, and what a place keeps.
-use Rattle.spec.specs.Prelude.{ℕ, ◌+◌, ◌≤◌, ◌<◌, ◌≡◌, Bool, true, false, ◌||◌, not, leb, ltb}
+use Rattle.std.specs.Prelude.{ℕ, ◌+◌, ◌≤◌, ◌<◌, ◌≡◌, Bool, true, false, ◌||◌, not, leb, ltb}
 use Prim.Native.Nat.{◌-◌}
 use Rattle.spec.specs.declared.Place.{Place}
 use Rattle.spec.specs.declared.Placed.TheVariants.{At, Full}

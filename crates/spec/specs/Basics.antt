@@ -1,7 +1,8 @@
 -- Tests on lists, and a result that may be a refusal. Nothing here is of document 01 itself.
 use Rattle.spec.specs.declared.NameFault.{NameFault}
 use Rattle.spec.specs.declared.Refusal.{Refusal}
-use Rattle.spec.specs.Prelude.{ℕ, zero, suc, Bool, true, false, Option, none, some, List, [], ◌∷◌, ◌++◌, take, drop, eqb}
+use Rattle.std.specs.Prelude.{ℕ, zero, suc, Bool, true, false, List, [], ◌∷◌, ◌++◌, take, drop, eqb}
+use Rattle.spec.specs.Prelude.{Option, none, some}
 
 -- a value, or a refusal with all that it gives back
 pub data Answer (A : Type 0) : Type 0 where

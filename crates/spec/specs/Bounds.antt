@@ -1,5 +1,6 @@
 -- "How long can boot recovery take": the most flash steps of each call that writes, as a watchdog needs them. Crate history proves these.
-use Rattle.spec.specs.Prelude.{ℕ, suc, ◌+◌, ◌*◌, ◌/◌, ◌≤◌, ◌≡◌, true, false, Option, none, some, List, [], ◌∷◌, length, take}
+use Rattle.std.specs.Prelude.{ℕ, suc, ◌+◌, ◌*◌, ◌/◌, ◌≤◌, ◌≡◌, true, false, List, [], ◌∷◌, length, take}
+use Rattle.spec.specs.Prelude.{Option, none, some}
 use Rattle.spec.specs.Step.{Image, Step, program, erase}
 use Rattle.spec.specs.Basics.{give, Each}
 use Rattle.spec.specs.Bytes.{is_committed}

@@ -1,6 +1,6 @@
 -- "Chain and tail T" and "Last thing in the chain only". Before the turn the chain reads the image from h on, after it the image up to floor(h),
 -- so that "records before the turn end at N at most, after it at floor(h) at most".
-use Rattle.spec.specs.Prelude.{ℕ, zero, suc, ◌+◌, Bool, true, false, List, [], ◌∷◌, ◌++◌, length, take, drop, eqb}
+use Rattle.std.specs.Prelude.{ℕ, zero, suc, ◌+◌, Bool, true, false, List, [], ◌∷◌, ◌++◌, length, take, drop, eqb}
 use Rattle.spec.specs.declared.Next.{Next}
 use Rattle.spec.specs.declared.Ending.{Ending}
 use Rattle.spec.specs.declared.Place.{Place}

@@ -1,5 +1,6 @@
 -- "What demand 3 says of every history".
-use Rattle.spec.specs.Prelude.{ℕ, ◌+◌, ◌%◌, ◌≤◌, ◌<◌, ◌≡◌, Bool, true, false, some, List, [], ◌∷◌, length, get_or}
+use Rattle.std.specs.Prelude.{ℕ, ◌+◌, ◌%◌, ◌≤◌, ◌<◌, ◌≡◌, Bool, true, false, List, [], ◌∷◌, length, get_or}
+use Rattle.spec.specs.Prelude.{some}
 use Rattle.std.specs.Int.Bits.{bit_and}
 use Rattle.spec.specs.Step.{Image, Step, program, erase, apply, run}
 use Rattle.spec.specs.Basics.{first_such, Each}

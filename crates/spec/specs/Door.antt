@@ -1,5 +1,5 @@
 -- "Numbers given back", the table's rows 22, 5, 6 and 16: what a call asks of the image, and of a name, before anything else.
-use Rattle.spec.specs.Prelude.{List, ℕ, length}
+use Rattle.std.specs.Prelude.{List, ℕ, length}
 use Rattle.spec.specs.declared.Refusal.{Refusal}
 use Rattle.spec.specs.Step.{Image}
 use Rattle.spec.specs.Basics.{Answer, give, numbered, checked, onward}

@@ -1,7 +1,7 @@
 -- K13: "the first broken rule in reading order with its address (the later of two)". Reading order is the chain's, then the free run's as
 -- 01 writes it, [T, N) before [0, floor(h)). "The rules, at one address in this order: head (address 0), unfinished .., header .., name ..,
 -- end, mark .., free".
-use Rattle.spec.specs.Prelude.{ℕ, ◌+◌, min, Bool, true, false, ◌&&◌, ◌||◌, not, List, [], ◌∷◌, ◌++◌, take, drop, ltb, eqb}
+use Rattle.std.specs.Prelude.{ℕ, ◌+◌, min, Bool, true, false, ◌&&◌, ◌||◌, not, List, [], ◌∷◌, ◌++◌, take, drop, ltb, eqb}
 use Rattle.spec.specs.declared.Kind.{Kind}
 use Rattle.spec.specs.declared.Ending.{Ending}
 use Rattle.spec.specs.declared.Place.{Place}

@@ -1,5 +1,6 @@
 -- "Live files", and how they are found. A file is dead, live, or superseded: an F8 record that has an FC record of its name.
-use Rattle.spec.specs.Prelude.{ℕ, Bool, true, false, ◌&&◌, ◌||◌, not, Option, List, [], ◌∷◌, get_elem?, eqb}
+use Rattle.std.specs.Prelude.{ℕ, Bool, true, false, ◌&&◌, ◌||◌, not, List, [], ◌∷◌, eqb}
+use Rattle.spec.specs.Prelude.{Option, get_elem?}
 use Rattle.spec.specs.Basics.{empty, same, any, keep, first_such}
 use Rattle.spec.specs.Record.{Entry, name_of}
 

@@ -1,5 +1,5 @@
 -- "Geometry and record", first part: lengths and sectors.
-use Rattle.spec.specs.Prelude.{ℕ, zero, suc, ◌+◌, ◌*◌, ◌/◌, ◌%◌, Bool, true, false, ◌&&◌, List, [], ◌∷◌, leb, eqb}
+use Rattle.std.specs.Prelude.{ℕ, zero, suc, ◌+◌, ◌*◌, ◌/◌, ◌%◌, Bool, true, false, ◌&&◌, List, [], ◌∷◌, leb, eqb}
 
 -- "Image length N: a multiple of 4,096, from 8,192 to 16,777,216"
 unfoldable pub good_length : ℕ → Bool

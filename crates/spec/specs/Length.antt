@@ -1,6 +1,6 @@
 -- Request K8, "Length without reading the data": a file's length by the headers and names of the chain from a head on.
-use Rattle.spec.specs.Prelude.{ℕ, zero, suc, ◌+◌, ◌%◌, Bool, true, false, ◌&&◌, ◌||◌, not, Option, none, some, List, [], ◌∷◌, ◌++◌}
-use Rattle.spec.specs.Prelude.{length, take, drop, ltb, eqb}
+use Rattle.std.specs.Prelude.{ℕ, zero, suc, ◌+◌, ◌%◌, Bool, true, false, ◌&&◌, ◌||◌, not, List, [], ◌∷◌, ◌++◌, length, take, drop, ltb, eqb}
+use Rattle.spec.specs.Prelude.{Option, none, some}
 use Rattle.spec.specs.declared.Kind.{Kind}
 use Rattle.spec.specs.declared.Next.{Next}
 use Rattle.spec.specs.declared.Ending.{Ending}
@@ -11,7 +11,7 @@ use Rattle.spec.specs.Geometry.{good_length, floor}
 use Rattle.spec.specs.Bytes.{is_record, is_start, is_unfinished}
 use Rattle.spec.specs.Record.{low_of, high_of, status_of, spare_of, size_of, rec_of, name_length, name_ok, Entry, name_of, content_of}
 use Rattle.spec.specs.Next.{kind, next}
-use Rattle.spec.specs.Chain.{Chain, Reading, from_head, reading_from}
+use Rattle.spec.specs.Chain.{Reading, from_head, reading_from}
 use Rattle.spec.specs.Files.{named, has_name}
 use Rattle.spec.specs.Door.{misnamed}
 use Rattle.spec.specs.Numbers.{Numbers, Outcome, of_list, no_extent}

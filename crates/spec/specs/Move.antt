@@ -1,5 +1,6 @@
 -- "Move of head X, next record Y".
-use Rattle.spec.specs.Prelude.{ℕ, zero, suc, ◌+◌, Bool, true, false, ◌&&◌, ◌||◌, some, List, [], ◌∷◌, ◌++◌, map, length, drop, eqb}
+use Rattle.std.specs.Prelude.{ℕ, zero, suc, ◌+◌, Bool, true, false, ◌&&◌, ◌||◌, List, [], ◌∷◌, ◌++◌, map, length, drop, eqb}
+use Rattle.spec.specs.Prelude.{some}
 use Rattle.spec.specs.Step.{Image, Step, program, erase, run}
 use Rattle.spec.specs.Geometry.{floor, sectors}
 use Rattle.spec.specs.Bytes.{is_record, is_start, is_clean, is_high}

@@ -1,5 +1,5 @@
 -- "Numbers given back": what each call answers, in numbers with names. What a call does not speak of is zero.
-use Rattle.spec.specs.Prelude.{ℕ, Bool, ◌||◌, List, take, drop, eqb}
+use Rattle.std.specs.Prelude.{ℕ, Bool, ◌||◌, List, take, drop, eqb}
 use Rattle.spec.specs.declared.NameFault.{NameFault}
 use Rattle.spec.specs.declared.Refusal.{Refusal}
 use Rattle.spec.specs.declared.Report.{Report}

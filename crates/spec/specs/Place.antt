@@ -1,5 +1,5 @@
 -- "Placing": whether and where a size fits, the place after it, and the room that put asks for.
-use Rattle.spec.specs.Prelude.{ℕ, ◌+◌, max, Bool, true, false, ◌&&◌, ◌||◌, not, List, [], ◌∷◌, ◌++◌, map, leb, ltb, eqb}
+use Rattle.std.specs.Prelude.{ℕ, ◌+◌, max, Bool, true, false, ◌&&◌, ◌||◌, not, List, [], ◌∷◌, ◌++◌, map, leb, ltb, eqb}
 use Rattle.spec.specs.declared.Place.{Place}
 use Rattle.spec.specs.Basics.{keep}
 use Rattle.spec.specs.Geometry.{floor}

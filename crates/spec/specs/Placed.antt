@@ -1,5 +1,5 @@
 -- What the place value's method gives back: "Size s fits", as the cases of the enum.
-use Rattle.spec.specs.Prelude.{ℕ, ◌≤◌, ◌<◌, Bool, true, false}
+use Rattle.std.specs.Prelude.{ℕ, ◌≤◌, ◌<◌, Bool, true, false}
 use Rattle.spec.specs.declared.Place.{Place}
 use Rattle.spec.specs.declared.Placed.{Placed}
 use Rattle.spec.specs.declared.Placed.TheVariants.{At, Full}

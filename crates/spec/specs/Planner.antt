@@ -1,5 +1,5 @@
 -- Document 02, K1: the steps of put, remove, sweep and mount, handed out before the first of them is done.
-use Rattle.spec.specs.Prelude.{ℕ, zero, suc, ◌+◌, ◌≤◌, min, ◌≡◌, true, false, List, [], ◌∷◌, ◌++◌, map, length, take, drop, eqb}
+use Rattle.std.specs.Prelude.{ℕ, zero, suc, ◌+◌, ◌≤◌, min, ◌≡◌, true, false, List, [], ◌∷◌, ◌++◌, map, length, take, drop, eqb}
 use Rattle.spec.specs.Step.{Image, Step, program, erase, run}
 use Rattle.spec.specs.Basics.{Answer, refuse, give}
 use Rattle.spec.specs.Numbers.{Numbers, Outcome, refusal}

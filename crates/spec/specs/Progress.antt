@@ -1,7 +1,7 @@
 -- What the room rule gives sweeps, a statement that crate history proves: "In a history of demand 3, after any put with answer 0 that
 -- leaves r records beginning in the head's sector, r/5 uncut plain sweeps (rounded up) with nothing between them get past all of these,
 -- without 28".
-use Rattle.spec.specs.Prelude.{ℕ, ◌+◌, ◌/◌, ◌≤◌, ◌<◌, ◌≡◌, List, [], ◌∷◌, length}
+use Rattle.std.specs.Prelude.{ℕ, ◌+◌, ◌/◌, ◌≤◌, ◌<◌, ◌≡◌, List, [], ◌∷◌, length}
 use Rattle.spec.specs.Step.{Image}
 use Rattle.spec.specs.Basics.{give, keep, Each}
 use Rattle.spec.specs.Chain.{Reading}

@@ -1,6 +1,5 @@
 -- "Geometry and record", second part: the header, the magic, the name, the size.
-use Rattle.spec.specs.Prelude.{ℕ, zero, suc, ◌+◌, ◌*◌, ◌/◌, ◌%◌, Bool, true, false, ◌&&◌, ◌||◌, not, List, [], ◌∷◌}
-use Rattle.spec.specs.Prelude.{length, take, drop, get_or, leb, ltb, eqb}
+use Rattle.std.specs.Prelude.{ℕ, zero, suc, ◌+◌, ◌*◌, ◌/◌, ◌%◌, Bool, true, false, ◌&&◌, ◌||◌, not, List, [], ◌∷◌, length, take, drop, get_or, leb, ltb, eqb}
 use Rattle.spec.specs.declared.NameFault.{NameFault}
 use Rattle.spec.specs.Geometry.{up8}
 use Rattle.spec.specs.Bytes.{is_wrap, is_start, is_clean, is_high, ends_name, is_printable, is_space, is_slash}

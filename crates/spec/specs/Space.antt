@@ -1,6 +1,7 @@
 -- Document 02, K3: "Fuller mount report". The bytes of an image by what they are good for, read from the head that a call left on the image
 -- that it left. "Each is counted by its own rule": none is what the others leave of N.
-use Rattle.spec.specs.Prelude.{ℕ, zero, suc, ◌+◌, ◌-◌, min, true, false, not, Option, none, some, List, [], ◌∷◌, length, eqb}
+use Rattle.std.specs.Prelude.{ℕ, zero, suc, ◌+◌, ◌-◌, min, true, false, not, List, [], ◌∷◌, length, eqb}
+use Rattle.spec.specs.Prelude.{Option, none, some}
 use Rattle.spec.specs.declared.Next.{Next}
 use Rattle.spec.specs.declared.Place.{Place}
 use Rattle.spec.specs.declared.Space.{Space}

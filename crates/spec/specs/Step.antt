@@ -1,5 +1,5 @@
 -- "Every change to the image goes through two functions, one that programs one byte and one that erases one sector".
-use Rattle.spec.specs.Prelude.{ℕ, ◌+◌, List, [], ◌∷◌, ◌++◌, take, drop, set, replicate}
+use Rattle.std.specs.Prelude.{ℕ, ◌+◌, List, [], ◌∷◌, ◌++◌, take, drop, set, replicate}
 
 -- an image of flash: its bytes
 abbrev pub Image : Type 0

@@ -1,5 +1,5 @@
 -- Sweep: up to five moves.
-use Rattle.spec.specs.Prelude.{ℕ, zero, suc, min, Bool, true, false, ◌&&◌, not, List, [], ◌∷◌, length}
+use Rattle.std.specs.Prelude.{ℕ, zero, suc, min, Bool, true, false, ◌&&◌, not, List, [], ◌∷◌, length}
 use Rattle.spec.specs.Step.{Image, Step}
 use Rattle.spec.specs.Record.{Entry, size}
 use Rattle.spec.specs.Chain.{Reading}

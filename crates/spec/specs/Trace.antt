@@ -1,5 +1,5 @@
 -- Document 02, K7: "Replay of a bus trace". "Our logger records flash traffic as three slices of numbers: kind, address, byte, as in K1."
-use Rattle.spec.specs.Prelude.{ℕ, suc, ◌%◌, Bool, true, false, ◌&&◌, ◌||◌, not, List, [], ◌∷◌, length, get_or, ltb, eqb}
+use Rattle.std.specs.Prelude.{ℕ, suc, ◌%◌, Bool, true, false, ◌&&◌, ◌||◌, not, List, [], ◌∷◌, length, get_or, ltb, eqb}
 use Rattle.spec.specs.Step.{Image, apply}
 use Rattle.spec.specs.Basics.{Answer, refuse, give}
 use Rattle.spec.specs.Geometry.{good_length}

@@ -1,6 +1,6 @@
 -- K13: "Check an image against 01's reading and report the first broken rule .., or settled, or needing recovery with 01's number of the
 -- repair that comes first."
-use Rattle.spec.specs.Prelude.{ℕ, zero, suc, Bool, true, false, ◌||◌, List, [], ◌∷◌, length}
+use Rattle.std.specs.Prelude.{ℕ, zero, suc, Bool, true, false, ◌||◌, List, [], ◌∷◌, length}
 use Rattle.spec.specs.declared.Ending.{Ending}
 use Rattle.spec.specs.declared.Rule.{Rule}
 use Rattle.spec.specs.declared.Fault.{Fault}

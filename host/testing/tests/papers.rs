@@ -26,12 +26,12 @@ fn without_comments(path: &Path, text: &str) -> String {
     text.lines().map(code).collect::<Vec<_>>().join("\n")
 }
 
-/// Every file below, with its text; without what is built.
+/// Every file below, with its text; without what cargo and rt make.
 fn files(folder: &Path, found: &mut BTreeMap<PathBuf, String>) {
     for entry in fs::read_dir(folder).unwrap_or_else(|e| panic!("{}: {e}", folder.display())) {
         let path = entry.unwrap().path();
         if path.is_dir() {
-            if !path.ends_with("target") {
+            if !path.ends_with("target") && !path.ends_with("out") {
                 files(&path, found);
             }
         } else if let Ok(text) = fs::read_to_string(&path) {
@@ -243,15 +243,15 @@ fn what_is_not_there_is_noticed() {
         reader.wrong.len()
     };
     let specs = "crates/spec/specs";
-    assert_eq!(wrong("Mount.antt: `repair-1`, `mended`; host/promise; calls/src/put.rt `put`", specs), 0);
-    assert_eq!(wrong("Mount.antt: `put-steps`", specs), 1);
+    assert_eq!(wrong("Mount.antt: `repair_1`, `mended`; host/promise; calls/src/put.rt `put`", specs), 0);
+    assert_eq!(wrong("Mount.antt: `put_steps`", specs), 1);
     assert_eq!(wrong("Mounting.antt", specs), 1);
     assert_eq!(wrong("Mount.antt", ""), 1);
     assert_eq!(wrong("`no-such-name-at-all`", ""), 1);
     assert_eq!(wrong("`repair`", specs), 0);
     assert_eq!(wrong("Mount.antt: `repair`", specs), 1);
     assert_eq!(wrong("host/nothing", ""), 1);
-    assert_eq!(wrong("`superseded F8`, `void at once`, `search needs`", ""), 0);
+    assert_eq!(wrong("`superseded F8`, `void at once`, `omega arith`", ""), 0);
     assert_eq!(wrong("`superseded F9`, `void at twice`", ""), 2);
     assert_eq!(wrong("`cargo run -p vectors -- all`; `cargo test -p testing --test papers`", ""), 0);
     assert_eq!(wrong("`cargo run -p vector -- all`; `cargo test -p testing --test paper`", ""), 2);

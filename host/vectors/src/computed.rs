@@ -50,7 +50,7 @@ pub fn check_edited(
     }
     write(&specs.join("Lib.antt"), &lib)?;
     let rt = std::env::var("RT").unwrap_or("rt".into());
-    let run = Command::new(&rt).args(["dev", "spec"]).current_dir(&folder.0).env("RT_CUT", "400").output();
+    let run = Command::new(&rt).arg("check").current_dir(folder.0.join("crates/spec")).output();
     let run = run.map_err(|e| format!("{rt}: {e}"))?;
     let out = String::from_utf8_lossy(&run.stdout).into_owned() + &String::from_utf8_lossy(&run.stderr);
     differing(&out, run.status.success())
@@ -66,6 +66,9 @@ fn differing(out: &str, success: bool) -> Result<Vec<usize>, String> {
             None => return Err(format!("not a vector: {line}")),
         }
     }
+    // rt may tell one twice, as soon as it is found and at the end
+    numbers.sort();
+    numbers.dedup();
     let proved = out.lines().any(|l| l.starts_with("logic=proved"));
     if numbers.is_empty() != (success && proved) {
         return Err(format!("rt gives no verdict:\n{out}"));
@@ -116,6 +119,7 @@ mod tests {
         assert_eq!(differing(proved, true), Ok(vec![]));
         let two = "V0.antt:21:6: error: `v3`: the types differ\nV1.antt:4:6: error: `v27`: the types differ\nlogic=not-proved\n";
         assert_eq!(differing(two, false), Ok(vec![3, 27]));
+        assert_eq!(differing(&format!("so far: {two}{two}"), false), Ok(vec![3, 27]));
     }
 
     /// Silence, an error outside the vectors and a failure without errors are no verdicts.

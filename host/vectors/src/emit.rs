@@ -104,15 +104,15 @@ fn extent(x: &Extent) -> String {
 pub fn numbers(call: &Call, r: &Reply) -> String {
     let (answer, steps) = (r.answer, r.steps);
     if r.name != NameFault::default() {
-        return format!("(refused-name {answer} {} {})", r.name.reason, r.name.place);
+        return format!("(refused_name {answer} {} {})", r.name.reason, r.name.place);
     }
     match call {
-        Call::Mount(_) => format!("(of-mount {answer} {} {} {steps})", report(&r.report), space(&r.space)),
-        Call::Put(..) => format!("(of-put {answer} {} {steps})", space(&r.space)),
-        Call::Sweep(_) => format!("(of-sweep {answer} {} {} {steps})", r.moves, space(&r.space)),
-        Call::Get(_) => format!("(of-get {answer} {})", extent(&r.extent)),
-        Call::List(_) => format!("(of-list {answer} {} {})", extent(&r.extent), r.size),
-        Call::Format(_) | Call::Remove(..) => format!("(of-write {answer} {steps})"),
+        Call::Mount(_) => format!("(of_mount {answer} {} {} {steps})", report(&r.report), space(&r.space)),
+        Call::Put(..) => format!("(of_put {answer} {} {steps})", space(&r.space)),
+        Call::Sweep(_) => format!("(of_sweep {answer} {} {} {steps})", r.moves, space(&r.space)),
+        Call::Get(_) => format!("(of_get {answer} {})", extent(&r.extent)),
+        Call::List(_) => format!("(of_list {answer} {} {})", extent(&r.extent), r.size),
+        Call::Format(_) | Call::Remove(..) => format!("(of_write {answer} {steps})"),
     }
 }
 
@@ -122,10 +122,10 @@ pub fn equation(before: &[u8], call: &Call, told: u64, reply: &Reply, after: &[u
     let (b, a, n) = (pieces(before), pieces(after), numbers(call, reply));
     let k = allowance(call);
     match call {
-        Call::Format(_) => ("check-format", format!("check-format {b} {k} {n} {a}")),
+        Call::Format(_) => ("check_format", format!("check_format {b} {k} {n} {a}")),
         Call::Get(_) | Call::List(_) => {
             let part = pieces(reply.extent.of(before));
-            ("check-part", format!("check-part {b} {} {n} {part}", request(call)))
+            ("check_part", format!("check_part {b} {} {n} {part}", request(call)))
         }
         _ => ("check", format!("check {b} {k} {told} {} {n} {a}", request(call))),
     }
@@ -135,9 +135,9 @@ pub fn equation(before: &[u8], call: &Call, told: u64, reply: &Reply, after: &[u
 pub fn place_equation(p: Place, size: u64) -> String {
     let given = format!("{} {} {} {} {size}", p.head, p.tail, p.turned, p.length);
     match p.fit(size) {
-        None => format!("check-place {given} false 0 false 0 false"),
+        None => format!("check_place {given} false 0 false 0 false"),
         Some(q) => {
-            format!("check-place {given} true {} {} {} {}", q.at, q.marker.is_some(), q.next.tail, q.next.turned)
+            format!("check_place {given} true {} {} {} {}", q.at, q.marker.is_some(), q.next.tail, q.next.turned)
         }
     }
 }
@@ -147,22 +147,21 @@ pub fn room_equation(img: &[u8], c: &Chain, name: &[u8], d: u64) -> String {
     let entry = |x: &Record| format!("entry {} {} {} {} ∷ ", x.at, x.status, bytes(x.name(img)), x.data_len);
     let entries: String = c.records.iter().map(entry).collect();
     let taken = put_room(img, c, name, d).is_some();
-    format!("check-room {} {} {} {} ({entries}[]) {} {d} {taken}", c.head, c.tail, c.turned, img.len(), bytes(name))
+    format!("check_room {} {} {} {} ({entries}[]) {} {d} {taken}", c.head, c.tail, c.turned, img.len(), bytes(name))
 }
 
 /// A file of vectors, named v followed by their numbers.
 pub fn file(vectors: &[(usize, &Vector)]) -> String {
     let mut s = String::from(
-        "use mathlib.Core.Path.{_≡_, refl}\n\
-         use mathlib.Core.Bool.{Bool, true, false}\n\
-         use mathlib.Core.List.{List, [], _∷_}\n\
-         use Rattle·spec·specs.specs.History.{Request, put, remove, sweep, mount, get, list}\n\
-         use Rattle·spec·specs.specs.Numbers.{of-write, of-put, of-mount, of-sweep, of-get, of-list}\n\
-         use Rattle·spec·specs.specs.Run.{fill, lit, build, call, file, entry, report, space, extent, refused-name}\n\
-         use Rattle·spec·specs.specs.Run.{check, check-format, check-part, check-place, check-room, check-history}\n\
-         use Rattle·spec·specs.specs.Planner as Planner\n\
-         use Rattle·spec·specs.specs.Run.{lent, check-plan, check-in-turn, check-name, check-verdict, check-replay, check-watch}\n\
-         use Rattle·spec·specs.specs.Run.{length-told, check-length, check-seen}\n",
+        "use Rattle.std.specs.Prelude.{refl}\n\
+         use Rattle.spec.specs.Prelude.{◌≡◌, Bool, true, false, List, [], ◌∷◌}\n\
+         use Rattle.spec.specs.History.{Request, put, remove, sweep, mount, get, list}\n\
+         use Rattle.spec.specs.Numbers.{of_write, of_put, of_mount, of_sweep, of_get, of_list}\n\
+         use Rattle.spec.specs.Run.{fill, lit, build, call, file, entry, report, space, extent, refused_name}\n\
+         use Rattle.spec.specs.Run.{check, check_format, check_part, check_place, check_room, check_history}\n\
+         use Rattle.spec.specs.Planner as Planner\n\
+         use Rattle.spec.specs.Run.{lent, check_plan, check_in_turn, check_name, check_verdict, check_replay, check_watch}\n\
+         use Rattle.spec.specs.Run.{length_told, check_length, check_seen}\n",
     );
     for (i, v) in vectors {
         write!(s, "\nv{i} : {} ≡ true\nunfolding {}\nv{i} = refl\n", v.text, v.function).unwrap();

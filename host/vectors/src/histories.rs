@@ -94,8 +94,8 @@ impl History {
         let others: String = absent.map(|x| format!("{} ∷ ", bytes(x))).collect();
         let n = self.world.img.len();
         let left = pieces(&self.world.img);
-        let text = format!("check-history {n} ({}[]) ({files}[]) ({others}[]) {left}", self.text);
-        Vector { function: "check-history", text, kind: "history", answer: 0, tags: self.tags, source: "whole history" }
+        let text = format!("check_history {n} ({}[]) ({files}[]) ({others}[]) {left}", self.text);
+        Vector { function: "check_history", text, kind: "history", answer: 0, tags: self.tags, source: "whole history" }
     }
 }
 

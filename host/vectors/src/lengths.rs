@@ -8,11 +8,11 @@ use testing::rng::Rng;
 /// What a vector of a length computes, behind the rest of the helper.
 pub const HELPER: &str = "
 -- answer, reason, place and length
-abbrev pub length-told : ℕ → ℕ → ℕ → ℕ → Numbers
-length-told answer reason place size =
+abbrev pub length_told : ℕ → ℕ → ℕ → ℕ → Numbers
+length_told answer reason place size =
     record {
       answer = answer;
-      name = name-says reason place;
+      name = name_says reason place;
       report = report 0 0 0;
       moves = 0;
       extent = extent 0 0;
@@ -22,20 +22,20 @@ length-told answer reason place size =
     }
 
 -- all numbers of a length, and the image as it was
-unfoldable pub check-length : List Piece → ℕ → List ℕ → Numbers → Bool
+unfoldable pub check_length : List Piece → ℕ → List ℕ → Numbers → Bool
 unfolding NAMES
-check-length before h name n =
+check_length before h name n =
     let m = build before in
-    right (Length.file-length m h name) n m
+    right (Length.file_length m h name) n m
 
 spread : List Extent → List ℕ
 spread [] = []
-spread (x ∷ xs) = x .offset ∷ x .length ∷ spread xs
+spread (x ∷ xs) = x.offset ∷ x.length ∷ spread xs
 
 -- the stretches that the walk looks at, as addresses and lengths in turn
-unfoldable pub check-seen : List Piece → ℕ → List ℕ → Bool
+unfoldable pub check_seen : List Piece → ℕ → List ℕ → Bool
 unfolding NAMES spread
-check-seen before h looked = Basics.same (spread (Length.seen-from (build before) h)) looked
+check_seen before h looked = Basics.same (spread (Length.seen_from (build before) h)) looked
 ";
 
 /// How many vectors of each answer.
@@ -51,7 +51,7 @@ fn list(seen: &[Extent]) -> String {
 fn told(a: &Asked, reply: &Reply) -> String {
     let (name, size) = (reply.name, reply.size);
     format!(
-        "check-length {} {} {} (length-told {} {} {} {size})",
+        "check_length {} {} {} (length_told {} {} {} {size})",
         pieces(&a.img),
         a.head,
         bytes(&a.name),
@@ -76,10 +76,10 @@ fn try_length(c: &mut Collection, a: &Asked) {
     }
     let answer = reply.answer;
     let text = told(a, &reply);
-    c.add(Vector { function: "check-length", text, kind: KIND, answer, tags, source: SOURCE });
+    c.add(Vector { function: "check_length", text, kind: KIND, answer, tags, source: SOURCE });
     if walks(a) {
-        let text = format!("check-seen {} {} {}", pieces(&a.img), a.head, list(&seen));
-        c.add(Vector { function: "check-seen", text, kind: "stretches of a length", answer, tags: Vec::new(), source: SOURCE });
+        let text = format!("check_seen {} {} {}", pieces(&a.img), a.head, list(&seen));
+        c.add(Vector { function: "check_seen", text, kind: "stretches of a length", answer, tags: Vec::new(), source: SOURCE });
     }
 }
 

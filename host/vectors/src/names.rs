@@ -14,11 +14,11 @@ use testing::{tags, ALL};
 /// What a vector of the name check computes, behind the rest of the helper.
 pub const HELPER: &str = "
 -- what the name check says of these bytes
-unfoldable pub check-name : List ℕ → ℕ → ℕ → Bool
+unfoldable pub check_name : List ℕ → ℕ → ℕ → Bool
 unfolding NAMES
-check-name name reason place =
-    let f = Record.name-fault name in
-    eqb (f .reason) reason && eqb (f .place) place
+check_name name reason place =
+    let f = Record.name_fault name in
+    eqb f.reason reason && eqb f.place place
 ";
 
 /// Names at random besides those of the table.
@@ -53,9 +53,9 @@ fn table() -> Vec<Vec<u8>> {
 
 fn check(c: &mut Collection, name: &[u8]) {
     let says = name_fault(name);
-    let text = format!("check-name {} {} {}", bytes(name), says.reason, says.place);
+    let text = format!("check_name {} {} {}", bytes(name), says.reason, says.place);
     let tags = tag(name).into_iter().collect();
-    c.add(Vector { function: "check-name", text, kind: CHECK, answer: says.reason, tags, source: CHECK });
+    c.add(Vector { function: "check_name", text, kind: CHECK, answer: says.reason, tags, source: CHECK });
 }
 
 /// A whole call on an image.

@@ -86,7 +86,7 @@ fn rooms(r: &mut Rng, c: &mut Collection) {
         let tags = telling(&img, &chain, b"new", d);
         if tags.iter().any(|t| lacks(c, t)) {
             let text = room_equation(&img, &chain, b"new", d);
-            c.add(Vector { function: "check-room", text, kind: "room", answer: 0, tags, source: SOURCE });
+            c.add(Vector { function: "check_room", text, kind: "room", answer: 0, tags, source: SOURCE });
         }
     }
 }

@@ -17,19 +17,19 @@ abbrev pub lent : List ℕ → List ℕ → List ℕ → Planner.Slices
 lent ks xs bs = record { kinds = ks; addresses = xs; bytes = bs }
 
 -- a window: the direct call's numbers, how many steps were handed out, and every slot
-unfoldable pub check-plan : List Piece → Planner.Writing → ℕ → Planner.Slices → Numbers → ℕ → Planner.Slices → Bool
+unfoldable pub check_plan : List Piece → Planner.Writing → ℕ → Planner.Slices → Numbers → ℕ → Planner.Slices → Bool
 unfolding NAMES
-check-plan before c first s n handed after =
+check_plan before c first s n handed after =
     let h = Planner.planned c (build before) first s in
-    told (h .numbers) n && eqb (h .handed) handed && Basics.same (h .slices .kinds) (after .kinds)
-    && Basics.same (h .slices .addresses) (after .addresses) && Basics.same (h .slices .bytes) (after .bytes)
+    told h.numbers n && eqb h.handed handed && Basics.same h.slices.kinds after.kinds
+    && Basics.same h.slices.addresses after.addresses && Basics.same h.slices.bytes after.bytes
 
 -- windows in turn: the first k of their steps, carried out
-unfoldable pub check-in-turn : List Piece → Planner.Writing → List Planner.Slices → ℕ → List Piece → Bool
+unfoldable pub check_in_turn : List Piece → Planner.Writing → List Planner.Slices → ℕ → List Piece → Bool
 unfolding NAMES
-check-in-turn before c windows k after =
+check_in_turn before c windows k after =
     let m = build before in
-    Basics.same (Step.run m (take k (Planner.in-turn c m 0 windows))) (build after)
+    Basics.same (Step.run m (take k (Planner.in_turn c m 0 windows))) (build after)
 ";
 
 /// What these vectors must show.
@@ -145,7 +145,7 @@ impl Window {
     fn equation(&self, img: &[u8], call: &Call) -> String {
         let [before, after] = [&self.before, &self.after].map(lent);
         let (first, handed, told) = (self.first, self.handing.handed, numbers(call, &self.handing.reply));
-        format!("check-plan {} {} {first} {before} {told} {handed} {after}", pieces(img), writing(call))
+        format!("check_plan {} {} {first} {before} {told} {handed} {after}", pieces(img), writing(call))
     }
 
     fn tags(&self, plan: &Result<Plan, Refusal>) -> Vec<&'static str> {
@@ -193,7 +193,7 @@ fn add_window(r: &mut Rng, c: &mut Collection, img: &[u8], call: &Call, plan: &R
     }
     let text = window.equation(img, call);
     if text.len() <= MOST_TEXT {
-        c.add(Vector { function: "check-plan", text, kind, answer, tags, source: SOURCE });
+        c.add(Vector { function: "check_plan", text, kind, answer, tags, source: SOURCE });
     }
 }
 
@@ -203,7 +203,7 @@ pub fn refused(c: &mut Collection, img: &[u8], call: &Call, source: &'static str
     let window = Window::new(&plan, 0, [2, 3, 2]);
     let (kind, answer, tags) = (title(call), window.handing.reply.answer, window.tags(&plan));
     let text = window.equation(img, call);
-    c.add(Vector { function: "check-plan", text, kind, answer, tags, source });
+    c.add(Vector { function: "check_plan", text, kind, answer, tags, source });
 }
 
 /// The first steps of windows in turn, carried out, are the direct call's at that allowance.
@@ -223,10 +223,10 @@ fn add_carried(r: &mut Rng, c: &mut Collection, img: &[u8], call: &Call, need: u
     let mut after = img.to_vec();
     call.with_allowance(k).run(&mut after);
     let windows = windows.iter().map(|w| format!("{w} ∷ ")).collect::<String>();
-    let text = format!("check-in-turn {} {} ({windows}[]) {k} {}", pieces(img), writing(call), pieces(&after));
+    let text = format!("check_in_turn {} {} ({windows}[]) {k} {}", pieces(img), writing(call), pieces(&after));
     if text.len() <= MOST_TEXT {
         let (kind, tags) = (title(call), vec![tag]);
-        c.add(Vector { function: "check-in-turn", text, kind, answer: 0, tags, source: SOURCE });
+        c.add(Vector { function: "check_in_turn", text, kind, answer: 0, tags, source: SOURCE });
     }
 }
 

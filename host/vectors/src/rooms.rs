@@ -31,7 +31,7 @@ pub fn places(r: &mut Rng, c: &mut Collection) {
             tags.push("place, T = N before the turn");
         }
         let text = place_equation(Place { head, tail, turned, length }, size);
-        c.add(Vector { function: "check-place", text, kind: "place", answer: 0, tags, source: "built" });
+        c.add(Vector { function: "check_place", text, kind: "place", answer: 0, tags, source: "built" });
     }
 }
 
@@ -80,7 +80,7 @@ pub fn add(r: &mut Rng, c: &mut Collection) {
             let text = room_equation(&img, &chain, &name, d);
             let wanted = c.count("source room") < ROOMS || tags.iter().any(|t| lacks(c, t));
             if wanted {
-                c.add(Vector { function: "check-room", text, kind: "room", answer: 0, tags, source: "room" });
+                c.add(Vector { function: "check_room", text, kind: "room", answer: 0, tags, source: "room" });
             }
         }
     }

@@ -14,18 +14,18 @@ use testing::ALL;
 /// What a vector of a trace computes, behind the rest of the helper.
 pub const HELPER: &str = "
 -- a replay: its three numbers, and every byte of the image
-unfoldable pub check-replay : List Piece → Planner.Slices → ℕ → ℕ → ℕ → List Piece → Bool
+unfoldable pub check_replay : List Piece → Planner.Slices → ℕ → ℕ → ℕ → List Piece → Bool
 unfolding NAMES
-check-replay before s answer position stop after =
-    let r = Trace.replay-trace (build before) s in
-    eqb (r .answer) answer && eqb (r .position) position && eqb (r .stop) stop && Basics.same (r .image) (build after)
+check_replay before s answer position stop after =
+    let r = Trace.replay_trace (build before) s in
+    eqb r.answer answer && eqb r.position position && eqb r.stop stop && Basics.same r.image (build after)
 
 -- the search for the first refused image
-unfoldable pub check-watch : List Piece → Planner.Slices → ℕ → Bool → ℕ → List Piece → Bool
+unfoldable pub check_watch : List Piece → Planner.Slices → ℕ → Bool → ℕ → List Piece → Bool
 unfolding NAMES
-check-watch before s answer there count after =
-    let r = Trace.watch-trace (build before) s in
-    eqb (r .answer) answer && agree (r .there) there && eqb (r .count) count && Basics.same (r .image) (build after)
+check_watch before s answer there count after =
+    let r = Trace.watch_trace (build before) s in
+    eqb r.answer answer && agree r.there there && eqb r.count count && Basics.same r.image (build after)
 ";
 
 /// What these vectors must show, besides every way to damage an entry.
@@ -68,8 +68,8 @@ fn replayed(c: &mut Collection, img: &[u8], log: &Log, way: Option<&'static str>
         Replayed { stop, .. } => TRACE_VECTOR_TAGS[stop as usize],
     });
     let Replayed { answer, position, stop } = told;
-    let text = format!("check-replay {} {} {answer} {position} {stop} {}", pieces(img), lent(log), pieces(&after));
-    c.add(Vector { function: "check-replay", text, kind: REPLAY, answer, tags, source: REPLAY });
+    let text = format!("check_replay {} {} {answer} {position} {stop} {}", pieces(img), lent(log), pieces(&after));
+    c.add(Vector { function: "check_replay", text, kind: REPLAY, answer, tags, source: REPLAY });
 }
 
 fn watched(c: &mut Collection, img: &[u8], log: &Log) {
@@ -86,8 +86,8 @@ fn watched(c: &mut Collection, img: &[u8], log: &Log) {
     if there && count > 0 && count == whole.position {
         tags.push(if whole.stop == 0 { "trace: mount refuses at the end" } else { "trace: mount refuses at the stop" });
     }
-    let text = format!("check-watch {} {} {answer} {there} {count} {}", pieces(img), lent(log), pieces(&after));
-    c.add(Vector { function: "check-watch", text, kind: WATCH, answer, tags, source: WATCH });
+    let text = format!("check_watch {} {} {answer} {there} {count} {}", pieces(img), lent(log), pieces(&after));
+    c.add(Vector { function: "check_watch", text, kind: WATCH, answer, tags, source: WATCH });
 }
 
 fn image(r: &mut Rng) -> Vec<u8> {

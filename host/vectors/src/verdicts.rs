@@ -7,11 +7,11 @@ use testing::rng::Rng;
 
 /// What a vector of a verdict computes.
 pub const HELPER: &str = "
-unfoldable pub check-verdict : List Piece → ℕ → ℕ → ℕ → ℕ → Bool
+unfoldable pub check_verdict : List Piece → ℕ → ℕ → ℕ → ℕ → Bool
 unfolding NAMES
-check-verdict image answer verdict number address =
-    let v = Verdict.verdict-numbers (Verdict.check (build image)) in
-    eqb (v .answer) answer && eqb (v .verdict) verdict && eqb (v .number) number && eqb (v .address) address
+check_verdict image answer verdict number address =
+    let v = Verdict.verdict_numbers (Verdict.check (build image)) in
+    eqb v.answer answer && eqb v.verdict verdict && eqb v.number number && eqb v.address address
 ";
 
 /// How many vectors of each verdict.
@@ -40,9 +40,9 @@ fn try_image(c: &mut Collection, img: &[u8]) {
         return;
     }
     let [answer, verdict, number, address] = numbers(v);
-    let text = format!("check-verdict {image} {answer} {verdict} {number} {address}");
+    let text = format!("check_verdict {image} {answer} {verdict} {number} {address}");
     let answer = v.err().unwrap_or(0);
-    c.add(Vector { function: "check-verdict", text, kind: KIND, answer, tags: vec![tag], source: "verdict" });
+    c.add(Vector { function: "check_verdict", text, kind: KIND, answer, tags: vec![tag], source: "verdict" });
 }
 
 /// What has too few vectors.

@@ -15,9 +15,11 @@ pub returns-then-size-part : goal.returns-then-size-part
 returns-then-size-part c =
     let s = c.args.part.now in
     let n = c.name_len-n.result in
-    let d = c.data_len-d.result in
-    (sized_as c.args.reserved s _ n d c.name_len-n.ensures.0 refl c.data_len-d.ensures.0
-    (sized_is s n d (omega arith) (omega (arith, leb-true))), (omega arith, omega (arith, leb-true), omega arith))
+    let d = c.data_len-d.result in (
+      sized_as c.args.reserved s _ n d c.name_len-n.ensures.0 refl c.data_len-d.ensures.0
+          (sized_is s n d (omega arith) (omega (arith, leb-true))),
+      (omega arith, omega (arith, leb-true), omega arith),
+    )
 
 pub returns : goal.returns
 returns c =

@@ -13,14 +13,13 @@ pub loop-i-init : goal.loop-i-init
 loop-i-init c = (omega arith, refl, refl)
 
 pub carry_entry-stop-requires : goal.carry_entry-stop-requires
-carry_entry-stop-requires c =
-    (
-      ap good_length c.loop-i.invariant.1 ∙ c.requires.0,
-      omega arith,
-      omega (arith, c.requires.1),
-      omega
-          (arith, c.requires.1, c.requires.2),
-    )
+carry_entry-stop-requires c = (
+  ap good_length c.loop-i.invariant.1 ∙ c.requires.0,
+  omega arith,
+  omega (arith, c.requires.1),
+  omega
+      (arith, c.requires.1, c.requires.2),
+)
 
 pub returns-then-stop-ne0 : goal.returns-then-stop-ne0
 returns-then-stop-ne0 c =

@@ -11,7 +11,6 @@ loop-e-init c = (fold_start _ _ _ _ c.requires, omega arith)
 pub near-s-requires : goal.near-s-requires
 near-s-requires c = c.loop-e.invariant.0.sound
 
-
 pub returns-in_default : goal.returns-in_default
 returns-in_default c = rw c.stowed_at.ensures c.loop-e.invariant
 

@@ -19,8 +19,7 @@ returns-in-Good c =
     let a = c.args in
     let s = a.image.now in
     let n = a.name.now in
-    let d = c.admitted_named-d in
- (
+    let d = c.admitted_named-d in (
       c.get_from.ensures.0
           ∙ done_with s c.in-Good.field-0 (rw c.in-Good.is at d.ensures.1).0 d.result.file 0 n getting (rw c.in-Good.is at d.ensures.2)
           ∙ let_in s 0 (reading_of s c.in-Good.field-0) (file_of n getting) (sym (ap (answered s) c.in-Good.is) ∙ d.ensures.0) ∙ get_is s n,

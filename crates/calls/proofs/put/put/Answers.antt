@@ -16,8 +16,7 @@ put_from-requires c =
 pub returns-in-Good : goal.returns-in-Good
 returns-in-Good c =
     let a = c.args in
-    let s = a.image.now in
- (
+    let s = a.image.now in (
       c.put_from.ensures.0
           ∙ let_in s a.allowance (reading_of s c.in-Good.s) (put_into a.name.now a.content.now s)
           (sym (ap (answered s) c.in-Good.is) ∙ c.admitted_named-d.ensures.0) ∙ put_is s a.allowance a.name.now a.content.now,

@@ -1,6 +1,6 @@
 -- is_superseded: only an F8 record is asked for an FC record of its name.
 use Rattle.laws.specs.Flag.{flag}
-use Rattle.spec.specs.Files.{named, has_named, superseded}
+use Rattle.spec.specs.Files.{superseded}
 use Rattle.chain.proofs.files.is_superseded.Goals as goal
 
 pub returns-then-named : goal.returns-then-named

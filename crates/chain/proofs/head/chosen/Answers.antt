@@ -16,55 +16,51 @@ returns-then-magic c = (
 
 pub returns-then-clean_magic-2 : goal.returns-then-clean_magic-2
 unfolding is_start is_high chosen
-returns-then-clean_magic-2 c =
-    (
-      rw (
-        flag c.magic.ensures c.if-magic.false,
-        flag c.clean_magic.ensures c.if-clean_magic.true,
-        flag
-            c.clean_magic-then-clean_magic.ensures c.if-clean_magic-2.true,
-        chosen,
-      ),
-      tt,
-    )
+returns-then-clean_magic-2 c = (
+  rw (
+    flag c.magic.ensures c.if-magic.false,
+    flag c.clean_magic.ensures c.if-clean_magic.true,
+    flag
+        c.clean_magic-then-clean_magic.ensures c.if-clean_magic-2.true,
+    chosen,
+  ),
+  tt,
+)
 
 pub returns-then-clean_magic : goal.returns-then-clean_magic
 unfolding is_start is_high chosen
-returns-then-clean_magic c =
-    (
-      rw (
-        flag c.magic.ensures c.if-magic.false,
-        flag c.clean_magic.ensures c.if-clean_magic.true,
-        flag c.clean_magic-then-clean_magic.ensures c.if-clean_magic-2.false,
-        chosen,
-      ),
-      le_of_lt (clean_inside _ _ (flag c.clean_magic.ensures c.if-clean_magic.true)),
-    )
+returns-then-clean_magic c = (
+  rw (
+    flag c.magic.ensures c.if-magic.false,
+    flag c.clean_magic.ensures c.if-clean_magic.true,
+    flag c.clean_magic-then-clean_magic.ensures c.if-clean_magic-2.false,
+    chosen,
+  ),
+  le_of_lt (clean_inside _ _ (flag c.clean_magic.ensures c.if-clean_magic.true)),
+)
 
 pub returns-then-clean_magic-3 : goal.returns-then-clean_magic-3
 unfolding is_start is_high chosen
-returns-then-clean_magic-3 c =
-    (
-      rw (
-        flag c.magic.ensures c.if-magic.false,
-        flag c.clean_magic.ensures c.if-clean_magic.false,
-        flag
-            c.clean_magic-2.ensures c.if-clean_magic-3.true,
-        chosen,
-      ),
-      omega arith,
-    )
+returns-then-clean_magic-3 c = (
+  rw (
+    flag c.magic.ensures c.if-magic.false,
+    flag c.clean_magic.ensures c.if-clean_magic.false,
+    flag
+        c.clean_magic-2.ensures c.if-clean_magic-3.true,
+    chosen,
+  ),
+  omega arith,
+)
 
 pub returns : goal.returns
 unfolding is_start is_high chosen
-returns c =
-    (
-      rw (
-        flag c.magic.ensures c.if-magic.false,
-        flag c.clean_magic.ensures c.if-clean_magic.false,
-        flag
-            c.clean_magic-2.ensures c.if-clean_magic-3.false,
-        chosen,
-      ),
-      tt,
-    )
+returns c = (
+  rw (
+    flag c.magic.ensures c.if-magic.false,
+    flag c.clean_magic.ensures c.if-clean_magic.false,
+    flag
+        c.clean_magic-2.ensures c.if-clean_magic-3.false,
+    chosen,
+  ),
+  tt,
+)

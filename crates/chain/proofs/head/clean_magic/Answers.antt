@@ -1,6 +1,6 @@
 -- clean_magic: the two bytes one after the other.
 use Rattle.laws.specs.Flag.{flag}
-use Rattle.spec.specs.Bytes.{is_clean, is_high}
+use Rattle.spec.specs.Bytes.{is_high}
 use Rattle.chain.proofs.head.clean_magic.Goals as goal
 
 pub returns-then-is_clean : goal.returns-then-is_clean

@@ -21,8 +21,7 @@ returns-then-magic c =
 pub returns-then-magic-2 : goal.returns-then-magic-2
 unfolding is_start is_high is_wrap head
 returns-then-magic-2 c =
-    let e = c.seen-then-magic-2.ensures in
-    (
+    let e = c.seen-then-magic-2.ensures in (
       ap headed e.0
           ∙ rw (
             flag c.magic.ensures c.if-magic.false,

@@ -1,6 +1,6 @@
 -- record_magic: the two bytes one after the other.
 use Rattle.laws.specs.Flag.{flag}
-use Rattle.spec.specs.Bytes.{is_record, is_high}
+use Rattle.spec.specs.Bytes.{is_high}
 use Rattle.chain.proofs.head.record_magic.Goals as goal
 
 pub returns-then-is_record : goal.returns-then-is_record

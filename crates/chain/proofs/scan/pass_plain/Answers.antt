@@ -11,7 +11,6 @@ pub near-s-requires : goal.near-s-requires
 near-s-requires c =
     (c.loop-e.invariant.0 c.args.start c.requires.0 c.requires.1).fold.sound
 
-
 pub returns-in_default : goal.returns-in_default
 returns-in_default c =
     let l = c.loop-e in

@@ -9,7 +9,6 @@ loop-left-init c = skips_none c.requires
 pub near-s-requires : goal.near-s-requires
 near-s-requires c = c.loop-left.invariant.gone.sound
 
-
 pub returns-in_default : goal.returns-in_default
 returns-in_default c = c.loop-left.invariant
 

@@ -37,8 +37,7 @@ pub loop-left-preserved : goal.loop-left-preserved
 loop-left-preserved c =
     let a = c.args in
     let l = c.loop-left in
-    let more = c.loop-left-test.true in
-    (
+    let more = c.loop-left-test.true in (
       omega (arith, c.hand_move-t.auto.kinds, l.invariant.0),
       omega (arith, c.hand_move-t.auto.addresses, l.invariant.1),
       omega (arith, c.hand_move-t.auto.bytes, l.invariant.2),

@@ -14,7 +14,6 @@ loop-e-init c =
 pub near-s-requires : goal.near-s-requires
 near-s-requires c = c.loop-e.invariant.1.gone.sound
 
-
 pub returns-in_default : goal.returns-in_default
 returns-in_default c =
     let inv = c.loop-e.invariant in

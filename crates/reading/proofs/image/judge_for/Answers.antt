@@ -21,10 +21,9 @@ returns-in-At c =
     )
 
 pub returns-in-Refused : goal.returns-in-Refused
-returns-in-Refused c =
-    (
-      reading_refused c.args.image.now c.in-Refused.n
-          (sym (ap headed c.in-Refused.is) ∙ c.head-found.ensures.0),
-      tt,
-      tt,
-    )
+returns-in-Refused c = (
+  reading_refused c.args.image.now c.in-Refused.n
+      (sym (ap headed c.in-Refused.is) ∙ c.head-found.ensures.0),
+  tt,
+  tt,
+)

@@ -7,10 +7,10 @@ use Rattle.recovery.proofs.last.void_last.Goals as goal
 
 pub void_counted-a-requires : goal.void_counted-a-requires
 void_counted-a-requires c = record {
-      tallied = rw (← c.survey-s.ensures.head)
+  tallied = rw (← c.survey-s.ensures.head)
       c.survey-s.ensures.surveyed.tallied;
-      can_count = omega arith;
-    }
+  can_count = omega arith;
+}
 
 pub finish_wrap-requires : goal.finish_wrap-requires
 finish_wrap-requires c =

@@ -30,13 +30,12 @@ changes_entry-changed-requires c =
     (omega arith, omega (arith, c.requires.1), omega (arith, c.requires.1, c.requires.2))
 
 pub carry_entry-requires : goal.carry_entry-requires
-carry_entry-requires c =
-    (
-      ap good_length c.loop-i.invariant.1 ∙ c.requires.0,
-      omega arith,
-      omega (arith, c.requires.1),
-      omega (arith, c.requires.1, c.requires.2),
-    )
+carry_entry-requires c = (
+  ap good_length c.loop-i.invariant.1 ∙ c.requires.0,
+  omega arith,
+  omega (arith, c.requires.1),
+  omega (arith, c.requires.1, c.requires.2),
+)
 
 pub returns-then-carry_entry-ne0 : goal.returns-then-carry_entry-ne0
 returns-then-carry_entry-ne0 c =
