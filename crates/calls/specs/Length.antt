@@ -1,15 +1,14 @@
 -- What a file's length answers, in the definition's words (request K8).
-use Rattle.std.specs.Prelude.{ℕ, ◌≤◌, ◌≡◌, refl, Bool, List, length}
-use Rattle.std.proofs.Common.{arith, sym, ap, ◌∙◌}
+use Rattle.std.specs.Prelude.{ℕ, ◌≡◌, refl, List, length}
+use Rattle.std.proofs.Common.{sym, ap, ◌∙◌}
 use Rattle.std.proofs.Math.Bool.{true, false}
 use borrow.Author.Tests.{eq-eqb, ne_eqb}
 use Rattle.spec.specs.declared.NameFault.{NameFault}
 use Rattle.spec.specs.Step.{Image}
-use Rattle.spec.specs.Basics.{Answer, refuse, give, numbered, no_fault}
+use Rattle.spec.specs.Basics.{Answer, refuse, numbered, no_fault}
 use Rattle.spec.specs.Geometry.{good_length}
 use Rattle.spec.specs.Record.{name_fault, name_ok}
-use Rattle.spec.specs.Door.{misnamed}
-use Rattle.spec.specs.Numbers.{Numbers, Outcome, outcome_of}
+use Rattle.spec.specs.Numbers.{Numbers, outcome_of}
 use Rattle.spec.specs.Answers.{carry_out, numbers_of}
 use Rattle.spec.specs.Length.{length_from, length_asked, of_length, measured, file_length}
 use Rattle.headers.specs.declared.Measured.{Measured}

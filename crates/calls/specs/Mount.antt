@@ -1,5 +1,5 @@
 -- Mount's answer in document 01's words, and how it follows from what the repairs did.
-use Rattle.std.specs.Prelude.{ℕ, ◌-◌, ◌≤◌, ◌<◌, ◌≡◌, true, length, take}
+use Rattle.std.specs.Prelude.{ℕ, ◌≤◌, ◌<◌, ◌≡◌, true, length, take}
 use Rattle.std.proofs.Common.{arith, sym, ap, ap₂, ◌∙◌, le-leb}
 use Rattle.std.proofs.Math.Nat.{sub-zero}
 use Rattle.std.proofs.Math.Seq.{take-nil}

@@ -12,7 +12,7 @@ use Rattle.spec.specs.Chain.{Reading, reading_from}
 use Rattle.spec.specs.Sweep.{no_room, moves}
 use Rattle.spec.specs.Numbers.{outcome_of, of_sweep}
 use Rattle.spec.specs.Space.{no_space, space_left, sweep_work}
-use Rattle.spec.specs.Answers.{Plan, finished, numbers_of, carry_out, sweeping, sweep_of}
+use Rattle.spec.specs.Answers.{Plan, finished, numbers_of, carry_out, sweep_of}
 use Rattle.flash.specs.declared.Meter.{Meter}
 use Rattle.flash.specs.Meters.{Enough, UsedUp}
 use Rattle.reading.specs.declared.Survey.{Survey}

@@ -1,10 +1,10 @@
 -- A planned mount (02, K1): what the first reading plans is the definition's plan.
-use Rattle.std.specs.Prelude.{ℕ, ◌+◌, ◌-◌, min, ◌≡◌, true, [], length}
-use Rattle.std.proofs.Common.{arith, sym, ap, ap₂, ◌∙◌}
+use Rattle.std.specs.Prelude.{ℕ, ◌-◌, min, ◌≡◌, true, [], length}
+use Rattle.std.proofs.Common.{arith, sym, ap, ◌∙◌}
 use Rattle.spec.specs.declared.Report.{Report}
 use Rattle.spec.specs.declared.Space.{Space}
 use Rattle.spec.specs.Step.{Image}
-use Rattle.spec.specs.Basics.{Answer, give}
+use Rattle.spec.specs.Basics.{Answer}
 use Rattle.spec.specs.Chain.{Reading}
 use Rattle.spec.specs.Reading.{marks_ok}
 use Rattle.spec.specs.Mount.{mended}

@@ -1,5 +1,5 @@
 -- Planned calls (02, K1): from the window and the slices to what the definition hands out; the door, as in Carry.
-use Rattle.std.specs.Prelude.{ℕ, ◌+◌, ◌-◌, min, ◌≡◌, List, [], length, take, drop}
+use Rattle.std.specs.Prelude.{ℕ, ◌-◌, min, ◌≡◌, List, [], length, take}
 use Rattle.std.proofs.Common.{arith, sym, ap, ap₂, ◌∙◌}
 use Rattle.std.proofs.Math.Path.{refl}
 use Rattle.std.proofs.Math.Seq.{take-nil, drop-nil}

@@ -1,20 +1,17 @@
 -- Request K3 in the code's steps: the four numbers from live bytes, a place and a wall.
-use Rattle.std.specs.Prelude.{ℕ, ◌+◌, ◌-◌, ◌≤◌, ◌<◌, ◌^◌, ◌≡◌, refl, Bool, true, false, List, [], ◌∷◌, length, eqb, ltb}
+use Rattle.std.specs.Prelude.{ℕ, ◌+◌, ◌-◌, ◌≤◌, ◌<◌, ◌^◌, ◌≡◌, refl, Bool, true, false, List, [], ◌∷◌, length}
 use Rattle.std.proofs.Common.{arith, zero-add, sym, ap, subst, ◌∙◌}
 use Rattle.std.proofs.Math.Path.{ap₂}
-use Rattle.std.proofs.Math.Option.{Option, none, some}
 use borrow.Author.Tests.{eq-eqb, ne_eqb, lt-ltb, le-ltb}
 use Rattle.spec.specs.declared.Place.{Place}
-use Rattle.spec.specs.declared.Space.{Space}
 use Rattle.spec.specs.Step.{Image}
 use Rattle.spec.specs.Basics.{Each, keep}
 use Rattle.spec.specs.Geometry.{floor}
-use Rattle.spec.specs.Record.{Entry, size_of}
-use Rattle.spec.specs.Reading.{marked}
+use Rattle.spec.specs.Record.{Entry}
 use Rattle.spec.specs.Place.{with_marker, place_after}
-use Rattle.spec.specs.Space.{sizes, live_bytes, free_bytes, lost_bytes, behind_marker}
+use Rattle.spec.specs.Space.{sizes, live_bytes, free_bytes, lost_bytes}
 use Rattle.laws.specs.Settled.{second_marked}
-use Rattle.planning.specs.Planned.{come_round, copied_place, led_place}
+use Rattle.planning.specs.Planned.{come_round, copied_place}
 use Rattle.planning.specs.Told.{behind_place}
 use Rattle.planning.specs.Places.{round_keeps, led_head, led_length}
 use Rattle.planning.specs.Reads.{Reads}

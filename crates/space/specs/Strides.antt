@@ -1,6 +1,6 @@
 -- A sweep that is only walked: one move, and what the next one goes by. The first copy is told by its address.
-use Rattle.std.specs.Prelude.{ℕ, zero, suc, ◌≤◌, ◌<◌, ◌≡◌, refl, Bool, true, false, List, [], ◌∷◌, length}
-use Rattle.std.proofs.Common.{arith, sym, ap, ap₂, ◌∙◌}
+use Rattle.std.specs.Prelude.{ℕ, suc, ◌≡◌, refl, Bool, true, false, List, [], ◌∷◌, length}
+use Rattle.std.proofs.Common.{sym, ap, ◌∙◌}
 use Rattle.std.proofs.Math.Option.{Option, none, some}
 use Rattle.spec.specs.declared.Place.{Place}
 use Rattle.spec.specs.Step.{Image}
@@ -16,12 +16,11 @@ use Rattle.chain.specs.Rest.{entry_of, rest}
 use Rattle.chain.specs.Fold.{Whole}
 use Rattle.chain.specs.Sums.{size_is}
 use Rattle.planner.specs.declared.Copied.{Copied}
-use Rattle.planner.specs.declared.Walk.{Walk}
 use Rattle.space.specs.declared.Course.{Course}
 use Rattle.space.specs.declared.Strode.{Strode}
 use Rattle.planner.specs.Walk.{copy_entry, address_of, first_of}
 use Rattle.space.specs.Space.{put_by}
-use Rattle.planner.specs.Moves.{Below, Walkable, Known, led_walkable, copied_is}
+use Rattle.planner.specs.Moves.{Walkable, Known, copied_is}
 
 -- ---- addresses
 
