@@ -31,7 +31,7 @@ fn nowhere(x: Refusal) -> Located
 // The bytes of the file that was found.
 fn get_from(image: &[u8], f: Found) -> Located
     requires { FoundWhole image.now f × InRange (length image.now) }
-    ensures { (outcome_of (located result) image.now
+    ensures { (outcome_of (located result) image.exit.now
         ≡ carry_out image.now 0 (found getting (found_in image.now f)))
         × ExtentInside image.now result.extent }
 {
@@ -53,7 +53,7 @@ fn get_from(image: &[u8], f: Found) -> Located
 
 // Where the bytes of the file of this name stand.
 pub fn get_place(image: &[u8], name: &[u8]) -> Located
-    ensures { (outcome_of (located result) image.now ≡ get image.now name.now)
+    ensures { (outcome_of (located result) image.exit.now ≡ get image.now name.now)
         × ExtentInside image.now result.extent }
 {
     let d = admitted_named(image, name);
@@ -69,7 +69,7 @@ pub fn get_place(image: &[u8], name: &[u8]) -> Located
 pub fn get<'a>(image: &'a [u8], name: &[u8]) -> &'a [u8]
     ensures { (result.now ≡ part_of image.now (get image.now name.now).numbers)
         × LiesAt result image.entry (get image.now name.now).numbers.extent
-        × (image.now ≡ image.now) }
+        × (image.exit.now ≡ image.entry.now) }
 {
     let p = get_place(image, name);
     let x = p.extent;

@@ -58,7 +58,7 @@ fn refused(y: Refusal) -> FileLength
 
 // The length of the file of this name, from this head on.
 pub fn file_length(image: &[u8], head: usize, name: &[u8]) -> FileLength
-    ensures { outcome_of (sized result) image.now
+    ensures { outcome_of (sized result) image.exit.now
         ≡ file_length image.now head name.now }
 {
     told(asked(image, head, name))

@@ -31,7 +31,7 @@ fn unlisted(answer: u32) -> Listed
 // The file with this index, of what was read.
 fn list_from(image: &[u8], index: usize, s: Survey) -> Listed
     requires { Settled image.now s }
-    ensures { (outcome_of (listed result) image.now
+    ensures { (outcome_of (listed result) image.exit.now
         ≡ carry_out image.now 0 (list_of index (reading_of image.now s)))
         × ExtentInside image.now result.name }
 {
@@ -52,7 +52,7 @@ fn list_from(image: &[u8], index: usize, s: Survey) -> Listed
 
 // The file with this index, in the chain's order.
 pub fn list_place(image: &[u8], index: usize) -> Listed
-    ensures { (outcome_of (listed result) image.now ≡ list image.now index)
+    ensures { (outcome_of (listed result) image.exit.now ≡ list image.now index)
         × ExtentInside image.now result.name }
 {
     let x = admitted(image);
@@ -66,7 +66,7 @@ pub fn list_place(image: &[u8], index: usize) -> Listed
 pub fn list_name(image: &[u8], index: usize) -> &[u8]
     ensures { (result.now ≡ part_of image.now (list image.now index).numbers)
         × LiesAt result image.entry (list image.now index).numbers.extent
-        × (image.now ≡ image.now) }
+        × (image.exit.now ≡ image.entry.now) }
 {
     let p = list_place(image, index);
     let x = p.name;

@@ -96,7 +96,7 @@ pub extern "C" fn lilota_get(
     size: &mut usize,
 ) -> u32
     ensures { outcome_of (with_fault (fault reason.new place.new)
-        (of_get result (extent offset.new size.new))) image.now
+        (of_get result (extent offset.new size.new))) image.exit.now
         ≡ get image.now name.now }
 {
     let h = get_place(image, name);
@@ -117,7 +117,7 @@ pub extern "C" fn lilota_list(
     length: &mut usize,
     size: &mut usize,
 ) -> u32
-    ensures { outcome_of (of_list result (extent offset.new length.new) size.new) image.now
+    ensures { outcome_of (of_list result (extent offset.new length.new) size.new) image.exit.now
         ≡ list image.now index }
 {
     let l = list_place(image, index);

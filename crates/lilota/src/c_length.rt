@@ -16,7 +16,7 @@ pub extern "C" fn lilota_length(
     size: &mut usize,
 ) -> u32
     ensures { outcome_of (with_fault (fault reason.new place.new) (of_length result size.new))
-        image.now
+        image.exit.now
         ≡ file_length image.now head name.now }
 {
     let l = file_length(image, head, name);

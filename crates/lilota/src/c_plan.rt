@@ -34,7 +34,7 @@ pub extern "C" fn lilota_plan_put(
         handed.new (slices kinds.new addresses.new bytes.new)
         ≡ planned (Writing.put name.now content.now) image.now first
         (slices kinds.old addresses.old bytes.old))
-        × (image.now ≡ image.now) }
+        × (image.exit.now ≡ image.entry.now) }
 {
     let p = plan_put(image, name, content, first, kinds, addresses, bytes);
     let w = p.answer;
@@ -69,7 +69,7 @@ pub extern "C" fn lilota_plan_remove(
         (slices kinds.new addresses.new bytes.new)
         ≡ planned (Writing.remove name.now) image.now first
         (slices kinds.old addresses.old bytes.old))
-        × (image.now ≡ image.now) }
+        × (image.exit.now ≡ image.entry.now) }
 {
     let p = plan_remove(image, name, first, kinds, addresses, bytes);
     let w = p.answer;
@@ -101,7 +101,7 @@ pub extern "C" fn lilota_plan_sweep(
         (slices kinds.new addresses.new bytes.new)
         ≡ planned Writing.sweep image.now first
         (slices kinds.old addresses.old bytes.old))
-        × (image.now ≡ image.now) }
+        × (image.exit.now ≡ image.entry.now) }
 {
     let p = plan_sweep(image, first, kinds, addresses, bytes);
     let w = p.answer;
@@ -139,7 +139,7 @@ pub extern "C" fn lilota_plan_mount(
         handed.new (slices kinds.new addresses.new bytes.new)
         ≡ planned Writing.mount image.now first
         (slices kinds.old addresses.old bytes.old))
-        × (image.now ≡ image.now) }
+        × (image.exit.now ≡ image.entry.now) }
 {
     let p = plan_mount(image, first, kinds, addresses, bytes);
     let w = p.answer;

@@ -78,7 +78,7 @@ pub fn plan_mount(
     ensures { (handing (mounted result.answer) result.handed (slices kinds.new addresses.new bytes.new)
         ≡ planned Writing.mount image.now first
         (slices kinds.old addresses.old bytes.old))
-        × MountedTold result.answer × (image.now ≡ image.now) }
+        × MountedTold result.answer × (image.exit.now ≡ image.entry.now) }
 {
     let x = accepted(image);
     match x {

@@ -106,7 +106,7 @@ pub fn plan_put(
     ensures { (handing (stored result.answer) result.handed (slices kinds.new addresses.new bytes.new)
         ≡ planned (Writing.put name.now content.now) image.now first
         (slices kinds.old addresses.old bytes.old))
-        × StoredTold result.answer × (image.now ≡ image.now) }
+        × StoredTold result.answer × (image.exit.now ≡ image.entry.now) }
 {
     let d = admitted_named(image, name);
     let x = d.read;

@@ -62,7 +62,7 @@ pub fn plan_remove(
     ensures { (handing (written result.answer) result.handed (slices kinds.new addresses.new bytes.new)
         ≡ planned (Writing.remove name.now) image.now first
         (slices kinds.old addresses.old bytes.old))
-        × WrittenTold result.answer × (image.now ≡ image.now) }
+        × WrittenTold result.answer × (image.exit.now ≡ image.entry.now) }
 {
     let d = admitted_named(image, name);
     let x = d.read;

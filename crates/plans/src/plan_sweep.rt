@@ -73,7 +73,7 @@ pub fn plan_sweep(
     ensures { (handing (swept result.answer) result.handed (slices kinds.new addresses.new bytes.new)
         ≡ planned Writing.sweep image.now first
         (slices kinds.old addresses.old bytes.old))
-        × SweptTold result.answer × (image.now ≡ image.now) }
+        × SweptTold result.answer × (image.exit.now ≡ image.entry.now) }
 {
     let x = admitted(image);
     match x {
