@@ -153,8 +153,7 @@ pub fn room_equation(img: &[u8], c: &Chain, name: &[u8], d: u64) -> String {
 /// A file of vectors, named v followed by their numbers.
 pub fn file(vectors: &[(usize, &Vector)]) -> String {
     let mut s = String::from(
-        "use Rattle.std.specs.Prelude.{refl}\n\
-         use Rattle.spec.specs.Prelude.{◌≡◌, Bool, true, false, List, [], ◌∷◌}\n\
+        "use Rattle.std.specs.Prelude.{◌≡◌, refl, true, false, [], ◌∷◌}\n\
          use Rattle.spec.specs.History.{Request, put, remove, sweep, mount, get, list}\n\
          use Rattle.spec.specs.Numbers.{of_write, of_put, of_mount, of_sweep, of_get, of_list}\n\
          use Rattle.spec.specs.Run.{fill, lit, build, call, file, entry, report, space, extent, refused_name}\n\

@@ -5,8 +5,8 @@ use scratch::read;
 use std::path::Path;
 
 const HEAD: &str = "-- What a vector computes.
-use Rattle.spec.specs.Prelude.{ℕ, zero, suc, ◌+◌, Bool, true, false, ◌&&◌, not, List, [], ◌∷◌, ◌++◌, length, take, drop}
-use Rattle.spec.specs.Prelude.{replicate, set, get_or, eqb}
+use Rattle.std.specs.Prelude.{ℕ, zero, suc, ◌+◌, Bool, true, false, ◌&&◌, not, List, [], ◌∷◌, ◌++◌, length, take, drop}
+use Rattle.std.specs.Prelude.{replicate, set, get_or, eqb}
 use Rattle.std.specs.Int.Bits.{bit_and}
 use Rattle.spec.specs.Numbers.{Numbers, Outcome, of_write, of_put, of_mount, of_sweep, of_get, of_list, refusal, part_of}
 use Rattle.spec.specs.Answers.{format}
