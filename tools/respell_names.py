@@ -1,7 +1,7 @@
 #!/usr/bin/env python3
 """Brings this repository's own definitions and lemmas to today's spelling: words in snake case, facts and types in camel case.
 
-usage: python3 tools/respell_names.py        at the top, once, right after /opt/rattle/port/port.py
+usage: python3 tools/respell_names.py        at the top, once, right after the kit's port/port.py
 
 A name is this repository's if a file of crates/*/specs or a file that lies in crates/*/proofs itself declares it: a definition, a lemma,
 a record's field, a constructor. Its dashes become underscores; a name that begins with a capital and is a fact or a type (its signature

@@ -12,7 +12,6 @@ import sys
 IDENT = r"[^\s(){}\[\];,.]+"
 PATH = re.compile(r"(?<![^\s(){}\[\];,])(" + IDENT + r")((?:\." + IDENT + r")+)(?![^\s(){}\[\];,.])")
 LET = re.compile(r"let (" + IDENT + r") = (" + IDENT + r"(?:\." + IDENT + r")*) in(\s+|$)")
-WORDS = {"loop-holds": "loop-init"}
 
 
 def norm(name):
@@ -227,7 +226,6 @@ def turn(path, info, module):
     needs = {norm(old): k for k, (old, new) in enumerate(info["needs"])}
     loops = {norm(old): (new, vars_, info["changed"][k]) for k, ((old, new), vars_) in enumerate(info["loops"])}
     invariants, answers, helpers, left = [], [], [], []
-    order = 0
     for block in decls:
         comment = []
         while block and block[0].startswith("--"):
@@ -295,7 +293,6 @@ def turn(path, info, module):
             if was_c not in ("c", "_"):
                 t.said.append(f"{name}: context {was_c}")
             body = t.body(body, place)
-            used = re.search(r"(?<![^\s(){}\[\];,])c(?![^\s(){}\[\];,.])", body)
             answers.append((k, "\n".join(comment + [f"pub {new} : goal.{new}", *between, f"{new} {'c' if was_c != '_' else '_'}{''.join(' ' + a for a in args[1:])} ={body}"])))
             continue
         helpers.append("\n".join(comment + [text]))
