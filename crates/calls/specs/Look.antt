@@ -1,21 +1,21 @@
 -- The lookups: from what the code found to the outcome of get, list and remove.
-use Rattle.std.specs.Prelude.{ℕ, ◌+◌, ◌-◌, ◌≡◌, refl, List, take, drop}
+use Rattle.std.specs.Prelude.{ℕ, ◌+◌, ◌-◌, ◌≡◌, refl, List, take, drop, Result, Ok, Err}
+use Rattle.std.specs.Result.{result_unwrap_or}
 use Rattle.std.proofs.Common.{arith, sym, ap₂, ◌∙◌}
 use Rattle.std.proofs.Math.Path.{ap}
 use Rattle.std.proofs.Math.Option.{Option, none, some}
 use Rattle.std.proofs.Math.ListN.{get_elem?}
-use Rattle.spec.specs.declared.NameFault.{NameFault}
-use Rattle.spec.specs.declared.Refusal.{Refusal}
 use Rattle.spec.specs.Step.{Image}
-use Rattle.spec.specs.Basics.{refuse, give, no_fault, numbered, keep, first_such}
+use Rattle.spec.specs.Basics.{give, numbered, keep, first_such}
 use Rattle.spec.specs.Geometry.{up8}
 use Rattle.spec.specs.Record.{Entry}
 use Rattle.spec.specs.Files.{has_name, file_named, file_indexed}
-use Rattle.spec.specs.Door.{admitted}
-use Rattle.spec.specs.Numbers.{Numbers, Outcome, outcome_of, of_get, of_list, refusal, part_of}
+use Rattle.spec.specs.declared.Extent.{Extent}
+use Rattle.spec.specs.declared.Refusal.{Refusal}
+use Rattle.spec.specs.Numbers.{Numbers, Outcome, outcome_of, of_get, of_list, refusal, no_extent, part_of}
 use Rattle.spec.specs.Answers.{Plan, carry_out, numbers_of, looking, found, file_of, getting, listing}
 use Rattle.chain.specs.declared.Spot.{Spot}
-use Rattle.chain.specs.declared.Found.{Found}
+use Rattle.chain.specs.Answers.{Found}
 use Rattle.reading.specs.declared.Survey.{Survey}
 use Rattle.chain.specs.Rest.{entry_of}
 use Rattle.chain.specs.Fold.{Whole, name_length_is, content_length_is}
@@ -24,8 +24,8 @@ use Rattle.chain.specs.Seek.{found_in}
 use Rattle.reading.specs.NamesLaw.{files_are}
 use Rattle.reading.specs.Read.{reading_of, FileTold}
 use Rattle.reading.specs.Accepted.{Settled}
-use Rattle.laws.specs.Refusing.{admitted_nameless}
-use Rattle.calls.specs.Numbers.{extent, with_fault}
+use Rattle.calls.specs.declared.Listed.{Listed}
+use Rattle.calls.specs.Numbers.{extent, located, listed}
 
 -- ---- a call that only looks
 
@@ -39,6 +39,16 @@ pub part_is : (image : Image) (n : Numbers) (o : Outcome) → outcome_of n image
 part_is image n o e =
     let q : n.extent.offset + n.extent.length - n.extent.offset ≡ n.extent.length = omega arith in
     rw q (ap (λ (x : Outcome). part_of image x.numbers) e)
+
+-- and it is empty where there is none
+pub place_of : (r : Result Extent Refusal) {x : Extent} → x ≡ result_unwrap_or r no_extent → x ≡ (located r).extent
+place_of (Ok y) e = e
+place_of (Err y) e = e
+
+pub name_of : (r : Result Listed Refusal) {l : Listed} → l ≡ result_unwrap_or r (record { name = no_extent; size = 0 })
+    → l.name ≡ (listed r).extent
+name_of (Ok k) e = ap (λ (x : Listed). x.name) e
+name_of (Err y) e = ap (λ (x : Listed). x.name) e
 
 -- what was found is the definitions' file
 module _ (image : List ℕ) (s : Survey) (w : Settled image s) (f : Found) where
@@ -61,13 +71,6 @@ module _ (image : List ℕ) (s : Survey) (w : Settled image s) (f : Found) where
   done_with k name g t = ap (carry_out image k) (plan_with name g t)
 
 -- ---- get and list
-
--- list's door says nothing of a name
-pub unlisted_is : (image : Image) (x : Refusal) → refuse x ≡ admitted image
-    → outcome_of (of_list x.number (extent 0 0) 0) image ≡ outcome_of (refusal x) image
-unlisted_is image x e =
-    let h : x.name ≡ no_fault = rw (← e) at (admitted_nameless image) in
-    ap (λ (f : NameFault). outcome_of (with_fault f (of_list x.number (extent 0 0) 0)) image) (sym h)
 
 module _ (image : List ℕ) (o : Option Entry) where
   pub found_none : (g : Entry → Plan) → none ≡ o → outcome_of (refusal (numbered 2)) image ≡ carry_out image 0 (found g o)

@@ -1,24 +1,24 @@
 -- What the public calls' answers say in document 01's words: its number and values, for each case of each enum.
-use Rattle.std.specs.Prelude.{ℕ, ◌+◌, ◌≤◌, ◌≡◌, refl, true, List, length}
+use Rattle.std.specs.Prelude.{ℕ, ◌+◌, ◌≤◌, ◌≡◌, refl, true, List, length, Result, Ok, Err}
 use Rattle.std.proofs.Common.{sym, ap, ◌∙◌}
 use Rattle.std.specs.Borrow.{Bor}
-use Rattle.spec.specs.declared.NameFault.{NameFault}
+use Rattle.spec.specs.declared.Refusal.{Refusal}
 use Rattle.spec.specs.declared.Report.{Report}
 use Rattle.spec.specs.declared.Extent.{Extent}
 use Rattle.spec.specs.declared.Space.{Space}
+use Rattle.spec.specs.Refusals.{FaultNumbers, no_fault, fault_told, refusal_numbers}
 use Rattle.spec.specs.Step.{Image}
-use Rattle.spec.specs.Basics.{no_fault}
 use Rattle.spec.specs.Space.{no_space}
-use Rattle.spec.specs.Numbers.{Numbers, Outcome, outcome_of, of_write, of_put, of_mount, of_sweep, of_get, of_list, refusal, is_refusal}
+use Rattle.spec.specs.Numbers.{Numbers, of_write, of_put, of_mount, of_sweep, of_get, of_list, refusal, is_refusal}
 use Rattle.calls.specs.declared.Written.{Written}
 use Rattle.calls.specs.declared.Stored.{Stored}
 use Rattle.calls.specs.declared.Mounted.{Mounted}
 use Rattle.calls.specs.declared.Swept.{Swept}
-use Rattle.calls.specs.declared.Located.{Located}
 use Rattle.calls.specs.declared.Listed.{Listed}
+use Rattle.calls.specs.declared.numbers.Numbers.{Numbers as Given}
 
 -- these numbers, and what is wrong with the name: put, get and remove "pass both on beside 22, in place of zeros" (K5)
-abbrev pub with_fault : NameFault → Numbers → Numbers
+abbrev pub with_fault : FaultNumbers → Numbers → Numbers
 with_fault f n =
     record {
       answer = n.answer;
@@ -31,73 +31,76 @@ with_fault f n =
       steps = n.steps;
     }
 
+-- a refusal
+abbrev pub refused : Refusal → Numbers
+refused x = refusal (refusal_numbers x)
+
 -- format and remove: "Writing calls .. report steps used"
-abbrev pub written : Written → Numbers
-written (Written.Done k) = of_write 0 k
-written (Written.Cut k) = of_write 4 k
-written (Written.Refused x) = refusal x
+abbrev pub written : Result Written Refusal → Numbers
+written (Ok (Written.Done k)) = of_write 0 k
+written (Ok (Written.Cut k)) = of_write 4 k
+written (Err x) = refused x
 
 -- put: as these, and on success "the same record .., for the image they leave"
-abbrev pub stored : Stored → Numbers
-stored (Stored.Done x k) = of_put 0 x k
-stored (Stored.Cut k) = of_write 4 k
-stored (Stored.Refused x) = refusal x
+abbrev pub stored : Result Stored Refusal → Numbers
+stored (Ok (Stored.Done x k)) = of_put 0 x k
+stored (Ok (Stored.Cut k)) = of_write 4 k
+stored (Err x) = refused x
 
 -- "Mount's success gives h, T, the count of live files (of the image it leaves), steps"
-abbrev pub mounted : Mounted → Numbers
-mounted (Mounted.Done r x k) = of_mount 0 r x k
-mounted (Mounted.Cut k) = of_write 4 k
-mounted (Mounted.Refused x) = refusal x
+abbrev pub mounted : Result Mounted Refusal → Numbers
+mounted (Ok (Mounted.Done r x k)) = of_mount 0 r x k
+mounted (Ok (Mounted.Cut k)) = of_write 4 k
+mounted (Err x) = refused x
 
 -- "Sweep's success gives finished moves and steps"; "4: steps used, and for sweep the finished moves"
-abbrev pub swept : Swept → Numbers
-swept (Swept.Done n x k) = of_sweep 0 n x k
-swept (Swept.Cut n k) = of_sweep 4 n no_space k
-swept (Swept.Refused x) = refusal x
+abbrev pub swept : Result Swept Refusal → Numbers
+swept (Ok (Swept.Done n x k)) = of_sweep 0 n x k
+swept (Ok (Swept.Cut n k)) = of_sweep 4 n no_space k
+swept (Err x) = refused x
 
 -- "there get gives offset and length"
-abbrev pub located : Located → Numbers
-located l = with_fault l.name (of_get l.answer l.extent)
+abbrev pub located : Result Extent Refusal → Numbers
+located (Ok x) = of_get 0 x
+located (Err x) = refused x
 
 -- "List by index (chain order) gives name part and length"
-abbrev pub listed : Listed → Numbers
-listed l = of_list l.answer l.name l.size
+abbrev pub listed : Result Listed Refusal → Numbers
+listed (Ok l) = of_list 0 l.name l.size
+listed (Err x) = refused x
 
--- ---- which case of an enum stands for an answer: a refusal has a refusal's number, so that the numbers tell the case
+-- ---- which case stands for an answer: a refusal has a refusal's number, so that the numbers tell the case
 
-abbrev pub WrittenTold : Written → Type 0
-WrittenTold (Written.Done k) = Unit {0}
-WrittenTold (Written.Cut k) = Unit {0}
-WrittenTold (Written.Refused x) = is_refusal x.number ≡ true
+abbrev pub Told : {T : Type 0} → Result T Refusal → Type 0
+Told (Ok x) = Unit {0}
+Told (Err x) = is_refusal (refusal_numbers x).number ≡ true
 
-abbrev pub StoredTold : Stored → Type 0
-StoredTold (Stored.Done x k) = Unit {0}
-StoredTold (Stored.Cut k) = Unit {0}
-StoredTold (Stored.Refused x) = is_refusal x.number ≡ true
+abbrev pub WrittenTold : Result Written Refusal → Type 0
+WrittenTold = Told
 
-abbrev pub MountedTold : Mounted → Type 0
-MountedTold (Mounted.Done r x k) = Unit {0}
-MountedTold (Mounted.Cut k) = Unit {0}
-MountedTold (Mounted.Refused x) = is_refusal x.number ≡ true
+abbrev pub StoredTold : Result Stored Refusal → Type 0
+StoredTold = Told
 
-abbrev pub SweptTold : Swept → Type 0
-SweptTold (Swept.Done n x k) = Unit {0}
-SweptTold (Swept.Cut n k) = Unit {0}
-SweptTold (Swept.Refused x) = is_refusal x.number ≡ true
+abbrev pub MountedTold : Result Mounted Refusal → Type 0
+MountedTold = Told
 
--- the refusals that stand behind the door
-pub no_file : is_refusal 2 ≡ true
+abbrev pub SweptTold : Result Swept Refusal → Type 0
+SweptTold = Told
+
+-- no refusal has another number
+pub refusal_told : (x : Refusal) → is_refusal (refusal_numbers x).number ≡ true
 unfolding is_refusal
-no_file = refl
+refusal_told Refusal.NoFile = refl
+refusal_told Refusal.Broken = refl
+refusal_told Refusal.Headless = refl
+refusal_told Refusal.Unsettled = refl
+refusal_told Refusal.BadLength = refl
+refusal_told (Refusal.BadName f) = refl
+refusal_told Refusal.NoRoom = refl
 
-pub no_room : is_refusal 28 ≡ true
-unfolding is_refusal
-no_room = refl
-
--- and the one before it
-pub bad_length : is_refusal 22 ≡ true
-unfolding is_refusal
-bad_length = refl
+pub answer_told : {T : Type 0} (w : Result T Refusal) → Told w
+answer_told (Ok x) = tt
+answer_told (Err x) = refusal_told x
 
 -- ---- parts of the image
 
@@ -111,7 +114,7 @@ LiesAt r image x = r.ref_ptr ≡ (image.ref_ptr.0, x.offset + image.ref_ptr.1)
 
 -- ---- what C gets of an answer: its numbers, one by one
 
-abbrev pub fault : ℕ → ℕ → NameFault
+abbrev pub fault : ℕ → ℕ → FaultNumbers
 fault reason place = record { reason = reason; place = place }
 
 abbrev pub report : ℕ → ℕ → ℕ → Report
@@ -123,57 +126,115 @@ space live dead free lost = record { live = live; dead = dead; free = free; lost
 abbrev pub extent : ℕ → ℕ → Extent
 extent offset length = record { offset = offset; length = length }
 
-pub written_numbers : (w : Written) (n k : ℕ) (f : NameFault) → n ≡ (written w).answer → f ≡ (written w).name → k ≡ (written w).steps
-    → with_fault f (of_write n k) ≡ written w
-written_numbers (Written.Done i) n k f p u q = λ j. with_fault (u j) (of_write (p j) (q j))
-written_numbers (Written.Cut i) n k f p u q = λ j. with_fault (u j) (of_write (p j) (q j))
-written_numbers (Written.Refused x) n k f p u q = λ j. with_fault (u j) (of_write (p j) (q j))
+-- the code's numbers as the definitions'
+abbrev pub told : Given → Numbers
+told n =
+    record {
+      answer = n.answer;
+      name = fault_told n.fault;
+      report = n.report;
+      moves = n.moves;
+      extent = n.extent;
+      size = n.size;
+      space = n.space;
+      steps = n.steps;
+    }
 
-pub stored_numbers : (w : Stored) (n k : ℕ) (f : NameFault) (x : Space) → n ≡ (stored w).answer → f ≡ (stored w).name → x ≡ (stored w).space
-    → k ≡ (stored w).steps → with_fault f (of_put n x k) ≡ stored w
-stored_numbers (Stored.Done y i) n k f x p u q r = λ j. with_fault (u j) (of_put (p j) (q j) (r j))
-stored_numbers (Stored.Cut i) n k f x p u q r = λ j. with_fault (u j) (of_put (p j) (q j) (r j))
-stored_numbers (Stored.Refused y) n k f x p u q r = λ j. with_fault (u j) (of_put (p j) (q j) (r j))
+-- n are the numbers of an answer, whose own are told by f
+abbrev pub Converts : {T : Type 0} → (T → Given → Type 0) → Result T Refusal → Given → Type 0
+Converts f (Ok x) n = f x n
+Converts f (Err x) n = told n ≡ refused x
 
-pub mounted_numbers : (w : Mounted) (a k : ℕ) (r : Report) (x : Space) → a ≡ (mounted w).answer → no_fault ≡ (mounted w).name
-    → r ≡ (mounted w).report → x ≡ (mounted w).space → k ≡ (mounted w).steps → of_mount a r x k ≡ mounted w
-mounted_numbers (Mounted.Done h y i) a k r x p u q o s = λ j. with_fault (u j) (of_mount (p j) (q j) (o j) (s j))
-mounted_numbers (Mounted.Cut i) a k r x p u q o s = λ j. with_fault (u j) (of_mount (p j) (q j) (o j) (s j))
-mounted_numbers (Mounted.Refused y) a k r x p u q o s = λ j. with_fault (u j) (of_mount (p j) (q j) (o j) (s j))
+pub converted : {T : Type 0} (f : Result T Refusal → Numbers) → ((x : Refusal) → refused x ≡ f (Err x)) → (r : Result T Refusal) (n : Given)
+    → Converts (λ (x : T) (m : Given). told m ≡ f (Ok x)) r n → told n ≡ f r
+converted f e (Ok x) n q = q
+converted f e (Err x) n q = q ∙ e x
 
-pub swept_numbers : (w : Swept) (n i k : ℕ) (x : Space) → n ≡ (swept w).answer → no_fault ≡ (swept w).name → i ≡ (swept w).moves
-    → x ≡ (swept w).space → k ≡ (swept w).steps → of_sweep n i x k ≡ swept w
-swept_numbers (Swept.Done a y b) n i k x p u q o r = λ j. with_fault (u j) (of_sweep (p j) (q j) (o j) (r j))
-swept_numbers (Swept.Cut a b) n i k x p u q o r = λ j. with_fault (u j) (of_sweep (p j) (q j) (o j) (r j))
-swept_numbers (Swept.Refused y) n i k x p u q o r = λ j. with_fault (u j) (of_sweep (p j) (q j) (o j) (r j))
+-- ---- the numbers of which a call speaks: the others are zeros
 
--- ---- with the image
+abbrev pub write_part : Numbers → Numbers
+write_part n = with_fault n.name (of_write n.answer n.steps)
 
--- a call that gives no fault back has none
-nameless : (n : Numbers) (t : Image) (o : Outcome) → outcome_of n t ≡ o → o.numbers.name ≡ no_fault → no_fault ≡ n.name
-nameless n t o e h = sym (ap (λ (x : Outcome). x.numbers.name) e ∙ h)
+abbrev pub put_part : Numbers → Numbers
+put_part n = with_fault n.name (of_put n.answer n.space n.steps)
 
-pub written_given : (w : Written) (n k : ℕ) (f : NameFault) (t : Image) (o : Outcome) → n ≡ (written w).answer → f ≡ (written w).name
-    → k ≡ (written w).steps → outcome_of (written w) t ≡ o → outcome_of (with_fault f (of_write n k)) t ≡ o
-written_given w n k f t o p u q e = ap (λ (x : Numbers). outcome_of x t) (written_numbers w n k f p u q) ∙ e
+abbrev pub mount_part : Numbers → Numbers
+mount_part n = with_fault n.name (of_mount n.answer n.report n.space n.steps)
 
-pub formatted_given : (w : Written) (n k : ℕ) (t : Image) (o : Outcome) → n ≡ (written w).answer → k ≡ (written w).steps
-    → outcome_of (written w) t ≡ o → o.numbers.name ≡ no_fault → outcome_of (of_write n k) t ≡ o
-formatted_given w n k t o p q e h = written_given w n k no_fault t o p (nameless (written w) t o e h) q e
+abbrev pub sweep_part : Numbers → Numbers
+sweep_part n = with_fault n.name (of_sweep n.answer n.moves n.space n.steps)
 
-pub stored_given : (w : Stored) (n k : ℕ) (f : NameFault) (x : Space) (t : Image) (o : Outcome) → n ≡ (stored w).answer → f ≡ (stored w).name
-    → x ≡ (stored w).space → k ≡ (stored w).steps → outcome_of (stored w) t ≡ o → outcome_of (with_fault f (of_put n x k)) t ≡ o
-stored_given w n k f x t o p u q r e = ap (λ (y : Numbers). outcome_of y t) (stored_numbers w n k f x p u q r) ∙ e
+abbrev pub get_part : Numbers → Numbers
+get_part n = with_fault n.name (of_get n.answer n.extent)
 
-pub mounted_given : (w : Mounted) (a k : ℕ) (r : Report) (x : Space) (t : Image) (o : Outcome) → a ≡ (mounted w).answer
-    → r ≡ (mounted w).report
-    → x ≡ (mounted w).space → k ≡ (mounted w).steps → outcome_of (mounted w) t ≡ o → o.numbers.name ≡ no_fault
-    → outcome_of (of_mount a r x k) t ≡ o
-mounted_given w a k r x t o p q u s e h =
-    ap (λ (y : Numbers). outcome_of y t) (mounted_numbers w a k r x p (nameless (mounted w) t o e h) q u s) ∙ e
+abbrev pub list_part : Numbers → Numbers
+list_part n = with_fault n.name (of_list n.answer n.extent n.size)
 
-pub swept_given : (w : Swept) (n i k : ℕ) (x : Space) (t : Image) (o : Outcome) → n ≡ (swept w).answer → i ≡ (swept w).moves
-    → x ≡ (swept w).space → k ≡ (swept w).steps → outcome_of (swept w) t ≡ o → o.numbers.name ≡ no_fault
-    → outcome_of (of_sweep n i x k) t ≡ o
-swept_given w n i k x t o p q u r e h =
-    ap (λ (y : Numbers). outcome_of y t) (swept_numbers w n i k x p (nameless (swept w) t o e h) q u r) ∙ e
+pub written_numbers : (w : Result Written Refusal) → write_part (written w) ≡ written w
+written_numbers (Ok (Written.Done k)) = refl
+written_numbers (Ok (Written.Cut k)) = refl
+written_numbers (Err x) = refl
+
+pub stored_numbers : (w : Result Stored Refusal) → put_part (stored w) ≡ stored w
+stored_numbers (Ok (Stored.Done x k)) = refl
+stored_numbers (Ok (Stored.Cut k)) = refl
+stored_numbers (Err x) = refl
+
+pub mounted_numbers : (w : Result Mounted Refusal) → mount_part (mounted w) ≡ mounted w
+mounted_numbers (Ok (Mounted.Done r x k)) = refl
+mounted_numbers (Ok (Mounted.Cut k)) = refl
+mounted_numbers (Err x) = refl
+
+pub swept_numbers : (w : Result Swept Refusal) → sweep_part (swept w) ≡ swept w
+swept_numbers (Ok (Swept.Done n x k)) = refl
+swept_numbers (Ok (Swept.Cut n k)) = refl
+swept_numbers (Err x) = refl
+
+pub located_numbers : (w : Result Extent Refusal) → get_part (located w) ≡ located w
+located_numbers (Ok x) = refl
+located_numbers (Err x) = refl
+
+pub listed_numbers : (w : Result Listed Refusal) → list_part (listed w) ≡ listed w
+listed_numbers (Ok l) = refl
+listed_numbers (Err x) = refl
+
+-- ---- with the image, or with the steps that are handed out (out)
+
+module _ {O : Type 0} (out : Numbers → O) where
+  -- the part that C gets of the numbers n of a call's answer w
+  given : {T : Type 0} (f : Result T Refusal → Numbers) (part : Numbers → Numbers) → ((x : Refusal) → refused x ≡ f (Err x))
+      → (w : Result T Refusal) (n : Given) {o : O} → Converts (λ (x : T) (m : Given). told m ≡ f (Ok x)) w n → part (f w) ≡ f w
+      → out (f w) ≡ o → out (part (told n)) ≡ o
+  given f part r w n e h q = ap (λ (x : Numbers). out (part x)) (converted f r w n e) ∙ ap out h ∙ q
+
+  module _ {o : O} (n : Given) where
+    pub written_given : (w : Result Written Refusal) → Converts (λ (x : Written) (m : Given). told m ≡ written (Ok x)) w n
+        → out (written w) ≡ o → out (write_part (told n)) ≡ o
+    written_given w e = given written write_part (λ x. refl) w n e (written_numbers w)
+
+    pub stored_given : (w : Result Stored Refusal) → Converts (λ (x : Stored) (m : Given). told m ≡ stored (Ok x)) w n
+        → out (stored w) ≡ o → out (put_part (told n)) ≡ o
+    stored_given w e = given stored put_part (λ x. refl) w n e (stored_numbers w)
+
+    pub mounted_given : (w : Result Mounted Refusal) → Converts (λ (x : Mounted) (m : Given). told m ≡ mounted (Ok x)) w n
+        → out (mounted w) ≡ o → out (mount_part (told n)) ≡ o
+    mounted_given w e = given mounted mount_part (λ x. refl) w n e (mounted_numbers w)
+
+    pub swept_given : (w : Result Swept Refusal) → Converts (λ (x : Swept) (m : Given). told m ≡ swept (Ok x)) w n
+        → out (swept w) ≡ o → out (sweep_part (told n)) ≡ o
+    swept_given w e = given swept sweep_part (λ x. refl) w n e (swept_numbers w)
+
+    pub located_given : (w : Result Extent Refusal) → Converts (λ (x : Extent) (m : Given). told m ≡ located (Ok x)) w n
+        → out (located w) ≡ o → out (get_part (told n)) ≡ o
+    located_given w e = given located get_part (λ x. refl) w n e (located_numbers w)
+
+    pub listed_given : (w : Result Listed Refusal) → Converts (λ (x : Listed) (m : Given). told m ≡ listed (Ok x)) w n
+        → out (listed w) ≡ o → out (list_part (told n)) ≡ o
+    listed_given w e = given listed list_part (λ x. refl) w n e (listed_numbers w)
+
+  -- a call that gives no fault back has none
+  pub nameless : (name : O → FaultNumbers) → ((x : Numbers) → name (out x) ≡ x.name) → (x : Numbers) (f : FaultNumbers) {o : O}
+      → out (with_fault f x) ≡ o → name o ≡ no_fault → out (with_fault no_fault x) ≡ o
+  nameless name is x f e h =
+      let q : f ≡ no_fault = sym (is (with_fault f x)) ∙ ap name e ∙ h in
+      ap (λ (g : FaultNumbers). out (with_fault g x)) (sym q) ∙ e

@@ -18,7 +18,7 @@ use Rattle.reading.specs.NamesLaw.{files_are}
 use Rattle.room.specs.Room.{room_in}
 use Rattle.reading.specs.Read.{reading_of}
 use Rattle.reading.specs.Accepted.{Settled, place_sound, marker_room}
-use Rattle.writing.specs.declared.Old.{Old}
+use Rattle.writing.specs.Answers.{Old}
 use Rattle.writing.specs.Old.{old_of, old_entry as entry-of-old, put_old}
 use Rattle.writing.specs.Placing.{placed_inside}
 use Rattle.writing.specs.Put.{Ready}

@@ -1,6 +1,6 @@
 -- K3's record: what is counted in the first reading is that of the image that the call leaves.
 use Prim.Native.Nat.{ℕ, ◌+◌, ◌-◌, min}
-use Rattle.std.specs.Prelude.{◌≡◌, true, length}
+use Rattle.std.specs.Prelude.{◌≡◌, true, length, Ok}
 use Rattle.std.proofs.Math.Path.{sym, ap}
 use Rattle.std.proofs.Common.{◌∙◌}
 use Rattle.std.proofs.Math.Option.{none}
@@ -25,7 +25,7 @@ use Rattle.planning.specs.PutCounts.{replaced_bytes}
 use Rattle.planning.specs.Walls.{put_wall, mended_wall, wall_of, space_filled, mount_filled, put_filled}
 use Rattle.planning.specs.Strides.{Stand, strode, sweep_filled}
 use Rattle.reading.specs.declared.Judged.{Judged}
-use Rattle.reading.specs.declared.Judgement.{Judgement}
+use Rattle.reading.specs.Answers.{Judgement}
 use Rattle.reading.specs.declared.Survey.{Survey}
 use Rattle.chain.specs.FileLaws.{is_file}
 use Rattle.reading.specs.NamesLaw.{files_are}
@@ -40,7 +40,7 @@ pub record Legal (image : Image) (s : Survey) : Type 0 where
   pub sized : good_length (length image) ≡ true
   pub read : reading image ≡ give (reading_of image s)
 
-pub legal_given : (image : Image) (j : Judged) {x : Judgement} → judged_as image x ≡ accepted image → x ≡ Judgement.Good j
+pub legal_given : (image : Image) (j : Judged) {x : Judgement} → judged_as image x ≡ accepted image → x ≡ Ok j
     → Legal image j.survey
 legal_given image j e q =
     let p = accepted_gives image (reading_of image j.survey) (sym (sym (ap (judged_as image) q) ∙ e)) in

@@ -1,11 +1,10 @@
 -- Put's answer from its meter.
-use Rattle.std.specs.Prelude.{ℕ, ◌-◌, ◌≡◌, refl, Bool, List, [], length, take}
+use Rattle.std.specs.Prelude.{ℕ, ◌-◌, ◌≡◌, refl, Bool, List, [], length, take, Ok}
 use native.Mathlib.Omega.{arith}
-use Rattle.std.proofs.Common.{sym, ◌∙◌, le-leb}
+use Rattle.std.proofs.Common.{◌∙◌}
 use Rattle.std.proofs.Math.Path.{ap, ap₂}
 use Rattle.std.proofs.Math.Bool.{true, false}
 use Rattle.std.proofs.Math.Dec.{leb}
-use Rattle.std.proofs.lemmas.Bool.{lt-leb}
 use Rattle.spec.specs.declared.Space.{Space}
 use Rattle.spec.specs.Step.{Image, Step, run}
 use Rattle.spec.specs.Basics.{give}
@@ -13,9 +12,8 @@ use Rattle.spec.specs.Numbers.{outcome_of, of_write, of_put}
 use Rattle.spec.specs.Answers.{Plan, numbers_of, carry_out}
 use Rattle.flash.specs.declared.Meter.{Meter}
 use Rattle.flash.specs.Did.{Did}
-use Rattle.flash.specs.Meters.{Enough, UsedUp}
 use Rattle.calls.specs.declared.Stored.{Stored}
-use Rattle.calls.specs.Numbers.{stored, StoredTold}
+use Rattle.calls.specs.Numbers.{stored}
 
 -- with this record if all is done; "4: allowance used up before the last step"
 abbrev pub spent_on : Space → Meter → Stored
@@ -26,31 +24,20 @@ module _ (x : Space) where
       → spent_on x r ≡ elim t [ true ↦ Stored.Done x r.asked | false ↦ Stored.Cut r.allowance ]
   spent_is r t e = ap (λ (b : Bool). elim b [ true ↦ Stored.Done x r.asked | false ↦ Stored.Cut r.allowance ]) e
 
-  pub put_done : (r : Meter) → Enough r → Stored.Done x r.asked ≡ spent_on x r
-  put_done r h = sym (spent_is r true (le-leb r.asked r.allowance h))
-
-  pub put_cut : (r : Meter) → UsedUp r → Stored.Cut r.allowance ≡ spent_on x r
-  put_cut r h = sym (spent_is r false (lt-leb r.asked r.allowance h))
-
-  -- no refusal
-  pub put_spent : (r : Meter) → StoredTold (spent_on x r)
-  put_spent r = go (leb r.asked r.allowance) where
-    go : (t : Bool) → StoredTold (elim t [ true ↦ Stored.Done x r.asked | false ↦ Stored.Cut r.allowance ])
-    go true = tt
-    go false = tt
-
   -- the plan of these steps, with this record
   abbrev pub writing : List Step → Plan
   writing ss = record { steps = ss; moves = []; done = of_put 0 x (length ss) }
 
   answer_is : (ss : List Step) (k : ℕ) (r : Meter) (t : Bool) → r.asked ≡ length ss → r.allowance ≡ k → leb (length ss) k ≡ t
-      → stored (spent_on x r) ≡ numbers_of k (writing ss)
+      → stored (Ok (spent_on x r)) ≡ numbers_of k (writing ss)
   unfolding numbers_of
-  answer_is ss k r true a b e = ap stored (spent_is r true (ap₂ leb a b ∙ e)) ∙ rw (numbers_of, e) (ap (of_put 0 x) a)
-  answer_is ss k r false a b e = ap stored (spent_is r false (ap₂ leb a b ∙ e)) ∙ rw (numbers_of, e) (ap (of_write 4) b)
+  answer_is ss k r true a b e =
+      ap (λ (w : Stored). stored (Ok w)) (spent_is r true (ap₂ leb a b ∙ e)) ∙ rw (numbers_of, e) (ap (of_put 0 x) a)
+  answer_is ss k r false a b e =
+      ap (λ (w : Stored). stored (Ok w)) (spent_is r false (ap₂ leb a b ∙ e)) ∙ rw (numbers_of, e) (ap (of_write 4) b)
 
   pub put_carried : {s t : Image} {m r : Meter} {ss : List Step} (k : ℕ) → m.asked ≡ 0 → m.allowance ≡ k → Did s m ss t r
-      → outcome_of (stored (spent_on x r)) t ≡ carry_out s k (give (writing ss))
+      → outcome_of (stored (Ok (spent_on x r))) t ≡ carry_out s k (give (writing ss))
   unfolding carry_out
   put_carried {s} {t} {m} {r} {ss} k z a d =
       let n : m.allowance - m.asked ≡ k = omega arith in

@@ -1,5 +1,5 @@
 -- Sweep: from its moves and its meter to the definitions' outcome.
-use Rattle.std.specs.Prelude.{ℕ, ◌-◌, ◌≤◌, ◌<◌, min, ◌≡◌, Bool, not, List, take}
+use Rattle.std.specs.Prelude.{ℕ, ◌-◌, ◌≤◌, ◌<◌, min, ◌≡◌, Bool, not, List, take, Ok}
 use native.Mathlib.Omega.{arith}
 use Rattle.std.proofs.Common.{sym, ap₂, ◌∙◌}
 use Rattle.std.proofs.Math.Path.{ap}
@@ -44,7 +44,7 @@ module _ {s t : Image} {m r : Meter} {ms : List (List Step)} {n : ℕ} (k : ℕ)
   count_as : n ≡ finished k 0 ms
   count_as = w.count ∙ ap₂ (λ (i j : ℕ). finished i j ms) a z
 
-  pub swept_done : (x : Space) → Enough r → outcome_of (swept (Swept.Done n x r.asked)) t ≡ carry_out s k (give (moving ms x))
+  pub swept_done : (x : Space) → Enough r → outcome_of (swept (Ok (Swept.Done n x r.asked))) t ≡ carry_out s k (give (moving ms x))
   unfolding carry_out numbers_of
   swept_done x h =
       let e : r.asked ≡ length (concat ms) = w.begun.whole h ∙ omega arith in
@@ -52,7 +52,7 @@ module _ {s t : Image} {m r : Meter} {ms : List (List Step)} {n : ℕ} (k : ℕ)
       let f : n ≡ length ms = count_as ∙ finished_all k 0 ms (omega arith) in
       rw (carry_out, numbers_of, le-leb (length (concat ms)) k l) (ap₂ outcome_of (ap₂ (λ (i j : ℕ). of_sweep 0 i x j) f e) left_is)
 
-  pub swept_cut : (x : Space) → UsedUp r → outcome_of (swept (Swept.Cut n r.allowance)) t ≡ carry_out s k (give (moving ms x))
+  pub swept_cut : (x : Space) → UsedUp r → outcome_of (swept (Ok (Swept.Cut n r.allowance))) t ≡ carry_out s k (give (moving ms x))
   unfolding carry_out numbers_of
   swept_cut x h =
       let l : k < length (concat ms) = omega (arith, w.begun.cut h) in

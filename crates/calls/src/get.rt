@@ -6,63 +6,35 @@ ghost use Rattle.laws.specs.Length.{InRange};
 ghost use Rattle.chain.specs.Seek.{found_in, FoundWhole};
 ghost use Rattle.calls.specs.Numbers.{located, ExtentInside, LiesAt};
 
-use crate::Located;
-use chain::Found;
+use crate::numbers::NO_EXTENT;
+use chain::Spot;
 use door::admitted_named;
-use reading::Read;
 use record::up_8;
-use spec::{Extent, NO_FAULT, Refusal};
-
-// No file, for this reason.
-fn nowhere(x: Refusal) -> Located
-    ensures { result ≡ record { answer = x.number; name = x.name; extent = record { offset = 0; length = 0 } } }
-{
-    let fault = x.name;
-    Located {
-        answer: x.number,
-        name: fault,
-        extent: Extent {
-            offset: 0,
-            length: 0,
-        },
-    }
-}
+use spec::{Extent, Refusal};
 
 // The bytes of the file that was found.
-fn get_from(image: &[u8], f: Found) -> Located
+fn get_from(image: &[u8], f: Option<Spot>) -> Result<Extent, Refusal>
     requires { FoundWhole image.now f × InRange (length image.now) }
     ensures { (outcome_of (located result) image.exit.now
         ≡ carry_out image.now 0 (found getting (found_in image.now f)))
-        × ExtentInside image.now result.extent }
+        × ExtentInside image.now (located result).extent }
 {
-    let Found::At(e) = f else {
-        return nowhere(Refusal {
-            number: 2,
-            name: NO_FAULT,
-        });
+    let Some(e) = f else {
+        return Err(Refusal::NoFile);
     };
-    Located {
-        answer: 0,
-        name: NO_FAULT,
-        extent: Extent {
-            offset: e.at + (8 + up_8(e.n + 1)),
-            length: e.d,
-        },
-    }
+    Ok(Extent {
+        offset: e.at + (8 + up_8(e.n + 1)),
+        length: e.d,
+    })
 }
 
 // Where the bytes of the file of this name stand.
-pub fn get_place(image: &[u8], name: &[u8]) -> Located
+pub fn get_place(image: &[u8], name: &[u8]) -> Result<Extent, Refusal>
     ensures { (outcome_of (located result) image.exit.now ≡ get image.now name.now)
-        × ExtentInside image.now result.extent }
+        × ExtentInside image.now (located result).extent }
 {
-    let d = admitted_named(image, name);
-    let x = d.read;
-    let f = d.file;
-    match x {
-        Read::Good(_) => get_from(image, f),
-        Read::Refused(y) => nowhere(y),
-    }
+    let x = admitted_named(image, name)?;
+    get_from(image, x.file)
 }
 
 // The bytes of the file of this name, where they stand in the image; or none.
@@ -71,9 +43,6 @@ pub fn get<'a>(image: &'a [u8], name: &[u8]) -> &'a [u8]
         × LiesAt result image.entry (get image.now name.now).numbers.extent
         × (image.exit.now ≡ image.entry.now) }
 {
-    let p = get_place(image, name);
-    let x = p.extent;
-    let from = x.offset;
-    let to = from + x.length;
-    &image[from..to]
+    let x = get_place(image, name).unwrap_or(NO_EXTENT);
+    &image[x.offset..x.offset + x.length]
 }

@@ -7,6 +7,7 @@ pub mod get;
 pub mod length;
 pub mod list;
 pub mod mount;
+pub mod numbers;
 pub mod put;
 pub mod remove;
 pub mod sweep;
@@ -19,26 +20,24 @@ ghost use Rattle.calls.specs.Numbers.{written, WrittenTold};
 use carry::ended;
 use door::good_length;
 use flash::Meter;
-use spec::{Extent, NO_FAULT, NameFault, Refusal, Report, Space};
+use spec::{Extent, Refusal, Report, Space};
 use writing::format::format_image;
 
-// What a call that writes answers: all its steps are done; it was cut, after so many; or it is refused.
+// What format and remove answer, unless they refuse: all their steps are done, or they were cut, after so many.
 #[derive(Clone, Copy)]
 pub enum Written {
     Done { steps: usize },
     Cut { steps: usize },
-    Refused(Refusal),
 }
 
-// What put answers: done, with what the bytes of the image that it leaves are good for; cut; or refused.
+// What put answers: done, with what the bytes of the image that it leaves are good for; or cut.
 #[derive(Clone, Copy)]
 pub enum Stored {
     Done { space: Space, steps: usize },
     Cut { steps: usize },
-    Refused(Refusal),
 }
 
-// What mount answers: done, with what it reports of the image it leaves; cut; or refused.
+// What mount answers: done, with what it reports of the image it leaves; or cut.
 #[derive(Clone, Copy)]
 pub enum Mounted {
     Done {
@@ -49,10 +48,9 @@ pub enum Mounted {
     Cut {
         steps: usize,
     },
-    Refused(Refusal),
 }
 
-// What sweep answers: done, with the number of its moves, and as put; cut, after so many finished moves; or refused.
+// What sweep answers: done, with the number of its moves, and as put; or cut, after so many finished moves.
 #[derive(Clone, Copy)]
 pub enum Swept {
     Done {
@@ -64,46 +62,25 @@ pub enum Swept {
         moves: usize,
         steps: usize,
     },
-    Refused(Refusal),
 }
 
-// Where a file's bytes stand. The answer is 0 for a file that is there; beside 22 stands what is wrong with the name.
-#[derive(Clone, Copy)]
-pub struct Located {
-    pub answer: u32,
-    pub name: NameFault,
-    pub extent: Extent,
-}
-
-// A file's length, by headers and names alone. The answer is 0 for a file that is there; name is what is wrong with the name.
-#[derive(Clone, Copy)]
-pub struct FileLength {
-    pub answer: u32,
-    pub name: NameFault,
-    pub size: usize,
-}
-
-// A file in the list: where its name stands, and its length. The answer is 0 for a file that is there.
+// A file in the list: where its name stands, and its length.
 #[derive(Clone, Copy)]
 pub struct Listed {
-    pub answer: u32,
     pub name: Extent,
     pub size: usize,
 }
 
 // Makes an empty store of the image, within this allowance of flash steps.
-pub fn format(image: &mut [u8], allowance: usize) -> Written
+pub fn format(image: &mut [u8], allowance: usize) -> Result<Written, Refusal>
     ensures { (outcome_of (written result) image.new ≡ format image.old allowance) × WrittenTold result }
 {
-    if good_length(image.len()) {
-        let m = Meter {
-            allowance: allowance,
-            asked: 0,
-        };
-        return ended(format_image(image, m));
+    if !good_length(image.len()) {
+        return Err(Refusal::BadLength);
     }
-    Written::Refused(Refusal {
-        number: 22,
-        name: NO_FAULT,
-    })
+    let m = Meter {
+        allowance,
+        asked: 0,
+    };
+    Ok(ended(format_image(image, m)))
 }

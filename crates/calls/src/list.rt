@@ -7,59 +7,44 @@ ghost use Rattle.reading.specs.Accepted.{Settled};
 ghost use Rattle.calls.specs.Numbers.{listed, ExtentInside, LiesAt};
 
 use crate::Listed;
-use chain::Found;
+use crate::numbers::NO_EXTENT;
 use chain::files::file_indexed;
 use door::admitted;
+use reading::Survey;
 use reading::image::first_cursor;
-use reading::{Read, Survey};
-use spec::Extent;
+use spec::{Extent, Refusal};
 
-// No file, for this reason.
-fn unlisted(answer: u32) -> Listed
-    ensures { result ≡ record { answer = answer; name = record { offset = 0; length = 0 }; size = 0 } }
-{
-    Listed {
-        answer: answer,
-        name: Extent {
-            offset: 0,
-            length: 0,
-        },
-        size: 0,
-    }
-}
+const NONE_LISTED: Listed = Listed {
+    name: NO_EXTENT,
+    size: 0,
+};
 
 // The file with this index, of what was read.
-fn list_from(image: &[u8], index: usize, s: Survey) -> Listed
+fn list_from(image: &[u8], index: usize, s: Survey) -> Result<Listed, Refusal>
     requires { Settled image.now s }
     ensures { (outcome_of (listed result) image.exit.now
         ≡ carry_out image.now 0 (list_of index (reading_of image.now s)))
-        × ExtentInside image.now result.name }
+        × ExtentInside image.now (listed result).extent }
 {
-    let place = s.place;
-    let f = file_indexed(image, first_cursor(image, place.head), index);
-    let Found::At(e) = f else {
-        return unlisted(2);
+    let Some(e) = file_indexed(image, first_cursor(image, s.place.head), index) else {
+        return Err(Refusal::NoFile);
     };
-    Listed {
-        answer: 0,
+    Ok(Listed {
         name: Extent {
             offset: e.at + 8,
             length: e.n,
         },
         size: e.d,
-    }
+    })
 }
 
 // The file with this index, in the chain's order.
-pub fn list_place(image: &[u8], index: usize) -> Listed
+pub fn list_place(image: &[u8], index: usize) -> Result<Listed, Refusal>
     ensures { (outcome_of (listed result) image.exit.now ≡ list image.now index)
-        × ExtentInside image.now result.name }
+        × ExtentInside image.now (listed result).extent }
 {
-    let x = admitted(image);
-    match x {
-        Read::Good(s) => list_from(image, index, s),
-        Read::Refused(y) => unlisted(y.number),
-    }
+    let s = admitted(image)?;
+    list_from(image, index, s)
 }
 
 // The name of the file with this index, where it stands in the image; or none.
@@ -68,9 +53,6 @@ pub fn list_name(image: &[u8], index: usize) -> &[u8]
         × LiesAt result image.entry (list image.now index).numbers.extent
         × (image.exit.now ≡ image.entry.now) }
 {
-    let p = list_place(image, index);
-    let x = p.name;
-    let from = x.offset;
-    let to = from + x.length;
-    &image[from..to]
+    let l = list_place(image, index).unwrap_or(NONE_LISTED);
+    &image[l.name.offset..l.name.offset + l.name.length]
 }

@@ -16,19 +16,25 @@ ghost use Rattle.calls.specs.Numbers.{stored, StoredTold};
 ghost use Rattle.calls.specs.Stored.{spent_on};
 
 use crate::Stored;
-use crate::mount::no_space;
-use chain::Found;
+use chain::Spot;
 use door::admitted_named;
 use door::replaced::old_file;
 use flash::Meter;
-use reading::{Read, Survey};
+use reading::Survey;
 use room::has_room;
 use space::counting::put_space;
-use spec::{NO_FAULT, NameFault, Refusal, Space};
+use spec::{Refusal, Space};
 use writing::write_file;
 
 // Put's steps, where there is room.
-fn replace(image: &mut [u8], s: Survey, f: Found, name: &[u8], content: &[u8], m: Meter) -> Meter
+fn replace(
+    image: &mut [u8],
+    s: Survey,
+    f: Option<Spot>,
+    name: &[u8],
+    content: &[u8],
+    m: Meter,
+) -> Meter
     requires { Settled image.old s × NameLength (length name.now)
         × (fits s.place (size_of (length name.now) (length content.now)) ≡ true) × (m.asked ≡ 0)
         × FileTold image.old name.now s f }
@@ -37,9 +43,8 @@ fn replace(image: &mut [u8], s: Survey, f: Found, name: &[u8], content: &[u8], m
         name.now content.now)
         image.new result }
 {
-    let place = s.place;
     let old = old_file(image, f);
-    write_file(image, place, old, name, content, m)
+    write_file(image, s.place, old, name, content, m)
 }
 
 // All steps asked for are done, or the allowance ended before the last of them.
@@ -48,7 +53,7 @@ fn put_ended(m: Meter, space: Space) -> Stored
 {
     if m.asked <= m.allowance {
         return Stored::Done {
-            space: space,
+            space,
             steps: m.asked,
         };
     }
@@ -59,11 +64,11 @@ fn put_ended(m: Meter, space: Space) -> Stored
 fn put_from(
     image: &mut [u8],
     s: Survey,
-    f: Found,
+    f: Option<Spot>,
     name: &[u8],
     content: &[u8],
     allowance: usize,
-) -> Stored
+) -> Result<Stored, Refusal>
     requires { Settled image.old s × NameLength (length name.now)
         × (give (reading_of image.old s) ≡ admitted_named name.now image.old) × FileTold image.old name.now s f }
     ensures { (outcome_of (stored result) image.new
@@ -71,77 +76,28 @@ fn put_from(
         (put_into name.now content.now image.old (reading_of image.old s)))
         × StoredTold result }
 {
-    if has_room(image, s, name, content.len()) {
-        let space = put_space(image, s, f, name, content.len());
-        let m = Meter {
-            allowance: allowance,
-            asked: 0,
-        };
-        return put_ended(replace(image, s, f, name, content, m), space);
+    if !has_room(image, s, name, content.len()) {
+        return Err(Refusal::NoRoom);
     }
-    Stored::Refused(Refusal {
-        number: 28,
-        name: NO_FAULT,
-    })
+    let space = put_space(image, s, f, name, content.len());
+    let m = Meter {
+        allowance,
+        asked: 0,
+    };
+    Ok(put_ended(replace(image, s, f, name, content, m), space))
 }
 
 // Puts a whole file, within this allowance of flash steps.
-pub fn put(image: &mut [u8], name: &[u8], content: &[u8], allowance: usize) -> Stored
+pub fn put(
+    image: &mut [u8],
+    name: &[u8],
+    content: &[u8],
+    allowance: usize,
+) -> Result<Stored, Refusal>
     ensures { (outcome_of (stored result) image.new
         ≡ put image.old name.now content.now allowance)
         × StoredTold result }
 {
-    let d = admitted_named(image, name);
-    let x = d.read;
-    let f = d.file;
-    match x {
-        Read::Good(s) => put_from(image, s, f, name, content, allowance),
-        Read::Refused(y) => Stored::Refused(y),
-    }
-}
-
-impl Stored {
-    // Document 01's number.
-    pub fn answer(self) -> u32
-        ensures { result ≡ (stored self).answer }
-    {
-        match self {
-            Stored::Done { space: _, steps: _ } => 0,
-            Stored::Cut { steps: _ } => 4,
-            Stored::Refused(x) => x.number,
-        }
-    }
-
-    // What is wrong with the name, where that is why the put is refused.
-    pub fn fault(self) -> NameFault
-        ensures { result ≡ (stored self).name }
-    {
-        match self {
-            Stored::Done { space: _, steps: _ } => NO_FAULT,
-            Stored::Cut { steps: _ } => NO_FAULT,
-            Stored::Refused(x) => x.name,
-        }
-    }
-
-    // Live, dead, free and lost bytes of the image that put leaves; zeros where it was cut or refused.
-    pub fn space(self) -> Space
-        ensures { result ≡ (stored self).space }
-    {
-        match self {
-            Stored::Done { space, steps: _ } => space,
-            Stored::Cut { steps: _ } => no_space(),
-            Stored::Refused(_) => no_space(),
-        }
-    }
-
-    // The steps used.
-    pub fn steps(self) -> usize
-        ensures { result ≡ (stored self).steps }
-    {
-        match self {
-            Stored::Done { space: _, steps } => steps,
-            Stored::Cut { steps } => steps,
-            Stored::Refused(_) => 0,
-        }
-    }
+    let x = admitted_named(image, name)?;
+    put_from(image, x.survey, x.file, name, content, allowance)
 }

@@ -7,43 +7,34 @@ ghost use Rattle.calls.specs.Numbers.{written, WrittenTold};
 
 use crate::Written;
 use crate::carry::ended;
-use chain::Found;
+use chain::Spot;
 use door::admitted_named;
 use flash::Meter;
-use reading::Read;
-use spec::{NO_FAULT, Refusal, Status};
+use spec::{Refusal, Status};
 use writing::build::set_status;
 
 // The removal of the file that was found: no such file, or the one step.
-fn remove_from(image: &mut [u8], f: Found, allowance: usize) -> Written
+fn remove_from(image: &mut [u8], f: Option<Spot>, allowance: usize) -> Result<Written, Refusal>
     requires { FoundWhole image.old f }
     ensures { (outcome_of (written result) image.new
         ≡ carry_out image.old allowance (found removing (found_in image.old f)))
         × WrittenTold result }
 {
-    let Found::At(e) = f else {
-        return Written::Refused(Refusal {
-            number: 2,
-            name: NO_FAULT,
-        });
+    let Some(e) = f else {
+        return Err(Refusal::NoFile);
     };
     let m = Meter {
-        allowance: allowance,
+        allowance,
         asked: 0,
     };
-    ended(set_status(image, e.at, Status::DELETED, m))
+    Ok(ended(set_status(image, e.at, Status::DELETED, m)))
 }
 
 // Removes the file of this name, within this allowance of flash steps.
-pub fn remove(image: &mut [u8], name: &[u8], allowance: usize) -> Written
+pub fn remove(image: &mut [u8], name: &[u8], allowance: usize) -> Result<Written, Refusal>
     ensures { (outcome_of (written result) image.new ≡ remove image.old name.now allowance)
         × WrittenTold result }
 {
-    let d = admitted_named(image, name);
-    let x = d.read;
-    let f = d.file;
-    match x {
-        Read::Good(_) => remove_from(image, f, allowance),
-        Read::Refused(y) => Written::Refused(y),
-    }
+    let x = admitted_named(image, name)?;
+    remove_from(image, x.file, allowance)
 }

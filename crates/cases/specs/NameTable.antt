@@ -1,6 +1,6 @@
 -- Document 02, K5: names with what the check says of them, worked out by hand and proved by computing.
 use Rattle.std.specs.Prelude.{ℕ, ◌≡◌, List, [], ◌∷◌, ◌++◌, replicate, refl}
-use Rattle.spec.specs.declared.NameFault.{NameFault}
+use Rattle.spec.specs.Refusals.{FaultNumbers}
 use Rattle.spec.specs.Basics.{Each}
 use Rattle.spec.specs.Bytes as Bytes
 use Rattle.spec.specs.Record as Record
@@ -9,7 +9,7 @@ use Rattle.cases.specs.Proof.{◌⨾◌}
 
 pub record Named : Type 0 where
   pub name : List ℕ
-  pub says : NameFault
+  pub says : FaultNumbers
 
 abbrev named : List ℕ → ℕ → ℕ → Named
 named name reason place = record { name = name; says = record { reason = reason; place = place } }

@@ -44,14 +44,10 @@ module _ (image : List ℕ) (p : Place) (low : ℕ) (e : low ≡ floor p.head) w
   unfolding free_blank
   free_both r h q w = rw (free_blank, h, ← e, q) w
 
-module _ (image : List ℕ) (p : Place) (r : Bool) where
-  pub tail_sector : floor p.tail + 4096 < limit p → r ≡ blank_part p.tail (floor p.tail + 4096) image → r ≡ tail_blank image p
-  unfolding tail_blank
-  tail_sector h q = let m : min (floor p.tail + 4096) (limit p) ≡ floor p.tail + 4096 = omega arith in rw (tail_blank, m) q
-
-  pub tail_limit : limit p ≤ floor p.tail + 4096 → r ≡ blank_part p.tail (limit p) image → r ≡ tail_blank image p
-  unfolding tail_blank
-  tail_limit h q = let m : min (floor p.tail + 4096) (limit p) ≡ limit p = omega arith in rw (tail_blank, m) q
+pub tail_blanks : (image : List ℕ) (p : Place) (r : Bool) → r ≡ blank_part p.tail (min (floor p.tail + 4096) (limit p)) image
+    → r ≡ tail_blank image p
+unfolding tail_blank
+tail_blanks image p r q = q
 
 -- the limit lies in the image
 pub limit_inside : (image : List ℕ) (p : Place) (t : Bool) → InImage image p → p.turned ≡ t → limit p ≤ length image

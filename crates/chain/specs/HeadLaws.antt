@@ -1,26 +1,27 @@
 -- The walk and the search, one turn at a time; what the head's enum says.
-use Rattle.std.specs.Prelude.{ℕ, zero, suc, ◌+◌, ◌-◌, ◌≤◌, ◌<◌, ◌≡◌, refl, true, false, ◌||◌, List, length, take, drop, eqb}
+use Rattle.std.specs.Prelude.{ℕ, zero, suc, ◌+◌, ◌-◌, ◌≤◌, ◌<◌, ◌≡◌, refl, true, false, ◌||◌, List, length, take, drop, eqb, Err, Ok}
 use Rattle.std.proofs.Common.{arith, not-suc-le-zero, sym, ap, ap₂, ◌∙◌, length-drop, drop-drop}
 use borrow.Author.Rules.{part_to_end}
 use Rattle.spec.specs.declared.Next.{Next}
-use Rattle.spec.specs.Basics.{Answer, refuse, give, numbered}
+use Rattle.spec.specs.Basics.{Answer, refuse, give}
+use Rattle.spec.specs.Refusals.{refusal_numbers}
 use Rattle.spec.specs.Bytes.{is_reserved}
 use Rattle.spec.specs.Record.{size_of, start_here, clean_here, status_of}
 use Rattle.spec.specs.Next.{record_at}
 use Rattle.spec.specs.Head.{torn_here, walked_here, walk_next, walk, search, sought}
 use Rattle.laws.specs.Next.{NotRecord}
 use Rattle.laws.specs.Walk.{walk_torn, walk_step, walk_stop, search_hit, search_end, search_step}
-use Rattle.chain.specs.declared.Headed.{Headed}
+use Rattle.chain.specs.Answers.{Headed}
 
 -- the enum in document 01's words
 abbrev pub headed : Headed → Answer ℕ
-headed (Headed.At a) = give a
-headed (Headed.Refused n) = refuse (numbered n)
+headed (Ok a) = give a
+headed (Err x) = refuse (refusal_numbers x)
 
 -- the head lies in the image
 abbrev pub HeadInside : List ℕ → Headed → Type 0
-HeadInside image (Headed.At a) = a ≤ length image
-HeadInside image (Headed.Refused n) = Unit {0}
+HeadInside image (Ok a) = a ≤ length image
+HeadInside image (Err x) = Unit {0}
 
 -- ---- the walk: what it gives from here, with the fuel that is left, is what it gave from 0
 

@@ -1,4 +1,5 @@
 pub mod HeadLaws
+pub mod Answers
 pub mod Cursor
 pub mod Fits
 pub mod CursorLaws

@@ -1,5 +1,5 @@
 -- A plain record: what its four bytes say of it, and the step over it.
-use Rattle.std.specs.Prelude.{ℕ, ◌+◌, ◌-◌, ◌*◌, ◌/◌, ◌%◌, ◌≤◌, ◌<◌, ◌≡◌, refl, Bool, true, false, List, length, take, drop, get_or, ltb}
+use Rattle.std.specs.Prelude.{ℕ, ◌+◌, ◌-◌, ◌*◌, ◌/◌, ◌%◌, ◌≤◌, ◌<◌, ◌≡◌, refl, Bool, true, false, List, length, take, drop, get_or, ltb, Some, None}
 use Rattle.std.proofs.Common.{arith, sym, ap, ap₂, ◌∙◌, length-take, get_or-take, ltb-true, ne_eqb}
 use Rattle.spec.specs.declared.Kind.{Kind}
 use Rattle.spec.specs.declared.Next.{Next}
@@ -13,7 +13,7 @@ use Rattle.record.specs.Digits.{digits}
 use Rattle.chain.specs.declared.Cursor.{Cursor}
 use Rattle.chain.specs.declared.Spot.{Spot}
 use Rattle.chain.specs.declared.Item.{Item}
-use Rattle.chain.specs.declared.Nearby.{Nearby}
+use Rattle.chain.specs.Answers.{Nearby}
 use Rattle.chain.specs.Cursor.{look, past, settle, unfinished_at, CursorSound}
 use Rattle.chain.specs.CursorLaws.{look_is, advanced_here}
 use Rattle.spec.specs.Reading.{marked}
@@ -94,8 +94,8 @@ plain_front s Next.Bad l p e = tt
 -- ---- the step over it
 
 abbrev pub Near : List ℕ → Cursor → Nearby → Type 0
-Near image c (Nearby.Record e next) = Passes image c e next × (marked (entry_of image e) ≡ false)
-Near image c Nearby.Other = Unit {0}
+Near image c (Some (e, next)) = Passes image c e next × (marked (entry_of image e) ≡ false)
+Near image c None = Unit {0}
 
 -- a byte, read in the stretch that is left
 there : (image : List ℕ) (a k i : ℕ) → i < k → get_or (take k (drop a image)) i 0 ≡ get_or (drop a image) i 0
@@ -108,8 +108,10 @@ unmarked image e h = rw h
 module _ (image : List ℕ) (c : Cursor) (s : CursorSound image c) (free : c.pending ≡ false) where
   pub near_passes : (n d z : ℕ) → PlainFront (take (c.end - c.at) (drop c.at image)) (Next.Record n d) → z ≡ size_of n d
       → Near image c
-      (Nearby.Record (record { at = c.at; n = n; d = d })
-      (record { at = c.at + z; end = c.end; room = c.room; turned = c.turned; pending = false }))
+      (Some (
+        record { at = c.at; n = n; d = d },
+        record { at = c.at + z; end = c.end; room = c.room; turned = c.turned; pending = false },
+      ))
   near_passes n d z p e =
       let x : Next = Next.Record n d in
       let k : ℕ = c.end - c.at in

@@ -1,5 +1,5 @@
 -- The loops over the files: what each gives is a fold, and the law of each way that a turn can end.
-use Rattle.std.specs.Prelude.{ℕ, zero, suc, ◌+◌, ◌-◌, ◌≤◌, ◌≡◌, refl, Bool, true, false, List, ◌∷◌, length}
+use Rattle.std.specs.Prelude.{ℕ, zero, suc, ◌+◌, ◌-◌, ◌≤◌, ◌≡◌, refl, Bool, true, false, List, ◌∷◌, length, None, Some}
 use Rattle.std.proofs.Common.{arith, add-zero, zero-add, sym, ap, ◌∙◌}
 use Rattle.std.proofs.Math.Option.{Option, none, some}
 use Rattle.std.proofs.Math.ListN.{get_elem?}
@@ -8,7 +8,7 @@ use Rattle.spec.specs.Record.{Entry}
 use Rattle.chain.specs.declared.Cursor.{Cursor}
 use Rattle.chain.specs.declared.Spot.{Spot}
 use Rattle.chain.specs.declared.Item.{Item}
-use Rattle.chain.specs.declared.Found.{Found}
+use Rattle.chain.specs.Answers.{Found}
 use Rattle.chain.specs.Cursor.{advance, CursorSound, left}
 use Rattle.chain.specs.Rest.{Run, entry_of, rest}
 use Rattle.chain.specs.Fold.{Whole, Passes, NotRecord, Folded, fold_start, fold_end, fold_stop, fold_step}
@@ -69,12 +69,12 @@ module _ (p : Entry → Bool) {image : List ℕ} {start c : Cursor} {m : ℕ} (w
 -- ---- the enum in the definitions' words
 
 abbrev pub found_in : List ℕ → Found → Option Entry
-found_in image (Found.At e) = some (entry_of image e)
-found_in image Found.Nothing = none
+found_in image (Some e) = some (entry_of image e)
+found_in image None = none
 
 abbrev pub FoundWhole : List ℕ → Found → Type 0
-FoundWhole image (Found.At e) = Whole image e
-FoundWhole image Found.Nothing = Unit {0}
+FoundWhole image (Some e) = Whole image e
+FoundWhole image None = Unit {0}
 
 -- ---- the first of those kept that passes
 

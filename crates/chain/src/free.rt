@@ -12,10 +12,7 @@ fn blank_part(image: &[u8], a: usize, b: usize) -> bool
     requires { b ≤ length image.now }
     ensures { result ≡ blank_part a b image.now }
 {
-    if a < b {
-        return flash::is_blank(&image[a..b]);
-    }
-    true
+    b <= a || flash::is_blank(&image[a..b])
 }
 
 // The same, where known is a run of FF.
@@ -23,10 +20,8 @@ fn blank_beside(image: &[u8], known: Stretch, a: usize, b: usize) -> bool
     requires { BlankThere image.now known × (b ≤ length image.now) }
     ensures { result ≡ blank_part a b image.now }
 {
-    if known.from <= a {
-        if a < known.to {
-            return b <= known.to;
-        }
+    if known.from <= a && a < known.to {
+        return b <= known.to;
     }
     blank_part(image, a, b)
 }
@@ -39,10 +34,7 @@ fn free_blank(image: &[u8], known: Stretch, p: Place) -> bool
     if p.turned {
         return blank_beside(image, known, p.tail, low);
     }
-    if blank_beside(image, known, 0, low) {
-        return blank_beside(image, known, p.tail, p.length);
-    }
-    false
+    blank_beside(image, known, 0, low) && blank_beside(image, known, p.tail, p.length)
 }
 
 fn tail_blank(image: &[u8], known: Stretch, p: Place) -> bool
@@ -50,11 +42,7 @@ fn tail_blank(image: &[u8], known: Stretch, p: Place) -> bool
     ensures { result ≡ tail_blank image.now p }
 {
     let end = floor(p.tail) + SECTOR;
-    let l = p.limit();
-    if end < l {
-        return blank_beside(image, known, p.tail, end);
-    }
-    blank_beside(image, known, p.tail, l)
+    blank_beside(image, known, p.tail, end.min(p.limit()))
 }
 
 // The free run is FF; behind a CLEAN head only as far as the tail's own sector.

@@ -9,10 +9,10 @@ ghost use Rattle.chain.specs.HeadLaws.{headed, HeadInside, Walked};
 ghost use Rattle.chain.specs.HeadSkip.{Skips, BlankThere};
 
 use crate::plain::plain_of;
-use crate::{Headed, Sighting, Stretch};
+use crate::{Sighting, Stretch};
 use record::bytes::{is_clean, is_record, is_torn};
 use record::up_8;
-use spec::{HIGH, Next, START, Status, WRAP};
+use spec::{HIGH, Next, Refusal, START, Status, WRAP};
 
 // The byte i past at, or 0 past the end.
 pub fn byte(image: &[u8], at: usize, i: usize) -> u8
@@ -31,10 +31,7 @@ fn magic(image: &[u8], at: usize, low: u8) -> bool
     requires { Addable at }
     ensures { result ≡ (eqb (low_of (drop at image.now)) low && eqb (high_of (drop at image.now)) 0x5A) }
 {
-    if byte(image, at, 0) == low {
-        return byte(image, at, 1) == HIGH;
-    }
-    false
+    byte(image, at, 0) == low && byte(image, at, 1) == HIGH
 }
 
 // The magic of a record at this address, with any first byte that counts as A5.
@@ -42,10 +39,7 @@ fn record_magic(image: &[u8], at: usize) -> bool
     requires { Addable at }
     ensures { result ≡ (is_record (low_of (drop at image.now)) && is_high (high_of (drop at image.now))) }
 {
-    if is_record(byte(image, at, 0)) {
-        return byte(image, at, 1) == HIGH;
-    }
-    false
+    is_record(byte(image, at, 0)) && byte(image, at, 1) == HIGH
 }
 
 // CLEAN at this address, with any first byte that counts as A0.
@@ -53,20 +47,14 @@ fn clean_magic(image: &[u8], at: usize) -> bool
     requires { Addable at }
     ensures { result ≡ clean_here (drop at image.now) }
 {
-    if is_clean(byte(image, at, 0)) {
-        return byte(image, at, 1) == HIGH;
-    }
-    false
+    is_clean(byte(image, at, 0)) && byte(image, at, 1) == HIGH
 }
 
 fn torn_here(image: &[u8], at: usize) -> bool
     requires { Addable at }
     ensures { result ≡ torn_here (drop at image.now) }
 {
-    if byte(image, at, 2) == Status::ERASED.byte {
-        return is_torn(byte(image, at, 0), byte(image, at, 1));
-    }
-    false
+    byte(image, at, 2) == Status::ERASED.byte && is_torn(byte(image, at, 0), byte(image, at, 1))
 }
 
 // Whether the walk goes on with a record here: 5AA5, and at 0 CLEAN too.
@@ -77,13 +65,7 @@ fn walked_here(image: &[u8], at: usize) -> bool
     if byte(image, at, 2) == Status::ERASED.byte {
         return false;
     }
-    if record_magic(image, at) {
-        return true;
-    }
-    if at == 0 {
-        return clean_magic(image, at);
-    }
-    false
+    record_magic(image, at) || at == 0 && clean_magic(image, at)
 }
 
 fn walk_next(image: &[u8], at: usize) -> Next
@@ -102,13 +84,10 @@ fn walk_plain(image: &[u8], from: usize) -> usize
     ensures { Walked image.now result × (from ≤ result) }
 {
     let mut at = from;
-    loop {
-        let x = plain_of(&image[at..]);
-        let Next::Record { n, d } = x else {
-            return at;
-        };
+    while let Next::Record { n, d } = plain_of(&image[at..]) {
         at += record::size(n, d);
     }
+    at
 }
 
 // Where the search begins.
@@ -123,8 +102,7 @@ fn walk(image: &[u8]) -> usize
         if torn_here(image, at) {
             return at + 8;
         }
-        let x = walk_next(image, at);
-        let Next::Record { n, d } = x else {
+        let Next::Record { n, d } = walk_next(image, at) else {
             return at;
         };
         at += record::size(n, d);
@@ -135,10 +113,7 @@ fn mark_here(image: &[u8], at: usize) -> bool
     requires { Addable at }
     ensures { result ≡ (start_here (drop at image.now) || clean_here (drop at image.now)) }
 {
-    if magic(image, at, START) {
-        return true;
-    }
-    clean_magic(image, at)
+    magic(image, at, START) || clean_magic(image, at)
 }
 
 // The run of FF from this address on, all of it.
@@ -174,6 +149,7 @@ fn search(image: &[u8], from: usize) -> usize
     ensures { (result ≡ sought image.now from) × (result ≤ length image.now + 8) }
 {
     let mut at = from;
+    // document 01 names this form: the loop is left by break, with the address
     let found = loop {
         if mark_here(image, at) {
             break at;
@@ -187,33 +163,33 @@ fn search(image: &[u8], from: usize) -> usize
 }
 
 // What the place a that the search yields says of the head.
-fn chosen(image: &[u8], a: usize) -> Headed
+fn chosen(image: &[u8], a: usize) -> Result<usize, Refusal>
     requires a_in_bounds { a ≤ length image.now + 8 }
     requires in_range { InRange (length image.now) }
     ensures { (headed result ≡ chosen image.now a) × HeadInside image.now result }
 {
     if magic(image, a, START) {
-        return Headed::At(a);
+        return Ok(a);
     }
     if clean_magic(image, a) {
         if clean_magic(image, 0) {
-            return Headed::Refused(5);
+            return Err(Refusal::Broken);
         }
-        return Headed::At(a);
+        return Ok(a);
     }
     if clean_magic(image, 0) {
-        return Headed::At(0);
+        return Ok(0);
     }
-    Headed::Refused(6)
+    Err(Refusal::Headless)
 }
 
 // This head, with no run of FF.
-fn seen(image: &[u8], head: Headed) -> Sighting
+fn seen(image: &[u8], head: Result<usize, Refusal>) -> Sighting
     requires { InRange (length image.now) }
     ensures { (result.head ≡ head) × BlankThere image.now result.blank }
 {
     Sighting {
-        head: head,
+        head,
         blank: Stretch {
             from: image.len(),
             to: image.len(),
@@ -228,17 +204,16 @@ pub fn head(image: &[u8]) -> Sighting
         × BlankThere image.now result.blank }
 {
     if magic(image, 0, START) {
-        return seen(image, Headed::At(0));
+        return seen(image, Ok(0));
     }
     if magic(image, 0, WRAP) {
-        return seen(image, Headed::Refused(5));
+        return seen(image, Err(Refusal::Broken));
     }
     let from = walk(image);
     let run = blank_from(image, from);
     let found = search(image, from + up_8(run.to - from));
-    let h = chosen(image, found);
     Sighting {
-        head: h,
+        head: chosen(image, found),
         blank: run,
     }
 }

@@ -2,6 +2,11 @@
 // Everything here only looks. Nothing passes over data bytes but the search for the head and the check of the free run.
 #![tactic(auto)]
 
+ghost use Rattle.std.specs.Prelude.{◌≡◌};
+ghost use Rattle.spec.specs.Record.{name_of};
+ghost use Rattle.chain.specs.Rest.{entry_of};
+ghost use Rattle.chain.specs.Fold.{Whole};
+
 pub mod files;
 pub mod free;
 pub mod head;
@@ -12,12 +17,7 @@ pub mod scan;
 pub mod skip;
 pub mod walk;
 
-// The head's address, or the refusal's number.
-#[derive(Clone, Copy)]
-pub enum Headed {
-    At(usize),
-    Refused(u32),
-}
+use spec::Refusal;
 
 // A part of the image, from one address up to another.
 #[derive(Clone, Copy)]
@@ -29,7 +29,7 @@ pub struct Stretch {
 // What the search for the head finds: the head, and a run of FF that it passed over.
 #[derive(Clone, Copy)]
 pub struct Sighting {
-    pub head: Headed,
+    pub head: Result<usize, Refusal>,
     pub blank: Stretch,
 }
 
@@ -44,12 +44,24 @@ pub struct Cursor {
     pub pending: bool,
 }
 
-// Where a record stands, with its n name bytes and d data bytes.
+// Where a record stands, with its n name bytes and d data bytes. It is handed on beside the image, as a cursor is, and not in a struct that
+// lends the image: repairs and moves keep it while they write, and each clause would have to say `self.entry.image.now`.
 #[derive(Clone, Copy)]
 pub struct Spot {
     pub at: usize,
     pub n: usize,
     pub d: usize,
+}
+
+impl Spot {
+    // The name of the record that stands here.
+    pub fn name(self, image: &[u8]) -> &[u8]
+        requires { Whole image.now self }
+        ensures { result.now ≡ name_of (entry_of image.now self) }
+    {
+        let at = self.at + 8;
+        &image[at..at + self.n]
+    }
 }
 
 // What stands at a cursor: a record, with the cursor past it; or how the chain ends, with the address and whether it had turned.
@@ -61,25 +73,11 @@ pub enum Item {
     Broken { at: usize, turned: bool },
 }
 
-// A plain record at a cursor, with the cursor past it; or anything else.
-#[derive(Clone, Copy)]
-pub enum Nearby {
-    Record { spot: Spot, next: Cursor },
-    Other,
-}
-
 // The sizes of the records that are FC or F8 with a name, summed; and of all others.
 #[derive(Clone, Copy)]
 pub struct Sums {
     pub files: usize,
     pub others: usize,
-}
-
-// What is looked for among the files.
-#[derive(Clone, Copy)]
-pub enum Found {
-    At(Spot),
-    Nothing,
 }
 
 // Where a search goes on behind records that were passed over, and how many more it may pass.

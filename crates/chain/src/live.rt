@@ -28,12 +28,9 @@ pub fn live_bytes(image: &[u8], start: Cursor) -> usize
 {
     let mut c = start;
     let mut live = 0;
-    loop {
-        let s = advance(image, c);
-        let Item::Record { spot: e, next } = s else {
-            return live;
-        };
+    while let Item::Record { spot: e, next } = advance(image, c) {
         live = added(live, size(e.n, e.d), is_live(image, start, e));
         c = next;
     }
+    live
 }

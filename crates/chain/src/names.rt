@@ -17,35 +17,21 @@ use filter::Signature;
 use filter::table::{WORDS, add};
 use spec::Status;
 
-fn either(a: bool, b: bool) -> bool
-    ensures { result ≡ (a || b) }
-{
-    if a {
-        return true;
-    }
-    b
-}
-
 // What was found, or x is a record of this status and of e's name.
 fn earlier_or(image: &[u8], found: bool, status: Status, e: Spot, x: Spot) -> bool
     requires { Whole image.now e × Whole image.now x }
     ensures { result ≡ (found || named_as status.byte (entry_of image.now e) (entry_of image.now x)) }
 {
-    if found {
-        return true;
-    }
-    named_as(image, status, e, x)
+    found || named_as(image, status, e, x)
 }
 
 fn earlier_with(image: &[u8], f: Earlier, e: Spot, x: Spot) -> Earlier
     requires { Whole image.now e × Whole image.now x }
     ensures { result ≡ earlier_with f (entry_of image.now e) (entry_of image.now x) }
 {
-    let committed = earlier_or(image, f.committed, Status::COMMITTED, e, x);
-    let migrating = earlier_or(image, f.migrating, Status::MIGRATING, e, x);
     Earlier {
-        committed: committed,
-        migrating: migrating,
+        committed: earlier_or(image, f.committed, Status::COMMITTED, e, x),
+        migrating: earlier_or(image, f.migrating, Status::MIGRATING, e, x),
     }
 }
 
@@ -65,9 +51,7 @@ pub fn earlier(image: &[u8], start: Cursor, count: usize, e: Spot) -> Earlier
         if o.left == 0 {
             return f;
         }
-        let here = o.cursor;
-        let s = advance(image, here);
-        let Item::Record { spot: x, next } = s else {
+        let Item::Record { spot: x, next } = advance(image, o.cursor) else {
             return f;
         };
         f = earlier_with(image, f, e, x);
@@ -82,13 +66,13 @@ fn repeats_with(n: Repeats, committed: bool, f: Earlier) -> Repeats
 {
     if committed {
         return Repeats {
-            doubled: either(n.doubled, f.committed),
-            superseded: either(n.superseded, f.migrating),
+            doubled: n.doubled | f.committed,
+            superseded: n.superseded | f.migrating,
         };
     }
     Repeats {
-        doubled: either(n.doubled, f.migrating),
-        superseded: either(n.superseded, f.committed),
+        doubled: n.doubled | f.migrating,
+        superseded: n.superseded | f.committed,
     }
 }
 

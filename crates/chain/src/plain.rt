@@ -4,7 +4,7 @@ ghost use Rattle.std.specs.Prelude.{length, ◌≤◌};
 ghost use Rattle.chain.specs.Cursor.{CursorSound};
 ghost use Rattle.chain.specs.Plain.{PlainIf, PlainFront, Near};
 
-use crate::{Cursor, Nearby, Spot};
+use crate::{Cursor, Spot};
 use record::words::word_at;
 use record::{plain_record_of, size};
 use spec::{Next, Status};
@@ -15,10 +15,8 @@ fn plain_header(part: &[u8]) -> bool
     ensures { PlainIf part.now result }
 {
     let h = word_at(part, 0);
-    if h % 0x1_0000 == 0x5AA5 {
-        if h / 0x100_0000 % 256 == 0xFF {
-            return h / 0x1_0000 % 256 < Status::RESERVED.byte as u64;
-        }
+    if h % 0x1_0000 == 0x5AA5 && h / 0x100_0000 % 256 == 0xFF {
+        return h / 0x1_0000 % 256 < Status::RESERVED.byte as u64;
     }
     false
 }
@@ -37,27 +35,22 @@ pub fn plain_of(part: &[u8]) -> Next
 }
 
 // The record at c, if it is plain, with the cursor past it.
-pub fn near(image: &[u8], c: Cursor) -> Nearby
+pub fn near(image: &[u8], c: Cursor) -> Option<(Spot, Cursor)>
     requires { CursorSound image.now c }
     ensures { Near image.now c result }
 {
     if c.pending {
-        return Nearby::Other;
+        return None;
     }
-    let at = c.at;
-    let end = c.end;
-    let x = plain_of(&image[at..end]);
-    let Next::Record { n, d } = x else {
-        return Nearby::Other;
+    let Next::Record { n, d } = plain_of(&image[c.at..c.end]) else {
+        return None;
     };
-    Nearby::Record {
-        spot: Spot { at: at, n: n, d: d },
-        next: Cursor {
-            at: at + size(n, d),
-            end: end,
-            room: c.room,
-            turned: c.turned,
+    Some((
+        Spot { at: c.at, n, d },
+        Cursor {
+            at: c.at + size(n, d),
             pending: false,
+            ..c
         },
-    }
+    ))
 }

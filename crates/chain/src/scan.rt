@@ -12,8 +12,9 @@ ghost use Rattle.chain.specs.Tally.{passed, Passing, Spots, EndInside};
 use crate::files::is_file;
 use crate::plain::near;
 use crate::walk::advance;
-use crate::{Cursor, Going, Item, Nearby, Pass, Spot, Sums, Tally};
+use crate::{Cursor, Going, Item, Pass, Spot, Sums, Tally};
 use record::bytes::is_clean;
+use record::name::name_ok;
 use record::size;
 use spec::START;
 
@@ -22,22 +23,14 @@ pub fn name_fine(image: &[u8], e: Spot) -> bool
     requires { Whole image.now e }
     ensures { result ≡ name_fine (entry_of image.now e) }
 {
-    if is_file(image, e) {
-        let at = e.at + 8;
-        let end = at + e.n;
-        return record::name::name_ok(&image[at..end]);
-    }
-    true
+    !is_file(image, e) || name_ok(e.name(image))
 }
 
 fn fine_with(image: &[u8], fine: bool, e: Spot) -> bool
     requires { Whole image.now e }
     ensures { result ≡ (fine && name_fine (entry_of image.now e)) }
 {
-    if fine {
-        return name_fine(image, e);
-    }
-    false
+    fine && name_fine(image, e)
 }
 
 // The first byte of the record at e.
@@ -45,8 +38,7 @@ pub fn low_of(image: &[u8], e: Spot) -> u8
     requires { Whole image.now e }
     ensures { result ≡ (entry_of image.now e).it.low }
 {
-    let at = e.at;
-    image[at]
+    image[e.at]
 }
 
 // A START or a CLEAN.
@@ -55,23 +47,14 @@ pub fn marked(image: &[u8], e: Spot) -> bool
     ensures { result ≡ marked (entry_of image.now e) }
 {
     let low = low_of(image, e);
-    if low == START {
-        return true;
-    }
-    is_clean(low)
+    low == START || is_clean(low)
 }
 
 fn further_with(image: &[u8], further: bool, records: usize, e: Spot) -> bool
     requires { Whole image.now e }
     ensures { result ≡ (further || (ltb 1 records && marked (entry_of image.now e))) }
 {
-    if further {
-        return true;
-    }
-    if 1 < records {
-        return marked(image, e);
-    }
-    false
+    further || 1 < records && marked(image, e)
 }
 
 // Field by field, so that the compiler keeps the fields in registers.
@@ -111,12 +94,12 @@ fn sums_with(s: Sums, size: usize, file: bool) -> Sums
     if file {
         return Sums {
             files: s.files + size,
-            others: s.others,
+            ..s
         };
     }
     Sums {
-        files: s.files,
         others: s.others + size,
+        ..s
     }
 }
 
@@ -127,24 +110,16 @@ pub fn noted_as(image: &[u8], t: Tally, e: Spot, file: bool, fine: bool, pending
         × (fine ≡ (t.fine && name_fine (entry_of image.now e))) }
     ensures { result ≡ noted t (entry_of image.now e) }
 {
-    let before = t.sums;
-    let first = t.first;
-    let second = t.second;
-    let files = count_with(t.files, file);
-    let sums = sums_with(before, size(e.n, e.d), file);
-    let further = further_with(image, t.further, t.records, e);
-    let one = spot_if(t.records == 0, e, first);
-    let two = spot_if(t.records <= 1, e, second);
     Tally {
         records: t.records + 1,
-        files: files,
-        sums: sums,
-        first: one,
-        second: two,
+        files: count_with(t.files, file),
+        sums: sums_with(t.sums, size(e.n, e.d), file),
+        first: spot_if(t.records == 0, e, t.first),
+        second: spot_if(t.records <= 1, e, t.second),
         last: e,
-        fine: fine,
-        further: further,
-        pending: pending,
+        fine,
+        further: further_with(image, t.further, t.records, e),
+        pending,
     }
 }
 
@@ -164,21 +139,14 @@ pub fn noted_plain(t: Tally, e: Spot, file: bool, fine: bool, pending: bool) -> 
     requires { Addable t.records × (t.files ≤ t.records) × AddableSize t.sums e }
     ensures { result ≡ noted_plain t e file fine pending }
 {
-    let before = t.sums;
-    let first = t.first;
-    let second = t.second;
-    let files = count_with(t.files, file);
-    let sums = sums_with(before, size(e.n, e.d), file);
     Tally {
         records: t.records + 1,
-        files: files,
-        sums: sums,
-        first: first,
-        second: second,
+        files: count_with(t.files, file),
+        sums: sums_with(t.sums, size(e.n, e.d), file),
         last: e,
-        fine: fine,
-        further: t.further,
-        pending: pending,
+        fine,
+        pending,
+        ..t
     }
 }
 
@@ -209,21 +177,16 @@ fn pass_plain(image: &[u8], start: Cursor, first: Going) -> Going
     ensures { Passing image.now start result.cursor result.tally × (left result.cursor ≤ left first.cursor) }
 {
     let mut g = first;
-    loop {
-        let c = g.cursor;
-        let s = near(image, c);
-        let Nearby::Record { spot: e, next } = s else {
-            return g;
-        };
+    while let Some((e, next)) = near(image, g.cursor) {
         let t = g.tally;
         let file = is_file(image, e);
         let fine = fine_with(image, t.fine, e);
-        let u = noted_plain(t, e, file, fine, next.pending);
         g = Going {
             cursor: next,
-            tally: u,
+            tally: noted_plain(t, e, file, fine, next.pending),
         };
     }
+    g
 }
 
 // The one pass over the chain; plain records are gone over by themselves.
@@ -237,18 +200,16 @@ pub fn pass(image: &[u8], start: Cursor) -> Pass
         tally: none_yet(),
     };
     loop {
-        let c = g.cursor;
-        let t = g.tally;
-        let s = advance(image, c);
-        let Item::Record { spot: e, next } = s else {
-            return Pass { tally: t, end: s };
+        let tally = g.tally;
+        let end = advance(image, g.cursor);
+        let Item::Record { spot: e, next } = end else {
+            return Pass { tally, end };
         };
-        let u = noted(image, t, e, next.pending);
         g = Going {
             cursor: next,
-            tally: u,
+            tally: noted(image, tally, e, next.pending),
         };
-        if 2 <= u.records {
+        if 2 <= g.tally.records {
             g = pass_plain(image, start, g);
         }
     }

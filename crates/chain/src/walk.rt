@@ -8,7 +8,7 @@ ghost use Rattle.spec.specs.declared.Next.{Next};
 ghost use Rattle.chain.specs.Cursor.{CursorSound, Inside, start, look, goes_on, turn, torn_end, settle, advance};
 
 use crate::plain::near;
-use crate::{Cursor, Item, Nearby, Spot};
+use crate::{Cursor, Item, Spot};
 use spec::{Next, Status};
 
 // The cursor at the head h, low being the start of its sector.
@@ -28,40 +28,24 @@ pub fn start_at(h: usize, low: usize, length: usize) -> Cursor
 fn allowed(pending: bool, x: Next) -> Next
     ensures { result ≡ allowed pending x }
 {
-    if pending {
-        return match x {
-            Next::Record { .. } => Next::Bad,
-            Next::Wrap => Next::Bad,
-            Next::TornWrap => Next::Bad,
-            Next::Clear => Next::Clear,
-            Next::Over => Next::Over,
-            Next::Bad => Next::Bad,
-        };
+    match x {
+        Next::Record { .. } | Next::Wrap | Next::TornWrap if pending => Next::Bad,
+        x => x,
     }
-    x
 }
 
 fn look(image: &[u8], c: Cursor) -> Next
     requires { CursorSound image.now c }
     ensures { (result ≡ look image.now c) × Within result (c.end - c.at) }
 {
-    let at = c.at;
-    let end = c.end;
-    allowed(c.pending, record::next_of(&image[at..end]))
+    allowed(c.pending, record::next_of(&image[c.at..c.end]))
 }
 
 // After a marker, or at the end, the chain goes on at 0 if there is room.
 pub fn goes_on(room: usize, x: Next) -> bool
     ensures { result ≡ goes_on room x }
 {
-    match x {
-        Next::Record { .. } => false,
-        Next::Wrap => 0 < room,
-        Next::TornWrap => false,
-        Next::Clear => false,
-        Next::Over => 0 < room,
-        Next::Bad => false,
-    }
+    matches!(x, Next::Wrap | Next::Over) && 0 < room
 }
 
 pub fn turn(c: Cursor) -> Cursor
@@ -94,11 +78,8 @@ pub fn unfinished(image: &[u8], at: usize) -> bool
     requires { at + 2 < length image.now }
     ensures { result ≡ is_unfinished (status_of (drop at image.now)) }
 {
-    let a = at + 2;
-    if image[a] == Status::ERASED.byte {
-        return true;
-    }
-    image[a] == Status::RESERVED.byte
+    let status = image[at + 2];
+    status == Status::ERASED.byte || status == Status::RESERVED.byte
 }
 
 // The record at c, with the cursor past it.
@@ -106,20 +87,12 @@ fn record_at(image: &[u8], c: Cursor, n: usize, d: usize) -> Item
     requires { CursorSound image.now c × Within (Next.Record n d) (c.end - c.at) }
     ensures { result ≡ settle image.now c (Next.Record n d) }
 {
-    let pending = unfinished(image, c.at);
-    let s = record::size(n, d);
     Item::Record {
-        spot: Spot {
-            at: c.at,
-            n: n,
-            d: d,
-        },
+        spot: Spot { at: c.at, n, d },
         next: Cursor {
-            at: c.at + s,
-            end: c.end,
-            room: c.room,
-            turned: c.turned,
-            pending: pending,
+            at: c.at + record::size(n, d),
+            pending: unfinished(image, c.at),
+            ..c
         },
     }
 }
@@ -128,25 +101,12 @@ pub fn settle(image: &[u8], c: Cursor, x: Next) -> Item
     requires { CursorSound image.now c × Within x (c.end - c.at) }
     ensures { result ≡ settle image.now c x }
 {
+    let (at, turned) = (c.at, c.turned);
     match x {
         Next::Record { n, d } => record_at(image, c, n, d),
-        Next::Wrap => Item::Broken {
-            at: c.at,
-            turned: c.turned,
-        },
         Next::TornWrap => torn_end(c),
-        Next::Clear => Item::End {
-            at: c.at,
-            turned: c.turned,
-        },
-        Next::Over => Item::End {
-            at: c.at,
-            turned: c.turned,
-        },
-        Next::Bad => Item::Broken {
-            at: c.at,
-            turned: c.turned,
-        },
+        Next::Clear | Next::Over => Item::End { at, turned },
+        Next::Wrap | Next::Bad => Item::Broken { at, turned },
     }
 }
 
@@ -158,8 +118,7 @@ fn advance_any(image: &[u8], c: Cursor) -> Item
     let x = look(image, c);
     if goes_on(c.room, x) {
         let t = turn(c);
-        let y = look(image, t);
-        return settle(image, t, y);
+        return settle(image, t, look(image, t));
     }
     settle(image, c, x)
 }
@@ -169,12 +128,8 @@ pub fn advance(image: &[u8], c: Cursor) -> Item
     requires { CursorSound image.now c }
     ensures { (result ≡ advance image.now c) × Inside image.now c result }
 {
-    let s = near(image, c);
-    let Nearby::Record { spot: e, next } = s else {
-        return advance_any(image, c);
-    };
-    Item::Record {
-        spot: e,
-        next: next,
+    match near(image, c) {
+        Some((spot, next)) => Item::Record { spot, next },
+        None => advance_any(image, c),
     }
 }

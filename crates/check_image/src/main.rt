@@ -2,53 +2,38 @@
 // length. The stored input was made by hand, and its line worked out from documents 01 and 02 (docs/requests/K13.md says how).
 #![tactic(auto)]
 
-use checking::Checked;
 use checking::check::check;
-use spec::{Rule, Verdict};
+use spec::{Refusal, Rule, Verdict};
+use std::fmt;
 use std::io::{self, Read};
 
 // The longest image that is read.
 const LONGEST: usize = 65536;
 
-fn text(rt: &impl Print, words: &str) -> io::Result<()> {
-    print!(rt; "{words}")
+// What the check answers, as the program's line.
+#[derive(Clone, Copy)]
+struct Line(Result<Verdict, Refusal>);
+
+impl fmt::Display for Line {
+    fn fmt<W: fmt::Write>(&self, f: &mut fmt::Formatter<W>) -> fmt::Result {
+        match self.0 {
+            Ok(Verdict::Settled) => f.write_str("settled"),
+            Ok(Verdict::Recovery { number }) => write!(f, "recovery {number}"),
+            Ok(Verdict::Broken { rule, at }) => write!(f, "broken {} {at}", word(rule)),
+            Err(refusal) => write!(f, "{}", refusal.number()),
+        }
+    }
 }
 
-fn rule_word(rt: &impl Print, rule: Rule) -> io::Result<()> {
+fn word(rule: Rule) -> &'static str {
     match rule {
-        Rule::Head => text(rt, "head"),
-        Rule::Unfinished => text(rt, "unfinished"),
-        Rule::Header => text(rt, "header"),
-        Rule::Name => text(rt, "name"),
-        Rule::End => text(rt, "end"),
-        Rule::Mark => text(rt, "mark"),
-        Rule::Free => text(rt, "free"),
-    }
-}
-
-fn broken_line(rt: &impl Print, rule: Rule, at: usize) -> io::Result<()> {
-    text(rt, "broken ")?;
-    rule_word(rt, rule)?;
-    println!(rt; " {at}")
-}
-
-fn recovery_line(rt: &impl Print, number: u32) -> io::Result<()> {
-    println!(rt; "recovery {number}")
-}
-
-fn verdict_line(rt: &impl Print, v: Verdict) -> io::Result<()> {
-    match v {
-        Verdict::Settled => text(rt, "settled\n"),
-        Verdict::Recovery { number } => recovery_line(rt, number),
-        Verdict::Broken { rule, at } => broken_line(rt, rule, at),
-    }
-}
-
-// 22 is the only refusal.
-fn line(rt: &impl Print, c: Checked) -> io::Result<()> {
-    match c {
-        Checked::Done(v) => verdict_line(rt, v),
-        Checked::Refused(_) => text(rt, "22\n"),
+        Rule::Head => "head",
+        Rule::Unfinished => "unfinished",
+        Rule::Header => "header",
+        Rule::Name => "name",
+        Rule::End => "end",
+        Rule::Mark => "mark",
+        Rule::Free => "free",
     }
 }
 
@@ -58,9 +43,10 @@ fn main(rt: HostRuntime) -> io::Result<()> {
     rt.reader()
         .take(LONGEST as u64 + 1)
         .read_to_end(&mut image)?;
-    if image.len() <= LONGEST {
-        line(&rt, check(&image))
+    let checked = if image.len() <= LONGEST {
+        check(&image)
     } else {
-        text(&rt, "22\n")
-    }
+        Err(Refusal::BadLength)
+    };
+    println!(rt; "{}", Line(checked))
 }

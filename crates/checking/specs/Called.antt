@@ -1,10 +1,10 @@
 -- The name of the record at which the chain breaks off, as the code looks at it.
-use Rattle.std.specs.Prelude.{ℕ, ◌≡◌, Bool, ◌&&◌, ◌||◌, List, [], ◌∷◌, ◌++◌, length}
-use Rattle.std.proofs.Common.{arith, ◌∙◌}
+use Rattle.std.specs.Prelude.{ℕ, ◌≡◌, Bool, ◌&&◌, ◌||◌, List, [], ◌∷◌, ◌++◌}
+use Rattle.std.proofs.Common.{◌∙◌}
 use Rattle.std.proofs.Math.Path.{refl, sym, ap, ap₂}
 use Rattle.std.proofs.Math.Bool.{true, false, not}
 use Rattle.std.proofs.Math.Dec.{eqb}
-use borrow.Author.Tests.{eq-eqb, ne_eqb, eqb-true}
+use borrow.Author.Tests.{eqb-true}
 use Rattle.spec.specs.Basics.{empty, any}
 use Rattle.spec.specs.Record.{name_ok, Entry, name_of}
 use Rattle.spec.specs.Files.{named, named_as, has_named, has_name, live}
@@ -34,61 +34,6 @@ cut_wrong es st n =
             | false ↦ elim (eqb st 0xF8) [ true ↦ migrating_wrong es n | false ↦ false ]
           ]
     ]
-
--- ---- as the code goes
-
-module _ (st : ℕ) (n : List ℕ) (e : Entry) where
-  pub called_yes : (b r : Bool) → b ≡ named st e → b ≡ true → r ≡ has_name n e → r ≡ is_called st n e
-  unfolding is_called
-  called_yes b r q t h = rw (is_called, sym q ∙ t) h
-
-  pub called_no : (b : Bool) → b ≡ named st e → b ≡ false → false ≡ is_called st n e
-  unfolding is_called
-  called_no b q t = rw (is_called, sym q ∙ t)
-
-module _ (es : List Entry) (n : List ℕ) where
-  module _ (b : Bool) (p : b ≡ called 0xF8 es n) where
-    pub migrating_twice : b ≡ true → true ≡ migrating_wrong es n
-    unfolding migrating_wrong
-    migrating_twice t = rw (migrating_wrong, sym p ∙ t)
-
-    module _ (t : b ≡ false) (d : Bool) (q : d ≡ called 0xFC es n) where
-      pub migrating_dead : d ≡ true → false ≡ migrating_wrong es n
-      unfolding migrating_wrong
-      migrating_dead u = rw (migrating_wrong, sym p ∙ t, sym q ∙ u)
-
-      pub migrating_live : (k : Bool) → d ≡ false → k ≡ name_ok n → not k ≡ migrating_wrong es n
-      unfolding migrating_wrong
-      migrating_live k u h = rw (migrating_wrong, sym p ∙ t, sym q ∙ u, ← h)
-
-  nothing : (n : List ℕ) → length n ≡ 0 → empty n ≡ true
-  nothing [] h = refl
-  nothing (x ∷ n) h = absurd (omega (arith, h))
-
-  something : (n : List ℕ) → (length n ≡ 0 → ⊥) → empty n ≡ false
-  something [] h = absurd (h refl)
-  something (x ∷ n) h = refl
-
-  pub wrong_nameless : (st : ℕ) → length n ≡ 0 → false ≡ cut_wrong es st n
-  unfolding cut_wrong
-  wrong_nameless st z = rw (cut_wrong, nothing n z)
-
-  module _ (st : ℕ) (z : length n ≡ 0 → ⊥) where
-    pub wrong_twice : (b : Bool) → st ≡ 0xFC → b ≡ called 0xFC es n → b ≡ true → true ≡ cut_wrong es st n
-    unfolding cut_wrong
-    wrong_twice b e q t = rw (cut_wrong, something n z, eq-eqb st 0xFC e, sym q ∙ t)
-
-    pub wrong_bad : (b k : Bool) → st ≡ 0xFC → b ≡ called 0xFC es n → b ≡ false → k ≡ name_ok n → not k ≡ cut_wrong es st n
-    unfolding cut_wrong
-    wrong_bad b k e q t h = rw (cut_wrong, something n z, eq-eqb st 0xFC e, sym q ∙ t, ← h)
-
-    pub wrong_f8 : (r : Bool) → (st ≡ 0xFC → ⊥) → st ≡ 0xF8 → r ≡ migrating_wrong es n → r ≡ cut_wrong es st n
-    unfolding cut_wrong
-    wrong_f8 r x e h = rw (cut_wrong, something n z, ne_eqb st 0xFC x, eq-eqb st 0xF8 e) h
-
-    pub wrong_other : (st ≡ 0xFC → ⊥) → (st ≡ 0xF8 → ⊥) → false ≡ cut_wrong es st n
-    unfolding cut_wrong
-    wrong_other x y = rw (cut_wrong, something n z, ne_eqb st 0xFC x, ne_eqb st 0xF8 y)
 
 -- ---- in the definitions' words
 

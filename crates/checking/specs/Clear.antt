@@ -1,5 +1,5 @@
 -- Which images have no fault: each search for a fault finds none exactly if the rule of the reading holds.
-use Rattle.std.specs.Prelude.{ℕ, ◌+◌, ◌≡◌, Bool, ◌&&◌, ◌||◌, eqb}
+use Rattle.std.specs.Prelude.{ℕ, Option, Some, None, ◌+◌, ◌≡◌, Bool, ◌&&◌, ◌||◌, eqb}
 use Rattle.std.proofs.Math.Path.{refl, sym, ap}
 use Rattle.std.proofs.Common.{ap₂, ◌∙◌}
 use Rattle.std.proofs.Math.Bool.{true, false, not}
@@ -22,9 +22,9 @@ use Rattle.spec.specs.Fault.{dirt, dirt_part, run_fault, free_fault}
 use Rattle.chain.specs.Repeats.{doubled_last}
 
 -- nothing was found
-abbrev pub clear : Fault → Bool
-clear Fault.Nothing = true
-clear (Fault.At rule a) = false
+abbrev pub clear : Option Fault → Bool
+clear None = true
+clear (Some f) = false
 
 and_true : (b : Bool) → (b && true) ≡ b
 and_true true = refl
@@ -55,15 +55,15 @@ module _ (image : Image) (p : Place) where
   run_clear : clear (run_fault image p) ≡ free_blank image p
   unfolding run_fault free_blank below
   run_clear = go _ refl p.turned refl (dirt_clear p.tail (part p.tail (limit p) image)) where
-    go : (f : Fault) → dirt_part p.tail (limit p) image ≡ f → (t : Bool) → p.turned ≡ t
+    go : (f : Option Fault) → dirt_part p.tail (limit p) image ≡ f → (t : Bool) → p.turned ≡ t
         → clear (dirt_part p.tail (limit p) image) ≡ blank_part p.tail (limit p) image
         → clear (run_fault image p) ≡ free_blank image p
-    go Fault.Nothing e true t h = rw (run_fault, e, free_blank, t) (rw t at (rw e at h))
-    go Fault.Nothing e false t h =
+    go None e true t h = rw (run_fault, e, free_blank, t) (rw t at (rw e at h))
+    go None e false t h =
         rw (run_fault, e, free_blank, t)
         (dirt_clear 0 (part 0 (floor p.head) image) ∙ sym (and_true below) ∙ ap (λ (b : Bool). below && b) (rw t at (rw e at h)))
-    go (Fault.At rule a) e true t h = rw (run_fault, e, free_blank, t) (rw t at (rw e at h))
-    go (Fault.At rule a) e false t h =
+    go (Some f) e true t h = rw (run_fault, e, free_blank, t) (rw t at (rw e at h))
+    go (Some f) e false t h =
         rw (run_fault, e, free_blank, t) (sym (and_false below) ∙ ap (λ (b : Bool). below && b) (rw t at (rw e at h)))
 
 pub free_clear : (image : Image) (r : Reading) → clear (free_fault image r) ≡ free_ok image r
@@ -130,18 +130,18 @@ module _ (x : Ending) (w : whole x ≡ true) (all_of : List Entry) where
       (none_repeated (before ++ e ∷ []) es) (none_marked all_of (before ++ e ∷ []) es)
       ∙ ap (λ (b : Bool). b && (none_repeated before (e ∷ es) && none_marked all_of before (e ∷ es))) (all_more (name_legal all_of) e es)
     where
-      go : (f : Fault) → record_fault x all_of before e ≡ f
+      go : (f : Option Fault) → record_fault x all_of before e ≡ f
           → clear f ≡ (not (name_wrong all_of before e) && not (mark_wrong all_of before e))
           → clear (chain_fault x all_of (before ++ e ∷ []) es)
           ≡ (all (name_legal all_of) es && (none_repeated (before ++ e ∷ []) es && none_marked all_of (before ++ e ∷ []) es))
           → clear (chain_fault x all_of before (e ∷ es))
           ≡ ((not (repeated before e || not (name_legal all_of e)) && not (mark_wrong all_of before e))
           && (all (name_legal all_of) es && (none_repeated (before ++ e ∷ []) es && none_marked all_of (before ++ e ∷ []) es)))
-      go Fault.Nothing h q ih =
+      go None h q ih =
           rw (chain_fault, h)
           (ih ∙ ap (λ (b : Bool). b && (all (name_legal all_of) es
           && (none_repeated (before ++ e ∷ []) es && none_marked all_of (before ++ e ∷ []) es))) q)
-      go (Fault.At rule a) h q ih =
+      go (Some f) h q ih =
           rw (chain_fault, h)
           (ap (λ (b : Bool). b && (all (name_legal all_of) es
           && (none_repeated (before ++ e ∷ []) es && none_marked all_of (before ++ e ∷ []) es))) q)

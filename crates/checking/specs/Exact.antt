@@ -2,7 +2,7 @@
 use Rattle.std.specs.Prelude.{ℕ, ◌≡◌, refl, Bool, true, false, ◌||◌, eqb}
 use Rattle.std.proofs.Common.{sym}
 use Rattle.std.proofs.Math.Path.{ap}
-use Rattle.spec.specs.declared.Refusal.{Refusal}
+use Rattle.spec.specs.Refusals.{RefusalNumbers}
 use Rattle.spec.specs.declared.Verdict.{Verdict}
 use Rattle.spec.specs.Step.{Image}
 use Rattle.spec.specs.Basics.{Answer, refuse, give, onward, empty}
@@ -59,7 +59,7 @@ module _ (image : Image) where
   unfolding mount_plan
   plan_is a e = ap (λ (a : Answer Reading). onward a (mount_of image)) e
 
-  refusing : (x : Refusal) → Unread x → (eqb x.number 5 || eqb x.number 6) ≡ true
+  refusing : (x : RefusalNumbers) → Unread x → (eqb x.number 5 || eqb x.number 6) ≡ true
   refusing _ Unread.five = refl
   refusing _ Unread.six = refl
 

@@ -1,5 +1,5 @@
 -- No rule is broken exactly if the reading is legal.
-use Rattle.std.specs.Prelude.{◌≡◌, Bool, true, ◌&&◌}
+use Rattle.std.specs.Prelude.{Option, Some, None, ◌≡◌, Bool, true, ◌&&◌}
 use Rattle.std.proofs.Math.Path.{refl, sym, ap, ap₂}
 use Rattle.std.proofs.Common.{◌∙◌}
 use Rattle.std.proofs.Math.Bool.{false}
@@ -21,16 +21,16 @@ module _ (image : Image) (r : Reading) where
   all_of : List Entry
   all_of = r.entries ++ cut_off image r
 
-  chain_part : Fault
+  chain_part : Option Fault
   chain_part = chain_fault r.ending all_of [] r.entries
 
   -- the first fault is the chain's, if there is one
   one_then_other : clear (first_fault image r) ≡ (clear chain_part && clear (end_fault image r))
   unfolding first_fault chain_part all_of
   one_then_other = go chain_part refl where
-    go : (f : Fault) → chain_part ≡ f → clear (first_fault image r) ≡ (clear chain_part && clear (end_fault image r))
-    go Fault.Nothing e = rw (first_fault, chain_part, e)
-    go (Fault.At rule a) e = rw (first_fault, chain_part, e)
+    go : (f : Option Fault) → chain_part ≡ f → clear (first_fault image r) ≡ (clear chain_part && clear (end_fault image r))
+    go None e = rw (first_fault, chain_part, e)
+    go (Some f) e = rw (first_fault, chain_part, e)
 
   and_false : (b : Bool) → (b && false) ≡ false
   and_false true = refl

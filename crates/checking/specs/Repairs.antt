@@ -12,6 +12,7 @@ use Rattle.spec.specs.Move.{Work, begin}
 use Rattle.spec.specs.Mount.{repair_1, repair_2_on, repair_3, repair_4, mended, settled}
 use Rattle.spec.specs.Fault.{last_open}
 use Rattle.spec.specs.Verdict.{second_marked, wrap_torn, first_repair}
+use Rattle.checking.specs.declared.Repair.{Repair}
 use Rattle.laws.specs.Settled.{busy_1, repair_1_idle, busy_2, repair_2_idle, busy_3, repair_3_idle, repair_4_idle, ends_4}
 use Rattle.laws.specs.Settled.{calm, settled_is}
 
@@ -43,6 +44,13 @@ first_with_step image r =
                 ]
           ]
     ]
+
+-- the code's enum in 01's numbers
+abbrev pub repair_number : Repair → ℕ
+repair_number Repair.FreeRun = 1
+repair_number Repair.Move = 2
+repair_number Repair.LastThing = 3
+repair_number Repair.Superseded = 4
 
 -- no repair
 abbrev pub is_none : ℕ → Bool

@@ -1,22 +1,22 @@
 -- The place at which the chain breaks off, as the code looks at it.
-use Rattle.std.specs.Prelude.{ℕ, zero, suc, ◌+◌, ◌-◌, ◌≤◌, ◌<◌, ◌≡◌, refl, Bool, ◌&&◌, not, List, [], ◌∷◌, length, take, drop, ltb}
+use Rattle.std.specs.Prelude.{Option, Some, None, ℕ, zero, suc, ◌+◌, ◌-◌, ◌≤◌, ◌<◌, ◌≡◌, refl, Bool, ◌&&◌, List, [], ◌∷◌, length, take, drop, ltb}
 use Rattle.std.proofs.Common.{arith, not-suc-le-zero, ◌∙◌, length-take, length-drop, drop_of_length-le, drop-drop, take_all}
-use Rattle.std.proofs.Math.Path.{sym, ap, ap₂}
+use Rattle.std.proofs.Math.Path.{sym, ap}
 use Rattle.std.proofs.Math.Bool.{true, false}
 use Rattle.spec.specs.declared.Place.{Place}
 use Rattle.spec.specs.declared.Kind.{Kind}
 use Rattle.spec.specs.declared.Rule.{Rule}
 use Rattle.spec.specs.Step.{Image}
-use Rattle.spec.specs.Basics.{long, blank, part}
+use Rattle.spec.specs.Basics.{long, part}
 use Rattle.spec.specs.Geometry.{floor}
 use Rattle.spec.specs.Bytes.{is_spare, ends_name}
-use Rattle.spec.specs.Record.{spare_of, data_len_of, size_of, name_length, rec_of, Entry}
+use Rattle.spec.specs.Record.{spare_of, data_len_of, name_length, rec_of, Entry}
 use Rattle.spec.specs.Chain.{Reading}
 use Rattle.spec.specs.Reading.{limit, whole}
-use Rattle.spec.specs.Fault.{stands, stands_behind, spare_fault, torn_fault, reserved_fault, finished_fault, last_open, shape, name_here}
-use Rattle.spec.specs.Fault.{shape_fault, is_cut_off, cut_off_at, cut_off}
-use borrow.Author.Tests.{eq-eqb, ne_eqb, ltb-true, lt-ltb, le-ltb}
-use Rattle.laws.specs.Tests.{wrong, and_right}
+use Rattle.spec.specs.Fault.{stands, stands_behind, spare_fault, last_open, shape, name_here}
+use Rattle.spec.specs.Fault.{is_cut_off, cut_off_at, cut_off}
+use borrow.Author.Tests.{eq-eqb, ne_eqb, ltb-true}
+use Rattle.laws.specs.Tests.{and_right}
 use Rattle.laws.specs.Parts.{long_le, long_lt, part_window}
 use Rattle.chain.specs.FreeLaws.{InImage}
 use Rattle.checking.specs.declared.CutOff.{CutOff}
@@ -43,9 +43,6 @@ name_inside (suc k) reserved (b ∷ s) h = go (ends_name reserved b) refl (λ l.
 pub lent : (image : Image) (a : ℕ) → take (length image - a) (drop a image) ≡ drop a image
 lent image a = take_all (length image - a) (drop a image) (rw length-drop (omega arith))
 
-pub lent_long : (image : Image) (a k : ℕ) → a + k ≤ length image → k ≤ length (take (length image - a) (drop a image))
-lent_long image a k h = rw (lent image a, length-drop) (omega arith)
-
 pub here_is : (image : Image) (at : ℕ) (reserved : Bool) (r : ℕ)
     → r ≡ name_length 64 reserved (take (length image - (at + 8)) (drop (at + 8) image))
     → (r ≡ name_here reserved (drop at image)) × EndsInside image at r
@@ -61,16 +58,7 @@ pub here_none : (image : Image) (at : ℕ) (reserved : Bool) → length image �
 unfolding name_length
 here_none image at reserved h = sym (ap (name_length 64 reserved) (drop-drop 8 at image ∙ drop_of_length-le image h))
 
--- ---- what stands behind
-
-pub stands_short : (s : List ℕ) (b : Bool) → length s < 8 → b ≡ blank s → not b ≡ stands s
-unfolding stands
-stands_short s b h e = ap not (e ∙ ap blank (sym (take_all 8 s (omega arith))))
-
 -- ---- the record
-
-abbrev pub marker_fault : Bool → Rule
-marker_fault spare = elim spare [ true ↦ Rule.Mark | false ↦ Rule.Header ]
 
 abbrev pub is_plain : Kind → Bool
 is_plain Kind.Record = true
@@ -82,19 +70,20 @@ is_plain Kind.Clear = false
 is_plain Kind.Bad = false
 
 -- the record as the definitions have it
-abbrev pub cut_list : Image → CutOff → List Entry
-cut_list image c =
-    elim c.there [
-      | true ↦ record { at = c.at; it = rec_of (drop c.at image) c.n (data_len_of (drop c.at image)) } ∷ []
-      | false ↦ []
-    ]
+abbrev pub cut_entry : Image → CutOff → Entry
+cut_entry image c = record { at = c.at; it = rec_of (drop c.at image) c.n (data_len_of (drop c.at image)) }
+
+abbrev pub cut_list : Image → Option CutOff → List Entry
+cut_list image None = []
+cut_list image (Some c) = cut_entry image c ∷ []
 
 unfoldable pub cut_there : Image → ℕ → List Entry
 cut_there image at = elim (is_cut_off (drop at image)) [ true ↦ cut_off_at at (drop at image) ∷ [] | false ↦ [] ]
 
 -- its name lies in the image
-pub record CutInside (image : Image) (c : CutOff) : Type 0 where
-  pub name : c.there ≡ true → (c.n < 64) × (c.at + (8 + c.n) < length image)
+abbrev pub CutInside : Image → Option CutOff → Type 0
+CutInside image None = Unit {0}
+CutInside image (Some c) = (c.n < 64) × (c.at + (8 + c.n) < length image)
 
 module _ (w : List ℕ) where
   cut_by : (k : Kind) → shape w ≡ k → is_cut_off w ≡ (is_plain k && (is_spare (spare_of w) && ltb (name_here false w) 64))
@@ -110,51 +99,31 @@ module _ (w : List ℕ) where
   cut_is : is_cut_off w ≡ (is_plain (shape w) && (is_spare (spare_of w) && ltb (name_here false w) 64))
   cut_is = cut_by (shape w) refl
 
-  module _ (k : Kind) (b : Bool) (d : k ≡ shape w) (e : b ≡ is_plain k) where
-    plain_is : is_plain (shape w) ≡ b
-    plain_is = ap is_plain (sym d) ∙ sym e
-
-    pub cut_good : (s : Bool) (n : ℕ) → b ≡ true → s ≡ is_spare (spare_of w) → s ≡ true → n ≡ name_here false w → ltb n 64 ≡ is_cut_off w
-    cut_good s n p f q g = ap (λ (m : ℕ). ltb m 64) g ∙ sym (rw (plain_is ∙ p, sym f ∙ q) at cut_is)
-
-    pub cut_spare : (s : Bool) → b ≡ true → s ≡ is_spare (spare_of w) → s ≡ false → false ≡ is_cut_off w
-    cut_spare s p f q = sym (rw (plain_is ∙ p, sym f ∙ q) at cut_is)
-
-    pub cut_other : b ≡ false → false ≡ is_cut_off w
-    cut_other p = sym (rw (plain_is ∙ p) at cut_is)
-
   short_is : is_cut_off w ≡ true → ltb (name_here false w) 64 ≡ true
   short_is h =
       and_right (is_spare (spare_of w)) (ltb (name_here false w) 64)
       (and_right (is_plain (shape w)) (is_spare (spare_of w) && ltb (name_here false w) 64) (sym cut_is ∙ h))
 
-module _ (image : Image) (at n : ℕ) (t : Bool) (e : n ≡ name_here false (drop at image)) (i : EndsInside image at n)
-    (h : t ≡ is_cut_off (drop at image)) where
-  list_is : (u : Bool) → t ≡ u → is_cut_off (drop at image) ≡ u → cut_list image (record { there = t; at = at; n = n }) ≡ cut_there image at
+module _ (image : Image) (at n : ℕ) (e : n ≡ name_here false (drop at image)) (i : EndsInside image at n) where
+  pub cut_told : is_cut_off (drop at image) ≡ true
+      → (cut_list image (Some (record { at = at; n = n })) ≡ cut_there image at) × CutInside image (Some (record { at = at; n = n }))
   unfolding cut_there
-  list_is true a b = rw (cut_there, a, b, e)
-  list_is false a b = rw (cut_there, a, b)
+  cut_told h =
+      let l : n < 64 = ltb-true n 64 (ap (λ (m : ℕ). ltb m 64) e ∙ short_is (drop at image) h) in
+      (rw (cut_there, h, e), (l, i l))
 
-  pub cut_told : (cut_list image (record { there = t; at = at; n = n }) ≡ cut_there image at)
-      × CutInside image (record { there = t; at = at; n = n })
-  cut_told = (list_is t refl (sym h), record { name = inside }) where
-    inside : t ≡ true → (n < 64) × (at + (8 + n) < length image)
-    inside q = let l : n < 64 = ltb-true n 64 (ap (λ (m : ℕ). ltb m 64) e ∙ short_is (drop at image) (sym h ∙ q)) in (l, i l)
-
--- none
-pub none_inside : (image : Image) (c : CutOff) → c ≡ record { there = false; at = 0; n = 0 } → CutInside image c
-none_inside image c e = record { name = λ q. wrong (sym (ap (λ (x : CutOff). x.there) e) ∙ q) }
+pub none_told : (image : Image) (at : ℕ) → is_cut_off (drop at image) ≡ false → [] ≡ cut_there image at
+unfolding cut_there
+none_told image at h = rw (cut_there, h)
 
 module _ (image : Image) (r : Reading) where
-  pub cut_none_whole : (c : CutOff) → c ≡ record { there = false; at = 0; n = 0 } → whole r.ending ≡ true
-      → cut_list image c ≡ cut_off image r
+  pub cut_none_whole : whole r.ending ≡ true → [] ≡ cut_off image r
   unfolding cut_off
-  cut_none_whole c e w = rw (cut_off, w, e)
+  cut_none_whole w = rw (cut_off, w)
 
-  pub cut_none_open : (c : CutOff) → c ≡ record { there = false; at = 0; n = 0 } → whole r.ending ≡ false → last_open r.entries ≡ true
-      → cut_list image c ≡ cut_off image r
+  pub cut_none_open : whole r.ending ≡ false → last_open r.entries ≡ true → [] ≡ cut_off image r
   unfolding cut_off
-  cut_none_open c e w o = rw (cut_off, w, o, e)
+  cut_none_open w o = rw (cut_off, w, o)
 
   pub cut_is_there : (l : List Entry) → l ≡ cut_there image r.place.tail → whole r.ending ≡ false → last_open r.entries ≡ false
       → l ≡ cut_off image r
@@ -162,10 +131,6 @@ module _ (image : Image) (r : Reading) where
   cut_is_there l e w o = e ∙ rw (cut_off, cut_there, w, o)
 
 -- ---- what stands behind
-
-pub stands_long : (s : List ℕ) (b : Bool) → b ≡ blank (take 8 s) → not b ≡ stands s
-unfolding stands
-stands_long s b e = ap not e
 
 module _ (image : Image) (p : Place) (size l : ℕ) (e : l ≡ limit p) (w : InImage image p) where
   rest_is : drop size (part p.tail (limit p) image) ≡ part (p.tail + size) l image
@@ -233,83 +198,3 @@ module _ (image : Image) (p : Place) (size l : ℕ) (e : l ≡ limit p) (w : InI
   -- the tail is past the stretch's end
   pub spare_past : l < p.tail → 0 < size → Rule.Header ≡ spare_fault image p size
   spare_past h z = spare_long (omega arith)
-
--- ---- by the reserved byte and the name
-
-module _ (image : Image) (p : Place) (spare : Bool) where
-  pub torn_end : spare ≡ true → Rule.End ≡ torn_fault image p spare
-  unfolding torn_fault
-  torn_end e = rw (torn_fault, e)
-
-  pub torn_spare : (r : Rule) → spare ≡ false → r ≡ spare_fault image p 16 → r ≡ torn_fault image p spare
-  unfolding torn_fault
-  torn_spare r e q = rw (torn_fault, e) q
-
-  module _ (n : ℕ) where
-    pub reserved_endless : 64 ≤ n → Rule.Unfinished ≡ reserved_fault image p spare n
-    unfolding reserved_fault
-    reserved_endless h = rw (reserved_fault, le-ltb n 64 h)
-
-    pub reserved_end : n < 64 → spare ≡ true → Rule.End ≡ reserved_fault image p spare n
-    unfolding reserved_fault
-    reserved_end h e = rw (reserved_fault, lt-ltb n 64 h, e)
-
-    pub reserved_spare : (d size : ℕ) (r : Rule) → n < 64 → spare ≡ false
-        → d ≡ data_len_of (take (length image - p.tail) (drop p.tail image)) → size ≡ size_of n d → r ≡ spare_fault image p size
-        → r ≡ reserved_fault image p spare n
-    unfolding reserved_fault
-    reserved_spare d size r h e f g q =
-        let v : data_len_of (drop p.tail image) ≡ d = sym (f ∙ ap data_len_of (lent image p.tail)) in
-        rw (reserved_fault, lt-ltb n 64 h, e, v, ← g) q
-
-module _ (spare : Bool) (n : ℕ) where
-  pub finished_header : spare ≡ false → Rule.Header ≡ finished_fault spare n
-  unfolding finished_fault
-  finished_header e = rw (finished_fault, e)
-
-  pub finished_end : spare ≡ true → n < 64 → Rule.End ≡ finished_fault spare n
-  unfolding finished_fault
-  finished_end e h = rw (finished_fault, e, lt-ltb n 64 h)
-
-  pub finished_name : spare ≡ true → 64 ≤ n → Rule.Name ≡ finished_fault spare n
-  unfolding finished_fault
-  finished_name e h = rw (finished_fault, e, le-ltb n 64 h)
-
--- ---- by the kind
-
-module _ (image : Image) (p : Place) (r : Rule) (k : Kind) (e : k ≡ shape (drop p.tail image)) where
-  told : (j : Kind) → k ≡ j → r ≡ shape_fault image p (drop p.tail image) j
-      → r ≡ shape_fault image p (drop p.tail image) (shape (drop p.tail image))
-  told j f q = q ∙ ap (shape_fault image p (drop p.tail image)) (sym f ∙ e)
-
-  module _ (s : Bool) (f : s ≡ is_spare (spare_of (drop p.tail image))) where
-    pub at_record : (n : ℕ) → k ≡ Kind.Record → n ≡ name_here false (drop p.tail image) → r ≡ finished_fault s n
-        → r ≡ shape_fault image p (drop p.tail image) (shape (drop p.tail image))
-    unfolding shape_fault
-    at_record n g h q = told Kind.Record g (q ∙ ap₂ finished_fault f h)
-
-    pub at_reserved : (n : ℕ) → k ≡ Kind.Reserved → n ≡ name_here true (drop p.tail image) → r ≡ reserved_fault image p s n
-        → r ≡ shape_fault image p (drop p.tail image) (shape (drop p.tail image))
-    unfolding shape_fault
-    at_reserved n g h q = told Kind.Reserved g (q ∙ ap₂ (reserved_fault image p) f h)
-
-    pub at_torn : k ≡ Kind.Torn → r ≡ torn_fault image p s → r ≡ shape_fault image p (drop p.tail image) (shape (drop p.tail image))
-    unfolding shape_fault
-    at_torn g q = told Kind.Torn g (q ∙ ap (torn_fault image p) f)
-
-    pub at_marker : k ≡ Kind.Marker → r ≡ marker_fault s → r ≡ shape_fault image p (drop p.tail image) (shape (drop p.tail image))
-    unfolding shape_fault
-    at_marker g q = told Kind.Marker g (q ∙ ap marker_fault f)
-
-  pub at_torn_marker : k ≡ Kind.TornMarker → r ≡ Rule.Unfinished
-      → r ≡ shape_fault image p (drop p.tail image) (shape (drop p.tail image))
-  unfolding shape_fault
-  at_torn_marker g q = told Kind.TornMarker g q
-
-  pub at_clear : k ≡ Kind.Clear → r ≡ Rule.Header → r ≡ shape_fault image p (drop p.tail image) (shape (drop p.tail image))
-  unfolding shape_fault
-  at_clear g q = told Kind.Clear g q
-
-  pub at_bad : k ≡ Kind.Bad → r ≡ Rule.Header → r ≡ shape_fault image p (drop p.tail image) (shape (drop p.tail image))
-  unfolding shape_fault
-  at_bad g q = told Kind.Bad g q

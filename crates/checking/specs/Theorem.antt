@@ -2,11 +2,11 @@
 -- settled
 -- exactly if mount has no step, and needs the recovery of a number exactly if that is the first repair that has one.
 use Prim.Native.Nat.{ℕ, zero, suc}
-use Rattle.std.specs.Prelude.{◌≡◌, Bool, length, drop}
+use Rattle.std.specs.Prelude.{Option, Some, None, ◌≡◌, Bool, length, drop}
 use Rattle.std.proofs.Math.Path.{refl, sym, ap}
 use Rattle.std.proofs.Common.{◌∙◌}
 use Rattle.std.proofs.Math.Bool.{true, false}
-use Rattle.spec.specs.declared.Refusal.{Refusal}
+use Rattle.spec.specs.Refusals.{RefusalNumbers}
 use Rattle.spec.specs.declared.Rule.{Rule}
 use Rattle.spec.specs.declared.Fault.{Fault}
 use Rattle.spec.specs.declared.Verdict.{Verdict}
@@ -28,7 +28,7 @@ use Rattle.checking.specs.Repairs.{FirstStep, first_step, first_with_step, is_no
 -- ---- what the check and mount say of an image
 
 -- 5 or 6
-pub data Unread : Refusal → Type 0 where
+pub data Unread : RefusalNumbers → Type 0 where
   five : Unread (numbered 5)
   six : Unread (numbered 6)
 
@@ -41,7 +41,7 @@ pub record First (image : Image) (r : Reading) (k : ℕ) : Type 0 where
 -- the four ways; `accepted` is what mount goes by: it refuses as that does, else it repairs that reading
 pub data Agree (image : Image) : Type 0 where
   bad_length : check image ≡ refuse (numbered 22) → accepted image ≡ refuse (numbered 22) → Agree image
-  broken : (rule : Rule) (a : ℕ) (x : Refusal) → check image ≡ give (Verdict.Broken rule a) → Unread x → accepted image ≡ refuse x
+  broken : (rule : Rule) (a : ℕ) (x : RefusalNumbers) → check image ≡ give (Verdict.Broken rule a) → Unread x → accepted image ≡ refuse x
       → Agree image
   settled : (r : Reading) → check image ≡ give Verdict.Settled → accepted image ≡ give r → First image r 0 → Agree image
   recovery : (r : Reading) (k : ℕ) → check image ≡ give (Verdict.Recovery (suc k)) → accepted image ≡ give r → First image r (suc k)
@@ -84,7 +84,7 @@ module _ (image : Image) (n : good_length (length image) ≡ true) where
   accepted_is = rw (accepted, n)
 
   -- no head
-  headless : (x : Refusal) → head image ≡ refuse x → Unread x → Agree image
+  headless : (x : RefusalNumbers) → head image ≡ refuse x → Unread x → Agree image
   unfolding verdict verdict_from reading
   headless x e u =
       let v : verdict image ≡ Verdict.Broken Rule.Head 0 = rw (verdict, e) in
@@ -103,12 +103,12 @@ module _ (image : Image) (n : good_length (length image) ≡ true) where
     unfolding reading judged r
     reading_is t l = rw (reading, e, judged, l)
 
-    fault_there : (rule : Rule) (a : ℕ) → first_fault image r ≡ Fault.At rule a → Agree image
+    fault_there : (x : Fault) → first_fault image r ≡ Some x → Agree image
     unfolding verdict_of
-    fault_there rule a f =
+    fault_there x f =
         let l : legal image r ≡ false = sym (clear_legal image r) ∙ ap clear f in
-        let v : verdict_of image r ≡ Verdict.Broken rule a = rw (verdict_of, f) in
-        broken rule a (numbered 5) (check_is ∙ ap give (verdict_is ∙ v)) five (accepted_is ∙ reading_is false l)
+        let v : verdict_of image r ≡ Verdict.Broken x.rule x.at = rw (verdict_of, f) in
+        broken x.rule x.at (numbered 5) (check_is ∙ ap give (verdict_is ∙ v)) five (accepted_is ∙ reading_is false l)
 
     first : {k : ℕ} → first_repair r ≡ k → First image r k
     first q =
@@ -118,7 +118,7 @@ module _ (image : Image) (n : good_length (length image) ≡ true) where
           idle = settled_number image r ∙ ap is_none q;
         }
 
-    no_fault : first_fault image r ≡ Fault.Nothing → (k : ℕ) → first_repair r ≡ k → Agree image
+    no_fault : first_fault image r ≡ None → (k : ℕ) → first_repair r ≡ k → Agree image
     unfolding verdict_of
     no_fault f zero q =
         let l : legal image r ≡ true = sym (clear_legal image r) ∙ ap clear f in
@@ -131,9 +131,9 @@ module _ (image : Image) (n : good_length (length image) ≡ true) where
 
     with_head : Agree image
     with_head = go (first_fault image r) refl where
-      go : (f : Fault) → first_fault image r ≡ f → Agree image
-      go Fault.Nothing q = no_fault q (first_repair r) refl
-      go (Fault.At rule a) q = fault_there rule a q
+      go : (f : Option Fault) → first_fault image r ≡ f → Agree image
+      go None q = no_fault q (first_repair r) refl
+      go (Some f) q = fault_there f q
 
   good : Agree image
   good = go (head image) refl (head_fit image) where

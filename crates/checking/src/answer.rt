@@ -3,18 +3,18 @@ ghost use Rattle.std.specs.Prelude.{◌≡◌};
 ghost use Rattle.spec.specs.Verdict.{verdict_told, verdict_numbers};
 ghost use Rattle.checking.specs.Checked.{checked_as, numbers, told_as};
 
+use crate::Told;
 use crate::check::rule_number;
-use crate::{Checked, Told};
-use spec::Verdict;
+use spec::{Refusal, Verdict};
 
 fn told(verdict: u32, number: u32, address: usize) -> Told
     ensures { told_as result ≡ numbers 0 verdict number address }
 {
     Told {
         answer: 0,
-        verdict: verdict,
-        number: number,
-        address: address,
+        verdict,
+        number,
+        address,
     }
 }
 
@@ -28,13 +28,14 @@ fn verdict_told(v: Verdict) -> Told
     }
 }
 
-pub fn checked_told(c: Checked) -> Told
+#[tactic(auto, unfolding(spec::specs::Verdict::verdict_numbers))]
+pub fn checked_told(c: Result<Verdict, Refusal>) -> Told
     ensures { told_as result ≡ verdict_numbers (checked_as c) }
 {
     match c {
-        Checked::Done(v) => verdict_told(v),
-        Checked::Refused(n) => Told {
-            answer: n,
+        Ok(v) => verdict_told(v),
+        Err(x) => Told {
+            answer: x.number(),
             verdict: 0,
             number: 0,
             address: 0,

@@ -12,14 +12,12 @@ use record::name::name_ok;
 use spec::Status;
 
 // Whether e has this status and this name.
+#[tactic(auto, unfolding(crate::specs::Called::is_called))]
 fn is_called(image: &[u8], status: Status, name: &[u8], e: Spot) -> bool
     requires { Whole image.now e }
     ensures { result ≡ is_called status.byte name.now (entry_of image.now e) }
 {
-    if named(image, status, e) {
-        return has_name(image, e, name);
-    }
-    false
+    named(image, status, e) && has_name(image, e, name)
 }
 
 // Whether a record from start on has them.
@@ -28,48 +26,36 @@ fn called(image: &[u8], start: Cursor, status: Status, name: &[u8]) -> bool
     ensures { result ≡ called status.byte (rest image.now start).entries name.now }
 {
     let mut c = start;
-    loop {
-        let s = advance(image, c);
-        let Item::Record { spot: e, next } = s else {
-            return false;
-        };
-        if is_called(image, status, name, e) {
+    while let Item::Record { spot, next } = advance(image, c) {
+        if is_called(image, status, name, spot) {
             return true;
         }
         c = next;
     }
+    false
 }
 
 // Whether a record of this status with this name, behind all records from start on, breaks a rule on names.
+#[tactic(auto, unfolding(crate::specs::Called::cut_wrong))]
 pub fn cut_wrong(image: &[u8], start: Cursor, status: u8, name: &[u8]) -> bool
     requires { CursorSound image.now start }
     ensures { result ≡ cut_wrong (rest image.now start).entries status name.now }
 {
-    if name.len() == 0 {
+    if name.is_empty() {
         return false;
     }
     if status == Status::COMMITTED.byte {
-        if called(image, start, Status::COMMITTED, name) {
-            return true;
-        }
-        return !name_ok(name);
+        return called(image, start, Status::COMMITTED, name) || !name_ok(name);
     }
-    if status == Status::MIGRATING.byte {
-        return migrating_wrong(image, start, name);
-    }
-    false
+    status == Status::MIGRATING.byte && migrating_wrong(image, start, name)
 }
 
 // The same of an F8 record.
+#[tactic(auto, unfolding(crate::specs::Called::migrating_wrong))]
 fn migrating_wrong(image: &[u8], start: Cursor, name: &[u8]) -> bool
     requires { CursorSound image.now start }
     ensures { result ≡ migrating_wrong (rest image.now start).entries name.now }
 {
-    if called(image, start, Status::MIGRATING, name) {
-        return true;
-    }
-    if called(image, start, Status::COMMITTED, name) {
-        return false;
-    }
-    !name_ok(name)
+    called(image, start, Status::MIGRATING, name)
+        || !called(image, start, Status::COMMITTED, name) && !name_ok(name)
 }

@@ -1,24 +1,24 @@
 // The check of any image, and its answer as numbers.
 ghost use Rattle.std.specs.Prelude.{◌≡◌};
-ghost use Rattle.spec.specs.Verdict.{rule_number, verdict_numbers, check};
+ghost use Rattle.spec.specs.Verdict.{rule_number, check};
 ghost use Rattle.checking.specs.Checked.{checked_as};
 
-use crate::Checked;
 use crate::verdict::verdict;
 use door::good_length;
-use spec::{Rule, Verdict};
+use spec::{Refusal, Rule, Verdict};
 
 // Any image may be handed in.
-pub fn check(image: &[u8]) -> Checked
+#[tactic(auto, unfolding(spec::specs::Verdict::check))]
+pub fn check(image: &[u8]) -> Result<Verdict, Refusal>
     ensures { checked_as result ≡ check image.now }
 {
     if good_length(image.len()) {
-        return Checked::Done(verdict(image));
+        return Ok(verdict(image));
     }
-    Checked::Refused(22)
+    Err(Refusal::BadLength)
 }
 
-// The rules in their order, from 1 on.
+// The rules in their order, from 1 on. Rule is another crate's, so an impl of From can't stand here.
 pub fn rule_number(rule: Rule) -> u32
     ensures { result ≡ rule_number rule }
 {

@@ -10,24 +10,51 @@ mod records;
 mod stop;
 mod verdict;
 
-use spec::Verdict;
+ghost use Rattle.std.specs.Prelude.{◌≡◌, ◌+◌, ◌<◌, length, take, drop};
+ghost use Rattle.checking.specs.Repairs.{repair_number};
 
 // The record at which the chain breaks off, if its header and its name are good: where it stands, and how long its name is.
 #[derive(Clone, Copy)]
 pub struct CutOff {
-    pub there: bool,
     pub at: usize,
     pub n: usize,
 }
 
-// What the check answers: the verdict, or the refusal's number.
-#[derive(Clone, Copy)]
-pub enum Checked {
-    Done(Verdict),
-    Refused(u32),
+impl CutOff {
+    fn name(self, image: &[u8]) -> &[u8]
+        requires { self.at + (8 + self.n) < length image.now }
+        ensures { result.now ≡ take self.n (drop 8 (drop self.at image.now)) }
+    {
+        let from = self.at + 8;
+        &image[from..from + self.n]
+    }
 }
 
-// The answer as numbers: 0 or 22; 0 settled, 1 recovery, 2 broken; the repair's number or the rule's; the address.
+// 01's four repairs, in its order: the free run behind a CLEAN head, a move that was cut, an unfinished last thing, an F8 file that an FC
+// one supersedes.
+#[derive(Clone, Copy)]
+pub enum Repair {
+    FreeRun,
+    Move,
+    LastThing,
+    Superseded,
+}
+
+impl Repair {
+    // 01's number.
+    fn number(self) -> u32
+        ensures { result ≡ repair_number self }
+    {
+        match self {
+            Repair::FreeRun => 1,
+            Repair::Move => 2,
+            Repair::LastThing => 3,
+            Repair::Superseded => 4,
+        }
+    }
+}
+
+// The answer as numbers, as C gets it: 0 or 22; 0 settled, 1 recovery, 2 broken; the repair's number or the rule's; the address.
 #[derive(Clone, Copy)]
 pub struct Told {
     pub answer: u32,

@@ -1,33 +1,23 @@
 // The place at which the chain breaks off: the rule that is broken there, and the record that stands there as far as it can be read.
-ghost use Rattle.std.specs.Prelude.{◌≡◌, false, ◌+◌, ◌≤◌, ◌<◌, length, drop};
+ghost use Rattle.std.specs.Prelude.{◌≡◌, false, ◌+◌, ◌≤◌, ◌<◌, drop};
 ghost use Rattle.spec.specs.Bytes.{is_spare};
 ghost use Rattle.spec.specs.Record.{spare_of};
-ghost use Rattle.spec.specs.Reading.{limit, whole};
+ghost use Rattle.spec.specs.Reading.{limit};
 ghost use Rattle.spec.specs.Fault.{stands, stands_behind, spare_fault, torn_fault, reserved_fault, finished_fault, shape, name_here};
 ghost use Rattle.spec.specs.Fault.{shape_fault, is_cut_off, cut_off};
 ghost use Rattle.laws.specs.Length.{Addable};
 ghost use Rattle.chain.specs.FreeLaws.{InImage};
 ghost use Rattle.reading.specs.Read.{reading_of, Surveyed};
-ghost use Rattle.checking.specs.Stop.{EndsInside, marker_fault, is_plain, cut_there, cut_list, CutInside};
+ghost use Rattle.checking.specs.Stop.{EndsInside, cut_there, cut_list, CutInside};
 
 use crate::CutOff;
 use chain::head::byte;
 use reading::Survey;
+use reading::rules::whole;
 use record::data_len;
 use record::kind::kind_of;
 use record::name::name_len;
-use spec::{Ending, Kind, Place, Rule, Status, floor};
-
-// Whether the chain ends as it may.
-pub fn is_whole(ending: Ending) -> bool
-    ensures { result ≡ whole ending }
-{
-    match ending {
-        Ending::Tail => true,
-        Ending::TornWrap { .. } => true,
-        Ending::Broken => false,
-    }
-}
+use spec::{Kind, Place, Rule, Status, floor};
 
 // The kind of what stands at this address, its reserved byte left aside.
 fn shape(image: &[u8], at: usize) -> Kind
@@ -43,6 +33,7 @@ fn shape(image: &[u8], at: usize) -> Kind
 }
 
 // Whether its reserved byte is FF.
+#[tactic(auto, unfolding(spec::specs::Bytes::is_spare))]
 fn is_spare(image: &[u8], at: usize) -> bool
     requires { Addable at }
     ensures { result ≡ is_spare (spare_of (drop at image.now)) }
@@ -63,13 +54,12 @@ fn name_here(image: &[u8], at: usize, reserved: bool) -> usize
 }
 
 // Whether something stands at the front of the part.
+#[tactic(auto, unfolding(spec::specs::Fault::stands))]
 fn stands(part: &[u8]) -> bool
     ensures { result ≡ stands part.now }
 {
-    if part.len() < 8 {
-        return !flash::is_blank(part);
-    }
-    !flash::is_blank(&part[..8])
+    let n = part.len().min(8);
+    !flash::is_blank(&part[..n])
 }
 
 // Whether something stands so many bytes behind the tail, in its stretch or, at the end of it, at 0.
@@ -82,10 +72,7 @@ fn stands_behind(image: &[u8], p: Place, size: usize) -> bool
     if from < l {
         return stands(&image[from..l]);
     }
-    if p.turned {
-        return false;
-    }
-    if floor(p.head) == 0 {
+    if p.turned || floor(p.head) == 0 {
         return false;
     }
     stands(image)
@@ -97,16 +84,13 @@ fn spare_fault(image: &[u8], p: Place, size: usize) -> Rule
     ensures { result ≡ spare_fault image.now p size }
 {
     let l = p.limit();
-    if p.tail <= l {
-        if size <= l - p.tail {
-            if stands_behind(image, p, size) {
-                return Rule::Unfinished;
-            }
-        }
+    if p.tail <= l && size <= l - p.tail && stands_behind(image, p, size) {
+        return Rule::Unfinished;
     }
     Rule::Header
 }
 
+#[tactic(auto, unfolding(spec::specs::Fault::torn_fault))]
 fn torn_fault(image: &[u8], p: Place, spare: bool) -> Rule
     requires { InImage image.now p }
     ensures { result ≡ torn_fault image.now p spare }
@@ -118,124 +102,81 @@ fn torn_fault(image: &[u8], p: Place, spare: bool) -> Rule
 }
 
 // Of a reserved record, whose name has n bytes.
+#[tactic(auto, unfolding(spec::specs::Fault::reserved_fault))]
 fn reserved_fault(image: &[u8], p: Place, spare: bool, n: usize) -> Rule
     requires { InImage image.now p × EndsInside image.now p.tail n }
     ensures { result ≡ reserved_fault image.now p spare n }
 {
-    if n < 64 {
-        if spare {
-            return Rule::End;
-        }
-        let at = p.tail;
-        let d = data_len(&image[at..]);
-        return spare_fault(image, p, record::size(n, d));
+    if 64 <= n {
+        return Rule::Unfinished;
     }
-    Rule::Unfinished
+    if spare {
+        return Rule::End;
+    }
+    let at = p.tail;
+    let d = data_len(&image[at..]);
+    spare_fault(image, p, record::size(n, d))
 }
 
+#[tactic(auto, unfolding(spec::specs::Fault::finished_fault))]
 fn finished_fault(spare: bool, n: usize) -> Rule
     ensures { result ≡ finished_fault spare n }
 {
-    if spare {
-        if n < 64 {
-            return Rule::End;
-        }
-        return Rule::Name;
+    if !spare {
+        Rule::Header
+    } else if n < 64 {
+        Rule::End
+    } else {
+        Rule::Name
     }
-    Rule::Header
-}
-
-fn marker_fault(spare: bool) -> Rule
-    ensures { result ≡ marker_fault spare }
-{
-    if spare {
-        return Rule::Mark;
-    }
-    Rule::Header
 }
 
 // The rule that is broken at the tail.
+#[tactic(auto, unfolding(spec::specs::Fault::shape_fault))]
 pub fn shape_fault(image: &[u8], p: Place) -> Rule
     requires { InImage image.now p }
     ensures { let w = drop p.tail image.now in result ≡ shape_fault image.now p w (shape w) }
 {
     let at = p.tail;
     let spare = is_spare(image, at);
-    let k = shape(image, at);
-    match k {
+    match shape(image, at) {
         Kind::Record => finished_fault(spare, name_here(image, at, false)),
         Kind::Reserved => reserved_fault(image, p, spare, name_here(image, at, true)),
         Kind::Torn => torn_fault(image, p, spare),
-        Kind::Marker => marker_fault(spare),
+        Kind::Marker if spare => Rule::Mark,
         Kind::TornMarker => Rule::Unfinished,
-        Kind::Clear => Rule::Header,
-        Kind::Bad => Rule::Header,
-    }
-}
-
-fn is_plain(k: Kind) -> bool
-    ensures { result ≡ is_plain k }
-{
-    match k {
-        Kind::Record => true,
-        Kind::Reserved => false,
-        Kind::Torn => false,
-        Kind::Marker => false,
-        Kind::TornMarker => false,
-        Kind::Clear => false,
-        Kind::Bad => false,
+        Kind::Marker | Kind::Clear | Kind::Bad => Rule::Header,
     }
 }
 
 // Whether a record stands at this address whose header and name, of n bytes, are good.
+#[tactic(auto, unfolding(spec::specs::Fault::is_cut_off))]
 fn is_cut_off(image: &[u8], at: usize, n: usize) -> bool
     requires { Addable at × (n ≡ name_here false (drop at image.now)) }
     ensures { result ≡ is_cut_off (drop at image.now) }
 {
-    if is_plain(shape(image, at)) {
-        if is_spare(image, at) {
-            return n < 64;
-        }
-    }
-    false
+    matches!(shape(image, at), Kind::Record) && is_spare(image, at) && n < 64
 }
 
-fn cut_off_at(image: &[u8], at: usize) -> CutOff
+fn cut_off_at(image: &[u8], at: usize) -> Option<CutOff>
     requires { Addable at }
     ensures { (cut_list image.now result ≡ cut_there image.now at) × CutInside image.now result }
 {
     let n = name_here(image, at, false);
-    CutOff {
-        there: is_cut_off(image, at, n),
-        at: at,
-        n: n,
+    if is_cut_off(image, at, n) {
+        return Some(CutOff { at, n });
     }
-}
-
-fn none_cut_off() -> CutOff
-    ensures { result ≡ record { there = false; at = 0; n = 0 } }
-{
-    CutOff {
-        there: false,
-        at: 0,
-        n: 0,
-    }
+    None
 }
 
 // The record at which the chain breaks off, as far as it can be read.
-pub fn cut_off(image: &[u8], s: Survey) -> CutOff
+pub fn cut_off(image: &[u8], s: Survey) -> Option<CutOff>
     requires { Surveyed image.now s }
     ensures { (cut_list image.now result ≡ cut_off image.now (reading_of image.now s))
         × CutInside image.now result }
 {
-    let t = s.tally;
-    let p = s.place;
-    let ending = s.ending;
-    if is_whole(ending) {
-        return none_cut_off();
+    if whole(s.ending) || s.tally.pending {
+        return None;
     }
-    if t.pending {
-        return none_cut_off();
-    }
-    cut_off_at(image, p.tail)
+    cut_off_at(image, s.place.tail)
 }

@@ -1,7 +1,14 @@
 -- The hash of a name. Nothing is proved of it but that a name has one, below 2^32: no answer depends on how well it spreads.
-use Rattle.std.specs.Prelude.{ℕ, zero, suc, ◌+◌, ◌-◌, ◌*◌, ◌/◌, ◌%◌, ◌≤◌, ◌<◌, ◌^◌, ◌≡◌, List, ◌∷◌, length, take, drop, get_or}
-use Rattle.std.proofs.Common.{arith, pow-suc, sym, ap, ◌∙◌, drop-drop}
-use Rattle.laws.specs.Parts.{drop_next}
+use Rattle.std.specs.Prelude.{ℕ, zero, suc, ◌+◌, ◌-◌, ◌*◌, ◌/◌, ◌%◌, ◌≤◌, ◌<◌, ◌^◌, ◌≡◌, refl, List, [], ◌∷◌, length, take, drop, get_or, reverse}
+use Rattle.std.proofs.Common.{arith, pow-suc, sym, ap, ◌∙◌, drop-drop, take_all, length-drop, length-take-le}
+use Rattle.std.specs.Int.{from_le_bytes, w64}
+use Rattle.std.specs.Int.Bits.{bit_or}
+use Rattle.std.specs.List.{fold}
+use Rattle.std.specs.Simd.{first_chunks}
+use Rattle.std.proofs.lemmas.Nat.{or_shifted}
+use Rattle.std.proofs.lemmas.List.{reverse-append}
+use Rattle.std.proofs.lemmas.List.Sums.{fold-append}
+use Rattle.flash.specs.Words.{eight_at, eight_is}
 use Rattle.record.specs.Digits.{number}
 use Rattle.record.specs.Filled.{shifted}
 
@@ -71,42 +78,47 @@ hashed_all s i h p l =
     let n : (length s - i) / 8 ≡ 0 = omega arith in
     sym (p.whole ∙ ap (λ (j : ℕ). hash_words j h (drop i s) % 0x1_0000_0000) n)
 
--- ---- the first k bytes of a name, from the last of them down
+-- ---- fewer than eight bytes, from the last of them down: each is pushed in below those before it
 
-pub record Joined (s : List ℕ) (k i w : ℕ) : Type 0 where
-  pub inside : i ≤ k
-  pub value : w ≡ number (take (k - i) (drop i s))
-  pub small : w < 256 ^ (k - i)
+abbrev pub pushed : ℕ → ℕ → ℕ
+pushed w b = bit_or (w * 2 ^ 8 % 2 ^ 64) b
 
-pub joined_none : (s : List ℕ) (k : ℕ) → Joined s k k 0
+pub pushed_all : (s : List ℕ) → ((i : ℕ) → get_or s i 0 < 256) → length s < 8
+    → (fold pushed 0 (reverse s) ≡ number s) × (number s < 256 ^ length s)
 unfolding number
-joined_none s k =
-    let e : k - k ≡ 0 = omega arith in
-    record { inside = omega arith; value = ap (λ (n : ℕ). number (take n (drop k s))) (sym e); small = rw e (omega arith) }
+pushed_all [] b l = (refl, omega arith)
+pushed_all (x ∷ s) b l =
+    let n : ℕ = number s in
+    let ih = pushed_all s (λ i. b (suc i)) (omega arith) in
+    let low : x < 2 ^ 8 = b 0 in
+    let m : 256 ^ suc (length s) ≡ 256 ^ length s * 256 = pow-suc 256 (length s) in
+    let fits = shifted (length s) (omega arith) in
+    let whole : n * 2 ^ 8 % 2 ^ 64 ≡ n * 2 ^ 8 = omega (arith, ih.1, fits.0, fits.2) in (
+      ap (fold pushed 0) (reverse-append (x ∷ []) s) ∙ fold-append pushed 0 (reverse s) (x ∷ [])
+          ∙ ap (λ (w : ℕ). pushed w x) ih.0 ∙ ap (λ (w : ℕ). bit_or w x) whole ∙ or_shifted n 8 x low ∙ omega arith,
+      rw m (omega (arith, ih.1)),
+    )
 
--- one byte more
-pub joined_next : (s : List ℕ) (k i j w b : ℕ) → Joined s k i w → k ≤ length s → i ≡ suc j → b ≡ get_or s j 0 → b < 256
-    → Joined s k j (w * 256 + b)
+-- ---- a list's words behind its first k bytes
+
+chunk_at : (n j : ℕ) (s : List ℕ) → j < n → get_or (first_chunks 8 n s) j [] ≡ take 8 (drop (j * 8) s)
+chunk_at zero j s h = absurd (omega arith)
+chunk_at (suc n) zero s h = refl
+chunk_at (suc n) (suc j) s h =
+    let e : 8 + j * 8 ≡ suc j * 8 = omega arith in
+    chunk_at n j (drop 8 s) (omega arith) ∙ ap (take 8) (drop-drop (j * 8) 8 s ∙ ap (λ (i : ℕ). drop i s) e)
+
+number_8 : (s : List ℕ) → length s ≡ 8 → from_le_bytes w64 s ≡ number s
 unfolding number
-joined_next s k i j w b p l e q h =
-    let v = p.inside in
-    let n : k - j ≡ suc (k - i) = omega (arith, v) in
-    let m : 256 ^ suc (k - i) ≡ 256 ^ (k - i) * 256 = pow-suc 256 (k - i) in
-    let f : j + 1 ≡ i = omega arith in
-    let d : drop j s ≡ get_or s j 0 ∷ drop i s = drop_next s j (omega (arith, v)) ∙ ap (λ (x : ℕ). get_or s j 0 ∷ drop x s) f in
-    let r : number (take (k - j) (drop j s)) ≡ get_or s j 0 + 256 * number (take (k - i) (drop i s)) =
-    ap (λ (x : ℕ). number (take x (drop j s))) n ∙ ap (λ (t : List ℕ). number (take (suc (k - i)) t)) d in
-    record { inside = omega (arith, v); value = omega (arith, r, p.value, q); small = rw (n, m) (omega (arith, p.small)) }
+number_8 s l =
+    let e : take 8 s ≡ eight_at s 0 = eight_is s 0 (omega arith) in
+    let n : from_le_bytes w64 s ≡ number (eight_at s 0) = omega arith in
+    n ∙ ap number (sym e ∙ take_all 8 s (omega arith))
 
--- it fits
-pub joined_fits : (s : List ℕ) (k i w : ℕ) → Joined s k i w → k < 8 → 0 < i → w * 256 + 256 ≤ 2 ^ 56
-joined_fits s k i w p l h =
-    let v = p.inside in
-    let m : 256 ^ suc (k - i) ≡ 256 ^ (k - i) * 256 = pow-suc 256 (k - i) in
-    let x = shifted (suc (k - i)) (omega (arith, v)) in
-    omega (arith, p.small, m, x.0, x.2)
-
-pub joined_all : (s : List ℕ) (k i w : ℕ) → Joined s k i w → i ≡ 0 → w ≡ number (take k s)
-joined_all s k i w p e =
-    let n : k - i ≡ k = omega arith in
-    p.value ∙ ap (λ (x : ℕ). number (take x (drop i s))) n ∙ ap (λ (x : ℕ). number (take k (drop x s))) e
+-- the word at index j, as one number
+pub chunk_number : (s : List ℕ) (k n j : ℕ) → j < n → k + n * 8 ≡ length s
+    → from_le_bytes w64 (get_or (first_chunks 8 n (drop k s)) j []) ≡ number (take 8 (drop (k + j * 8) s))
+chunk_number s k n j h l =
+    let t : List ℕ = take 8 (drop (k + j * 8) s) in
+    let e : get_or (first_chunks 8 n (drop k s)) j [] ≡ t = chunk_at n j (drop k s) h ∙ ap (take 8) (drop-drop (j * 8) k s) in
+    ap (from_le_bytes w64) e ∙ number_8 t (length-take-le 8 (drop (k + j * 8) s) (rw length-drop (omega arith)))

@@ -1,6 +1,7 @@
 -- A name's bytes, word by word: whether all of them may stand in one, and the hash of all.
 use Rattle.std.specs.Prelude.{ℕ, ◌+◌, ◌%◌, ◌≤◌, ◌<◌, ◌^◌, min, ◌≡◌, refl, Bool, true, false, ◌&&◌, not, List, [], ◌∷◌, length, take, drop, get_or}
 use Rattle.std.proofs.Common.{arith, sym, ap, ap₂, subst, ◌∙◌, length-take, take-append-drop, drop_of_length-le, take-take, drop-drop, le-leb, eq-eqb, ne_eqb}
+use Rattle.std.proofs.Math.Bool.{and-true, and_assoc}
 use Rattle.spec.specs.Basics.{all}
 use Rattle.spec.specs.Bytes.{is_space}
 use Rattle.spec.specs.Record.{ends_in_slash, name_ok}
@@ -10,7 +11,8 @@ use Rattle.laws.specs.Spaces.{is_readable, ends_in_space, all_good}
 use Rattle.filter.specs.declared.NameMarks.{NameMarks}
 use Rattle.filter.specs.declared.Looked.{Looked}
 use Rattle.filter.specs.Hash.{mixed, name_hash, Hashed, hashed_first, hashed_next, hashed_all}
-use Rattle.record.specs.Digits.{number}
+use Rattle.flash.specs.Words.{eight_at, eight_is}
+use Rattle.record.specs.Digits.{number, digits, digits_number}
 use Rattle.record.specs.Filled.{all_append}
 
 -- whether the name is a good one, and its hash
@@ -24,13 +26,13 @@ pub record LookedAt (s : List ℕ) (i : ℕ) (x : Looked) : Type 0 where
   pub hashed : Hashed s i x.hash
   pub readable : all is_readable s ≡ (x.readable && all is_readable (drop i s))
 
-and_join : (a b c : Bool) → (a && (b && c)) ≡ ((a && b) && c)
-and_join true b c = refl
-and_join false b c = refl
-
-and_true : (a : Bool) → (a && true) ≡ a
-and_true true = refl
-and_true false = refl
+-- a word's bytes
+digits_at : (s : List ℕ) (i : ℕ) → ((j : ℕ) → get_or s j 0 < 256) → i + 8 ≤ length s
+    → digits 8 (number (take 8 (drop i s))) ≡ take 8 (drop i s)
+digits_at s i b l =
+    let e : take 8 (drop i s) ≡ eight_at s i = eight_is s i l in
+    rw e
+    (digits_number (eight_at s i) (b i, (b (i + 1), (b (i + 2), (b (i + 3), (b (i + 4), (b (i + 5), (b (i + 6), (b (i + 7), tt)))))))))
 
 -- the part's first n bytes
 module _ (part : List ℕ) (n : ℕ) (l : n ≤ length part) where
@@ -57,23 +59,23 @@ module _ (part : List ℕ) (n : ℕ) (l : n ≤ length part) where
   pub looked_inside : (i : ℕ) (x : Looked) → LookedAt (take n part) i x → i < n → i + 8 ≤ n
   looked_inside i x p m = omega (arith, p.hashed.even, size)
 
-  pub looked_next : (i : ℕ) (x y : Looked) → LookedAt (take n part) i x → i < n
-      → (y.hash ≡ mixed x.hash (number (take 8 (drop i part)))) × (y.hash < 2 ^ 33)
-      × (y.readable ≡ (x.readable && all is_readable (take 8 (drop i part))))
+  pub looked_next : ((j : ℕ) → get_or part j 0 < 256) → (i w : ℕ) (x y : Looked) → LookedAt (take n part) i x → i < n
+      → w ≡ number (take 8 (drop i (take n part)))
+      → (y.hash ≡ mixed x.hash w) × (y.hash < 2 ^ 33) × (y.readable ≡ (x.readable && all is_readable (digits 8 w)))
       → LookedAt (take n part) (i + 8) y
-  looked_next i x y p m h =
-      let t : take 8 (drop i name) ≡ take 8 (drop i part) = part_first i 8 n part (looked_inside i x p m) in
+  looked_next b i w x y p m e h =
+      let inside : i + 8 ≤ n = looked_inside i x p m in
+      let t : take 8 (drop i name) ≡ take 8 (drop i part) = part_first i 8 n part inside in
+      let d : digits 8 w ≡ take 8 (drop i name) = ap (digits 8) (e ∙ ap number t) ∙ digits_at part i b (omega arith) ∙ sym t in
       record {
-        hashed =
-            hashed_next name i x.hash y.hash p.hashed (omega (arith, size))
-            (h.0 ∙ ap (λ (s : List ℕ). mixed x.hash (number s)) (sym t)) h.1;
+        hashed = hashed_next name i x.hash y.hash p.hashed (omega (arith, size)) (h.0 ∙ ap (mixed x.hash) e) h.1;
         readable =
             p.readable
             ∙ ap (λ (s : List ℕ). x.readable && all is_readable s) (sym (take-append-drop 8 (drop i name)))
-            ∙ ap (λ (b : Bool). x.readable && b) (all_append is_readable (take 8 (drop i name)) (drop 8 (drop i name)))
-            ∙ and_join x.readable (all is_readable (take 8 (drop i name))) (all is_readable (drop 8 (drop i name)))
-            ∙ ap (λ (s : List ℕ). (x.readable && all is_readable s) && all is_readable (drop 8 (drop i name))) t
-            ∙ ap (λ (b : Bool). b && all is_readable (drop 8 (drop i name))) (sym h.2)
+            ∙ ap (λ (t : Bool). x.readable && t) (all_append is_readable (take 8 (drop i name)) (drop 8 (drop i name)))
+            ∙ sym (and_assoc x.readable (all is_readable (take 8 (drop i name))) (all is_readable (drop 8 (drop i name))))
+            ∙ ap (λ (s : List ℕ). (x.readable && all is_readable s) && all is_readable (drop 8 (drop i name))) (sym d)
+            ∙ ap (λ (t : Bool). t && all is_readable (drop 8 (drop i name))) (sym h.2)
             ∙ ap (λ (s : List ℕ). y.readable && all is_readable s) (drop-drop 8 i name);
       }
 
@@ -86,7 +88,7 @@ module _ (part : List ℕ) (n : ℕ) (l : n ≤ length part) where
   pub told_readable : (x : Looked) → LookedAt (take n part) n x → x.readable ≡ all is_readable (take n part)
   told_readable x p =
       let e : drop n name ≡ [] = drop_of_length-le name {i = n} (omega (arith, size)) in
-      sym (p.readable ∙ ap (λ (s : List ℕ). x.readable && all is_readable s) e ∙ and_true x.readable)
+      sym (p.readable ∙ ap (λ (s : List ℕ). x.readable && all is_readable s) e ∙ and-true x.readable)
 
   pub told_hash : (x : Looked) → LookedAt (take n part) n x → x.hash % 0x1_0000_0000 ≡ name_hash (take n part)
   told_hash x p = hashed_all name n x.hash p.hashed (omega (arith, size))
@@ -97,10 +99,6 @@ fine_ends [] = false
 fine_ends (b ∷ s) = not (is_space b) && (not (ends_in_space (b ∷ s)) && not (ends_in_slash (b ∷ s)))
 
 -- by its tests
-pub fine_none : (n : List ℕ) → length n ≡ 0 → false ≡ fine_ends n
-fine_none [] h = refl
-fine_none (b ∷ s) h = absurd (omega arith)
-
 pub fine_space : (n : List ℕ) → 0 < length n → get_or n 0 0 ≡ 0x20 → false ≡ fine_ends n
 unfolding is_space
 fine_space [] h e = absurd (omega arith)

@@ -1,18 +1,10 @@
 // The hash of a name: of the bytes that make no whole word, which come first, and then of word after word.
-ghost use Rattle.std.specs.Prelude.{◌≡◌, ◌≤◌, ◌<◌, ◌^◌, length, take};
+ghost use Rattle.std.specs.Prelude.{◌≡◌, ◌<◌, ◌^◌, length};
 ghost use Rattle.record.specs.Digits.{number};
 ghost use Rattle.filter.specs.Hash.{folded, mixed, name_hash};
 
-use record::words::word_at;
-
 // No name has this hash or a higher one.
 pub const HASH_LIMIT: u64 = 0x1_0000_0000;
-
-fn wide(x: u8) -> u64
-    ensures { (result ≡ x) × (result < 256) }
-{
-    x as u64
-}
 
 // Both halves, added.
 fn folded(y: u64) -> u64
@@ -30,29 +22,21 @@ pub fn mixed(h: u64, w: u64) -> u64
     folded((w % HASH_LIMIT + h) * 0x1656_67B1 + w / HASH_LIMIT * 0x27D4_EB2F)
 }
 
-// The first k bytes as one number, from the last of them down.
-fn front(name: &[u8], k: usize) -> u64
-    requires { (k < 8) × (k ≤ length name.now) }
-    ensures { result ≡ number (take k name.now) }
+// Fewer than eight bytes as one number, the first the lowest.
+fn joined(bytes: &[u8]) -> u64
+    requires { length bytes.now < 8 }
+    ensures { result ≡ number bytes.now }
 {
-    let mut w = 0;
-    let mut i = k;
-    while 0 < i {
-        i -= 1;
-        w = w * 256 + wide(name[i]);
-    }
-    w
+    bytes.iter().rev().fold(0, |w, &b| w << 8 | u64::from(b))
 }
 
 pub fn hash(name: &[u8]) -> u64
     ensures { (result ≡ name_hash name.now) × (result < 2 ^ 32) }
 {
-    let k = name.len() % 8;
-    let mut h = mixed(0, front(name, k));
-    let mut i = k;
-    while i < name.len() {
-        h = mixed(h, word_at(name, i));
-        i += 8;
+    let (front, words) = name.as_rchunks::<8>();
+    let mut h = mixed(0, joined(front));
+    for word in words {
+        h = mixed(h, u64::from_le_bytes(*word));
     }
     h % HASH_LIMIT
 }

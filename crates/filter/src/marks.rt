@@ -1,9 +1,8 @@
 // A file's name in one pass over its words: whether it is a good one, and its hash.
-ghost use Rattle.std.specs.Prelude.{◌≡◌, ◌&&◌, not, ◌+◌, ◌≤◌, ◌<◌, ◌^◌, length, take, drop};
+ghost use Rattle.std.specs.Prelude.{◌≡◌, ◌&&◌, ◌≤◌, ◌<◌, ◌^◌, length, take};
 ghost use Rattle.spec.specs.Basics.{all};
-ghost use Rattle.spec.specs.Record.{ends_in_slash};
-ghost use Rattle.record.specs.Digits.{number};
-ghost use Rattle.laws.specs.Spaces.{is_readable, ends_in_space};
+ghost use Rattle.record.specs.Digits.{number, digits};
+ghost use Rattle.laws.specs.Spaces.{is_readable};
 ghost use Rattle.filter.specs.Hash.{mixed};
 ghost use Rattle.filter.specs.Marks.{fine_ends, MarkedAs, LookedAt};
 
@@ -11,35 +10,14 @@ use crate::hash::{HASH_LIMIT, mixed};
 use crate::{Looked, NameMarks};
 use record::words::{all_readable, filled, low_bytes, word_at};
 
-pub fn both(a: bool, b: bool) -> bool
-    ensures { result ≡ (a && b) }
-{
-    if a {
-        return b;
-    }
-    false
-}
-
-// The last byte is neither a space nor '/'.
-fn last_fine(name: &[u8]) -> bool
-    requires { 0 < length name.now }
-    ensures { result ≡ (not (ends_in_space name.now) && not (ends_in_slash name.now)) }
-{
-    let last = name.len() - 1;
-    name[last] != b' ' && name[last] != b'/'
-}
-
-// There is a first byte, and it is no space; and the last is fine.
+// There is a first byte, and it is no space; and the last is neither a space nor '/'.
 fn ends_fine(name: &[u8]) -> bool
     ensures { result ≡ fine_ends name.now }
 {
-    if name.len() == 0 {
-        return false;
+    match name {
+        [] | [b' ', ..] => false,
+        [.., last] => *last != b' ' && *last != b'/',
     }
-    if name[0] == b' ' {
-        return false;
-    }
-    last_fine(name)
 }
 
 // The first k bytes, which make no whole word.
@@ -49,24 +27,23 @@ fn look(part: &[u8], k: usize) -> Looked
         × (result.readable ≡ all is_readable (take k part.now)) }
 {
     let w = low_bytes(word_at(part, 0), k);
-    let readable = all_readable(filled(w, k));
     Looked {
         hash: mixed(0, w),
-        readable: readable,
+        readable: all_readable(filled(w, k)),
     }
 }
 
-// With the word from i on.
-fn look_on(part: &[u8], i: usize, x: Looked) -> Looked
-    requires { (i + 8 ≤ length part.now) × (x.hash < 2 ^ 33) }
-    ensures { (result.hash ≡ mixed x.hash (number (take 8 (drop i part.now)))) × (result.hash < 2 ^ 33)
-        × (result.readable ≡ (x.readable && all is_readable (take 8 (drop i part.now)))) }
-{
-    let w = word_at(part, i);
-    let readable = both(x.readable, all_readable(w));
-    Looked {
-        hash: mixed(x.hash, w),
-        readable: readable,
+impl Looked {
+    // With one word more. `&` and not `&&`, here and below: no branch hangs on what the bytes are.
+    fn with(self, w: u64) -> Looked
+        requires { self.hash < 2 ^ 33 }
+        ensures { (result.hash ≡ mixed self.hash w) × (result.hash < 2 ^ 33)
+            × (result.readable ≡ (self.readable && all is_readable (digits 8 w))) }
+    {
+        Looked {
+            hash: mixed(self.hash, w),
+            readable: self.readable & all_readable(w),
+        }
     }
 }
 
@@ -75,12 +52,10 @@ fn look_all(part: &[u8], n: usize) -> Looked
     requires { (n ≤ length part.now) × (8 ≤ length part.now) }
     ensures { LookedAt (take n part.now) n result }
 {
-    let k = n % 8;
-    let mut x = look(part, k);
-    let mut i = k;
-    while i < n {
-        x = look_on(part, i, x);
-        i += 8;
+    let (front, words) = part[..n].as_rchunks::<8>();
+    let mut x = look(part, front.len());
+    for word in words {
+        x = x.with(u64::from_le_bytes(*word));
     }
     x
 }
@@ -91,9 +66,8 @@ pub fn marks(part: &[u8], n: usize) -> NameMarks
     ensures { MarkedAs (take n part.now) result }
 {
     let x = look_all(part, n);
-    let fine = both(x.readable, ends_fine(&part[..n]));
     NameMarks {
-        fine: fine,
+        fine: x.readable & ends_fine(&part[..n]),
         hash: x.hash % HASH_LIMIT,
     }
 }

@@ -7,18 +7,11 @@ use crate::Signature;
 // The words of the table, 4 KiB. Of 2,048 names one is taken for added before that was not, three times in ten.
 pub const WORDS: usize = 512;
 
-fn bit(k: u64) -> u64
-    requires { k < 64 }
-    ensures { result ≡ 2 ^ k }
-{
-    1 << k
-}
-
 // Up to three bits, each chosen by six bits of z.
 fn three_bits(z: u64) -> u64
     ensures { result ≡ three_bits z }
 {
-    bit(z / 0x8000_0000 % 64) | bit(z / 0x200_0000 % 64) | bit(z / 0x8_0000 % 64)
+    1 << (z / 0x8000_0000 % 64) | 1 << (z / 0x200_0000 % 64) | 1 << (z / 0x8_0000 % 64)
 }
 
 // The words of a name with this hash, and the bits that it sets there. One product tells: nine of its bits choose a word, six a bit.
@@ -27,15 +20,11 @@ pub fn signature_by(h: u64) -> Signature
     ensures { (result ≡ signature_by h) × InTable result }
 {
     let z = h * 0xC2B2_AE3D;
-    let bits = three_bits(z);
-    let first = z / 0x80_0000_0000_0000;
-    let second = z / 0x4000_0000_0000 % 512;
-    let third = z / 0x20_0000_0000 % 512;
     Signature {
-        bits: bits,
-        first: first as usize,
-        second: second as usize,
-        third: third as usize,
+        bits: three_bits(z),
+        first: (z / 0x80_0000_0000_0000) as usize,
+        second: (z / 0x4000_0000_0000 % 512) as usize,
+        third: (z / 0x20_0000_0000 % 512) as usize,
     }
 }
 
@@ -44,19 +33,11 @@ pub fn add(table: &mut [u64; WORDS], s: Signature) -> bool
     requires { InTable s }
     ensures { (result ≡ has table.old s) × (table.new ≡ with table.old s) }
 {
-    let a = s.first;
-    let b = s.second;
-    let c = s.third;
-    let x = table[a];
-    let y = table[b];
-    let z = table[c];
-    table[a] = x | s.bits;
-    table[b] = table[b] | s.bits;
-    table[c] = table[c] | s.bits;
-    if x & s.bits == s.bits {
-        if y & s.bits == s.bits {
-            return z & s.bits == s.bits;
-        }
-    }
-    false
+    let x = table[s.first];
+    let y = table[s.second];
+    let z = table[s.third];
+    table[s.first] |= s.bits;
+    table[s.second] |= s.bits;
+    table[s.third] |= s.bits;
+    x & s.bits == s.bits && y & s.bits == s.bits && z & s.bits == s.bits
 }

@@ -2,13 +2,13 @@
 // program and erase are the only two functions that write an image.
 #![tactic(auto)]
 
-ghost use Rattle.std.specs.Prelude.{◌≡◌, [], ◌∷◌, map, ◌+◌, ◌<◌, ◌≤◌, length, eqb};
+ghost use Rattle.std.specs.Prelude.{◌≡◌, [], ◌∷◌, map, ◌+◌, ◌%◌, ◌<◌, ◌≤◌, length};
 ghost use Rattle.spec.specs.Step.{Step, bytes_at};
 ghost use Rattle.spec.specs.Geometry.{sectors};
 ghost use Rattle.spec.specs.Basics.{blank};
 ghost use Rattle.laws.specs.Length.{InRange};
 ghost use Rattle.flash.specs.Did.{Did};
-ghost use Rattle.flash.specs.Words.{word, Tells, ByLines, ByWords, RunOf};
+ghost use Rattle.flash.specs.Words.{ByLines, ByWords, RunOf};
 ghost use Rattle.flash.specs.Meters.{CanCount, AskedMost};
 
 use spec::SECTOR;
@@ -27,8 +27,8 @@ impl Meter {
         ensures { (result.asked ≡ self.asked + 1) × (result.allowance ≡ self.allowance) }
     {
         Meter {
-            allowance: self.allowance,
             asked: self.asked + 1,
+            ..self
         }
     }
 }
@@ -40,7 +40,6 @@ pub fn program(image: &mut [u8], at: usize, byte: u8, m: Meter) -> Meter
 {
     if m.asked < m.allowance {
         image[at] = byte;
-        return m.counted();
     }
     m.counted()
 }
@@ -59,13 +58,8 @@ pub fn erase(image: &mut [u8], at: usize, m: Meter) -> Meter
     requires { (at + 4096 ≤ length image.old) × CanCount m 1 }
     ensures { Did image.old m (Step.erase at ∷ []) image.new result }
 {
-    if m.allowance <= m.asked {
-        return m.counted();
-    }
-    let mut i = 0;
-    while i < SECTOR {
-        image[at + i] = 0xFF;
-        i += 1;
+    if m.asked < m.allowance {
+        image[at..at + SECTOR].fill(0xFF);
     }
     m.counted()
 }
@@ -76,10 +70,8 @@ pub fn program_bytes(image: &mut [u8], at: usize, bytes: &[u8], m: Meter) -> Met
     ensures { Did image.old m (bytes_at at bytes.now) image.new result }
 {
     let mut q = m;
-    let mut i = 0;
-    while i < bytes.len() {
-        q = program(image, at + i, bytes[i], q);
-        i += 1;
+    for (i, &byte) in bytes.iter().enumerate() {
+        q = program(image, at + i, byte, q);
     }
     q
 }
@@ -90,79 +82,26 @@ pub fn erase_sectors(image: &mut [u8], from: usize, to: usize, m: Meter) -> Mete
     ensures { Did image.old m (map Step.erase (sectors from to)) image.new result × AskedMost m result to }
 {
     let mut q = m;
-    let mut a = from;
-    while a + SECTOR <= to {
+    for a in (from..to.saturating_sub(SECTOR - 1)).step_by(SECTOR) {
         q = erase(image, a, q);
-        a += SECTOR;
     }
     q
 }
 
-// Eight bytes of FF, as one number.
-const EIGHT_FF: u64 = 0xFFFF_FFFF_FFFF_FFFF;
-
-fn wide(x: u8) -> u64
-    ensures { result ≡ x }
+// Whether every byte of whole words is FF: a bit is left only if it is set in each word, so that one compare tests them all.
+fn words_blank(part: &[u8]) -> bool
+    requires { length part.now % 8 ≡ 0 }
+    ensures { result ≡ blank part.now }
 {
-    x as u64
-}
-
-// Eight bytes as one number, the first the lowest: of eight neighbours the compiler makes one load.
-pub fn joined(a: u8, b: u8, c: u8, d: u8, e: u8, f: u8, g: u8, h: u8) -> u64
-    ensures { result ≡ word a b c d e f g h }
-{
-    let low = wide(a) + 0x100 * wide(b) + 0x1_0000 * wide(c) + 0x100_0000 * wide(d);
-    let high = wide(e) + 0x100 * wide(f) + 0x1_0000 * wide(g) + 0x100_0000 * wide(h);
-    low + 0x1_0000_0000 * high
-}
-
-// The same: it is the greatest exactly if all eight are FF.
-fn word(a: u8, b: u8, c: u8, d: u8, e: u8, f: u8, g: u8, h: u8) -> u64
-    ensures { eqb result 0xFFFF_FFFF_FFFF_FFFF ≡ blank (a ∷ b ∷ c ∷ d ∷ e ∷ f ∷ g ∷ h ∷ []) }
-{
-    joined(a, b, c, d, e, f, g, h)
-}
-
-// The eight bytes from i on, as one number.
-fn word_at(part: &[u8], i: usize) -> u64
-    requires { i + 8 ≤ length part.now }
-    ensures { Tells part.now i 8 result }
-{
-    word(
-        part[i],
-        part[i + 1],
-        part[i + 2],
-        part[i + 3],
-        part[i + 4],
-        part[i + 5],
-        part[i + 6],
-        part[i + 7],
-    )
-}
-
-// Two words, four and eight: a bit is set only if it is set in each, so that one compare tests them all.
-fn two_words(part: &[u8], i: usize) -> u64
-    requires { i + 16 ≤ length part.now }
-    ensures { Tells part.now i 16 result }
-{
-    word_at(part, i) & word_at(part, i + 8)
-}
-
-fn four_words(part: &[u8], i: usize) -> u64
-    requires { i + 32 ≤ length part.now }
-    ensures { Tells part.now i 32 result }
-{
-    two_words(part, i) & two_words(part, i + 16)
-}
-
-fn eight_words(part: &[u8], i: usize) -> u64
-    requires { i + 64 ≤ length part.now }
-    ensures { Tells part.now i 64 result }
-{
-    four_words(part, i) & four_words(part, i + 32)
+    let (words, _) = part.as_chunks::<8>();
+    let common = words
+        .iter()
+        .fold(u64::MAX, |bits, word| bits & u64::from_le_bytes(*word));
+    common == u64::MAX
 }
 
 // How far a part is FF: the place of its first byte that is not FF, or its length; and the turns of the loops that looked for it.
+// The three loops count their turns by hand, since RunOf says how many they are.
 #[derive(Clone, Copy)]
 pub struct BlankRun {
     pub place: usize,
@@ -177,7 +116,7 @@ fn blank_lines(part: &[u8]) -> BlankRun
     let mut lines = 0;
     while 64 <= part.len() - at {
         lines += 1;
-        if eight_words(part, at) == EIGHT_FF {
+        if words_blank(&part[at..at + 64]) {
             at += 64;
         } else {
             return BlankRun {
@@ -201,7 +140,7 @@ fn blank_words(part: &[u8], from: BlankRun) -> BlankRun
     let mut words = from.turns;
     while 8 <= part.len() - at {
         words += 1;
-        if word_at(part, at) == EIGHT_FF {
+        if words_blank(&part[at..at + 8]) {
             at += 8;
         } else {
             return BlankRun {
@@ -226,17 +165,11 @@ fn blank_bytes(part: &[u8], from: BlankRun) -> BlankRun
     while at < part.len() {
         turns += 1;
         if part[at] != 0xFF {
-            return BlankRun {
-                place: at,
-                turns: turns,
-            };
+            return BlankRun { place: at, turns };
         }
         at += 1;
     }
-    BlankRun {
-        place: at,
-        turns: turns,
-    }
+    BlankRun { place: at, turns }
 }
 
 // The place of the first byte that is not FF, or the part's length; every test for FF goes through here.

@@ -1,3 +1,4 @@
+pub mod Answers
 -- A file's length from headers and names alone (request K8). The files stand here lowest first.
 
 -- ---- what a header says

@@ -7,7 +7,7 @@ use Rattle.std.proofs.Math.Option.{Option, none, some}
 use borrow.Author.Tests.{eq-eqb, lt-ltb}
 use Rattle.spec.specs.declared.Ending.{Ending}
 use Rattle.spec.specs.Step.{Image}
-use Rattle.spec.specs.declared.Refusal.{Refusal}
+use Rattle.spec.specs.Refusals.{RefusalNumbers}
 use Rattle.spec.specs.Basics.{Answer, refuse, give, numbered, onward, Each, any, all, first_such}
 use Rattle.spec.specs.Geometry.{good_length}
 use Rattle.spec.specs.Bytes.{is_record, is_start, is_clean}
@@ -162,7 +162,7 @@ pub record AsGet (l g : Numbers) : Type 0 where
 abbrev pub SameTold : Answer ℕ → Answer Plan → Type 0
 SameTold a p = (image : Image) → AsGet (carry_out image 0 (measured a)).numbers (carry_out image 0 p).numbers
 
-refused_same : (x : Refusal) → SameTold (refuse x) (refuse x)
+refused_same : (x : RefusalNumbers) → SameTold (refuse x) (refuse x)
 unfolding carry_out
 refused_same x image = record { answer = refl; name = refl; length = refl }
 

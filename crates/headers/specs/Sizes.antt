@@ -1,27 +1,27 @@
 -- What the walk gathers: the lengths of the first FC record and of the first F8 record of a name; and the answer as a fold over the chain.
-use Rattle.std.specs.Prelude.{ℕ, Bool, true, false, List, [], ◌∷◌, length}
+use Rattle.std.specs.Prelude.{ℕ, Bool, true, false, List, [], ◌∷◌, length, Err, None, Ok, Some}
 use Rattle.spec.specs.Basics.{Answer, refuse, give, numbered, checked, all}
+use Rattle.spec.specs.Refusals.{refusal_numbers}
 use Rattle.spec.specs.Record.{Entry, content_of}
 use Rattle.spec.specs.Length.{stands, of_name}
 use Rattle.chain.specs.declared.Item.{Item}
 use Rattle.chain.specs.Rest.{Run}
-use Rattle.headers.specs.declared.Size.{Size}
 use Rattle.headers.specs.declared.Sizes.{Sizes}
-use Rattle.headers.specs.declared.Measured.{Measured}
+use Rattle.headers.specs.Answers.{Size, Measured}
 
 -- what the code's answer says
 abbrev pub answered : Measured → Answer ℕ
-answered (Measured.Length d) = give d
-answered (Measured.Refused x) = refuse x
+answered (Ok d) = give d
+answered (Err x) = refuse (refusal_numbers x)
 
 abbrev pub no_sizes : Sizes
-no_sizes = record { committed = Size.Unknown; migrating = Size.Unknown }
+no_sizes = record { committed = None; migrating = None }
 
 -- what was found before, or this length if it fits
 abbrev pub first_of : Size → Bool → ℕ → Size
-first_of (Size.Of k) fits d = Size.Of k
-first_of Size.Unknown true d = Size.Of d
-first_of Size.Unknown false d = Size.Unknown
+first_of (Some k) fits d = Some k
+first_of None true d = Some d
+first_of None false d = None
 
 abbrev pub noted : List ℕ → Sizes → Entry → Sizes
 noted name x e =
@@ -31,9 +31,9 @@ noted name x e =
     }
 
 abbrev pub best_of : Size → Size → Answer ℕ
-best_of (Size.Of d) y = give d
-best_of Size.Unknown (Size.Of d) = give d
-best_of Size.Unknown Size.Unknown = refuse (numbered 2)
+best_of (Some d) y = give d
+best_of None (Some d) = give d
+best_of None None = refuse (numbered 2)
 
 abbrev pub best : Sizes → Answer ℕ
 best x = best_of x.committed x.migrating

@@ -1,7 +1,7 @@
 -- The code's walk is the definition's: each turn of the loop, and how it ends.
 use Prim.Native.Nat.{ℕ, ◌%◌, ◌≤◌, ◌<◌}
 use Rattle.std.proofs.Common.{arith, ap₂, ◌∙◌}
-use Rattle.std.specs.Prelude.{◌≡◌, Bool, ◌&&◌}
+use Rattle.std.specs.Prelude.{◌≡◌, Bool, ◌&&◌, None, Some}
 use Rattle.std.proofs.Math.Path.{refl, sym, ap}
 use Rattle.std.proofs.Math.Bool.{true, false}
 use Rattle.std.proofs.Math.Option.{Option, none, some}
@@ -23,7 +23,7 @@ use Rattle.chain.specs.Fold.{Passes, passes, NotRecord, rest_done, Folded, fold_
 use Rattle.reading.specs.Read.{first_cursor}
 use Rattle.reading.specs.Survey.{first_sound}
 use Rattle.reading.specs.Bridge.{shown, read_of, reading_is}
-use Rattle.headers.specs.declared.Size.{Size}
+use Rattle.headers.specs.Answers.{Size}
 use Rattle.headers.specs.declared.Sizes.{Sizes}
 use Rattle.headers.specs.Alike.{finished_there}
 use Rattle.headers.specs.Fore.{fore, sorted, fore_sorted}
@@ -117,9 +117,9 @@ module _ {name : List ℕ} {image : Image} {start c : Cursor} {x₀ x : Sizes} (
 -- ---- what is noted of all records
 
 found_or : Size → Option Entry → Size
-found_or (Size.Of k) o = Size.Of k
-found_or Size.Unknown none = Size.Unknown
-found_or Size.Unknown (some e) = Size.Of (length (content_of e))
+found_or (Some k) o = Some k
+found_or None none = None
+found_or None (some e) = Some (length (content_of e))
 
 module _ (name : List ℕ) where
   committed_all : (x : Sizes) (es : List Entry)
@@ -127,32 +127,32 @@ module _ (name : List ℕ) where
   unfolding found_or
   committed_all x [] = go x.committed where
     go : (k : Size) → k ≡ found_or k none
-    go (Size.Of d) = refl
-    go Size.Unknown = refl
+    go (Some d) = refl
+    go None = refl
   committed_all x (e ∷ es) = committed_all (noted name x e) es ∙ go x.committed (of_name 0xFC name e) refl where
     go : (k : Size) (t : Bool) → of_name 0xFC name e ≡ t
         → found_or (first_of k (of_name 0xFC name e) (length (content_of e))) (first_such (of_name 0xFC name) es)
         ≡ found_or k (first_such (of_name 0xFC name) (e ∷ es))
-    go (Size.Of d) t q = refl
-    go Size.Unknown true q = rw (q, first_such)
-    go Size.Unknown false q = rw (q, first_such)
+    go (Some d) t q = refl
+    go None true q = rw (q, first_such)
+    go None false q = rw (q, first_such)
 
   migrating_all : (x : Sizes) (es : List Entry)
       → (noted_all name x es).migrating ≡ found_or x.migrating (first_such (of_name 0xF8 name) es)
   unfolding found_or
   migrating_all x [] = go x.migrating where
     go : (k : Size) → k ≡ found_or k none
-    go (Size.Of d) = refl
-    go Size.Unknown = refl
+    go (Some d) = refl
+    go None = refl
   migrating_all x (e ∷ es) = migrating_all (noted name x e) es ∙ go x.migrating (of_name 0xF8 name e) refl where
     go : (k : Size) (t : Bool) → of_name 0xF8 name e ≡ t
         → found_or (first_of k (of_name 0xF8 name e) (length (content_of e))) (first_such (of_name 0xF8 name) es)
         ≡ found_or k (first_such (of_name 0xF8 name) (e ∷ es))
-    go (Size.Of d) t q = refl
-    go Size.Unknown true q = rw (q, first_such)
-    go Size.Unknown false q = rw (q, first_such)
+    go (Some d) t q = refl
+    go None true q = rw (q, first_such)
+    go None false q = rw (q, first_such)
 
-  best_found : (o p : Option Entry) → best_of (found_or Size.Unknown o) (found_or Size.Unknown p) ≡ or_else o p
+  best_found : (o p : Option Entry) → best_of (found_or None o) (found_or None p) ≡ or_else o p
   unfolding found_or
   best_found (some e) p = refl
   best_found none (some e) = refl

@@ -14,10 +14,7 @@ use spec::{Next, Status};
 fn front_of(part: &[u8]) -> Next
     ensures { AtFront untorn_next part.now result }
 {
-    if part.len() < 8 {
-        return next_of(part);
-    }
-    if is_torn_marker(part[0], part[1], Status::from_byte(part[2])) {
+    if 8 <= part.len() && is_torn_marker(part[0], part[1], Status::from_byte(part[2])) {
         return Next::Bad;
     }
     next_of(part)
@@ -27,12 +24,11 @@ fn look(image: &[u8], c: Cursor) -> Next
     requires { CursorSound image.now c }
     ensures { (result ≡ fore_look image.now c) × Within result (c.end - c.at) }
 {
-    let at = c.at;
-    let end = c.end;
-    front_of(&image[at..end])
+    front_of(&image[c.at..c.end])
 }
 
-// What stands at c, the turn made where it is due.
+// What stands at c, the turn made where it is due. chain's `advance_any` has these lines over another `look`: a contract for one function
+// over both would have to say what `look` gives at two cursors, and be longer than they are.
 pub fn forward(image: &[u8], c: Cursor) -> Item
     requires { CursorSound image.now c }
     ensures { (result ≡ fore image.now c) × Inside image.now c result }
@@ -40,8 +36,7 @@ pub fn forward(image: &[u8], c: Cursor) -> Item
     let x = look(image, c);
     if goes_on(c.room, x) {
         let t = turn(c);
-        let y = look(image, t);
-        return settle(image, t, y);
+        return settle(image, t, look(image, t));
     }
     settle(image, c, x)
 }

@@ -7,25 +7,9 @@ mod front;
 pub mod measure;
 mod stands;
 
-use spec::Refusal;
-
-// A length that was found, or none.
-#[derive(Clone, Copy)]
-pub enum Size {
-    Of(usize),
-    Unknown,
-}
-
 // The lengths of the first FC record and of the first F8 record of a name, among the records so far.
 #[derive(Clone, Copy)]
 pub struct Sizes {
-    pub committed: Size,
-    pub migrating: Size,
-}
-
-// A file's length, or the refusal.
-#[derive(Clone, Copy)]
-pub enum Measured {
-    Length(usize),
-    Refused(Refusal),
+    pub committed: Option<usize>,
+    pub migrating: Option<usize>,
 }

@@ -28,10 +28,7 @@ fn right_header(image: &[u8], first: bool, e: Spot) -> bool
         ≡ (right_mark first (entry_of image.now e).it.low
         && not (is_unfinished (entry_of image.now e).it.status)) }
 {
-    if right_mark(first, low_of(image, e)) {
-        return !unfinished(image, e.at);
-    }
-    false
+    right_mark(first, low_of(image, e)) && !unfinished(image, e.at)
 }
 
 // Its magic, its status and its name may stand there; first: at the head.
@@ -39,8 +36,5 @@ pub fn stands(image: &[u8], first: bool, e: Spot) -> bool
     requires { Whole image.now e }
     ensures { result ≡ stands first (entry_of image.now e) }
 {
-    if right_header(image, first, e) {
-        return name_fine(image, e);
-    }
-    false
+    right_header(image, first, e) && name_fine(image, e)
 }

@@ -5,7 +5,7 @@ use Rattle.std.proofs.Math.Path.{refl, subst}
 use Rattle.std.proofs.Math.Bool.{true}
 use Rattle.std.proofs.Math.Seq.{drop-nil}
 use Rattle.std.proofs.lemmas.Bool.{lt-leb, eqb-false}
-use Rattle.spec.specs.declared.Refusal.{Refusal}
+use Rattle.spec.specs.Refusals.{RefusalNumbers}
 use Rattle.spec.specs.Step.{Image, Step, run}
 use Rattle.spec.specs.Basics.{Answer, refuse, give}
 use Rattle.spec.specs.Bytes.{is_committed}
@@ -42,7 +42,7 @@ fed_no : (im : Image) (n c : List ℕ) (m : Numbers) (w : ℕ) (l : Ledger) → 
 unfolding fed
 fed_no im n c m w l e = rw (e, fed)
 
-done_refused : (im : Image) (n c : List ℕ) (m : Refusal) (w : ℕ) → eqb m.number 0 ≡ false → eqb m.number 4 ≡ false
+done_refused : (im : Image) (n c : List ℕ) (m : RefusalNumbers) (w : ℕ) → eqb m.number 0 ≡ false → eqb m.number 4 ≡ false
     → put_done im n c (refusal m) w ≡ false
 unfolding put_done
 done_refused im n c m w e f = rw (f, put_done) e
@@ -68,7 +68,7 @@ at_early : (at k w : ℕ) → suc k < at → committed_at at k w ≡ false
 unfolding committed_at
 at_early at k w h = rw (lt-leb at k (omega arith), ne_eqb at (suc k) (λ e. omega arith))
 
-put_refused : (im : Image) (l : Ledger) (n c : List ℕ) (k v : ℕ) (m : Refusal) → Inv l im → eqb m.number 0 ≡ false
+put_refused : (im : Image) (l : Ledger) (n c : List ℕ) (k v : ℕ) (m : RefusalNumbers) → Inv l im → eqb m.number 0 ≡ false
     → eqb m.number 4 ≡ false
     → Keeps Inv im l (Request.put n c) k v (refuse m)
 unfolding carry_out

@@ -2,7 +2,7 @@
 use Rattle.std.specs.Prelude.{ℕ, zero, suc, ◌+◌, ◌≡◌, refl, Bool, true, false, ◌&&◌, ◌||◌, not, List, [], ◌∷◌, drop, set, get_or, length, eqb}
 use Rattle.std.proofs.Common.{arith, sym, ap, ◌∙◌, subst, get_or-set_same}
 use Rattle.std.proofs.Math.Seq.{drop-nil}
-use Rattle.spec.specs.declared.Refusal.{Refusal}
+use Rattle.spec.specs.Refusals.{RefusalNumbers}
 use Rattle.spec.specs.Step.{Image, Step, program}
 use Rattle.spec.specs.Basics.{Answer, refuse, give}
 use Rattle.spec.specs.Bytes.{is_committed, is_migrating}
@@ -27,7 +27,7 @@ not_removed : (im : Image) (n : List ℕ) (m : Numbers) (w : ℕ) (l : Ledger) �
 unfolding fed
 not_removed im n m w l e = rw (e, fed)
 
-refused_not : (m : Refusal) (w : ℕ) → eqb m.number 0 ≡ false → eqb m.number 4 ≡ false → remove_done (refusal m) w ≡ false
+refused_not : (m : RefusalNumbers) (w : ℕ) → eqb m.number 0 ≡ false → eqb m.number 4 ≡ false → remove_done (refusal m) w ≡ false
 unfolding remove_done
 refused_not m w e f = rw (f, remove_done) e
 
@@ -44,7 +44,7 @@ cut_done p w b e = go (is_committed w) (is_migrating w) e
     go true y e = ap not e
     go false y e = ap not e
 
-remove_refused : (im : Image) (l : Ledger) (n : List ℕ) (k v : ℕ) (m : Refusal) → Inv l im → eqb m.number 0 ≡ false
+remove_refused : (im : Image) (l : Ledger) (n : List ℕ) (k v : ℕ) (m : RefusalNumbers) → Inv l im → eqb m.number 0 ≡ false
     → eqb m.number 4 ≡ false
     → Keeps Inv im l (Request.remove n) k v (refuse m)
 unfolding carry_out

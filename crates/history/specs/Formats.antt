@@ -4,7 +4,7 @@ use Rattle.std.proofs.Common.{arith, sym, ap, ap₂, ◌∙◌, subst, append-ni
 use mathlib.Core.List.Permᴰ
 use Rattle.std.proofs.lemmas.List.{length-replicate}
 use Rattle.std.proofs.Math.Seq.{drop-length}
-use Rattle.spec.specs.declared.Refusal.{Refusal}
+use Rattle.spec.specs.Refusals.{RefusalNumbers}
 use Rattle.spec.specs.Step.{Image, erase, run}
 use Rattle.spec.specs.Basics.{Answer, refuse, give, checked, numbered}
 use Rattle.spec.specs.Geometry.{good_length, sectors}
@@ -115,7 +115,7 @@ done_image raw k p e = go (leb (length p.steps) k) refl
     go true h = ap (λ (x : Outcome). x.image) (carried_done raw k p (leb-true (length p.steps) k h))
     go false h = absurd (let z : ◌≡◌ {A = ℕ} 4 0 = answer_of (carried_cut raw k p (leb-false (length p.steps) k h)) e in omega arith)
 
-pub refused : (raw : Image) (k : ℕ) (x : Refusal) → (carry_out raw k (refuse x)).numbers.answer ≡ x.number
+pub refused : (raw : Image) (k : ℕ) (x : RefusalNumbers) → (carry_out raw k (refuse x)).numbers.answer ≡ x.number
 unfolding carry_out
 refused raw k x = refl
 

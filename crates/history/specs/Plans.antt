@@ -13,10 +13,10 @@ use Rattle.spec.specs.Sweep.{no_room}
 use Rattle.spec.specs.Answers.{Plan, found, putting, put_into, put_plan, file_of, file_plan, removing, remove_plan, getting, get_plan, listing, list_of, list_plan, sweeping, sweep_of, sweep_plan, mount_work, mount_of, mount_plan}
 use Rattle.spec.specs.Door.{accepted, admitted, admitted_named}
 use Rattle.spec.specs.History.{Request, plan, steps_of}
-use Rattle.spec.specs.declared.Refusal.{Refusal}
+use Rattle.spec.specs.Refusals.{RefusalNumbers}
 
-module _ (P : Answer Plan → Type 0) (no : (x : Refusal) → P (refuse x)) where
-  of_checked : (b : Bool) (x : Refusal) (p : Answer Plan) → P p → P (checked b x p)
+module _ (P : Answer Plan → Type 0) (no : (x : RefusalNumbers) → P (refuse x)) where
+  of_checked : (b : Bool) (x : RefusalNumbers) (p : Answer Plan) → P p → P (checked b x p)
   of_checked true x p h = h
   of_checked false x p h = no x
 

@@ -8,13 +8,13 @@ use Rattle.spec.specs.Answers.{Plan, carry_out}
 use Rattle.spec.specs.Numbers.{Outcome}
 use Rattle.spec.specs.History.{steps_of}
 use Rattle.spec.specs.Bounds.{AtMost}
-use Rattle.spec.specs.declared.Refusal.{Refusal}
+use Rattle.spec.specs.Refusals.{RefusalNumbers}
 use Rattle.history.specs.StepCounts.{most_none, most_more, most_take}
 use Rattle.history.specs.Induction.{carried_done, carried_cut}
 use Rattle.history.specs.Plans.{OwnCount}
 
 -- a refusal
-used_none : (im : Image) (k : ℕ) (x : Refusal) → (carry_out im k (refuse x)).numbers.steps ≡ 0
+used_none : (im : Image) (k : ℕ) (x : RefusalNumbers) → (carry_out im k (refuse x)).numbers.steps ≡ 0
 unfolding carry_out
 used_none im k x = refl
 

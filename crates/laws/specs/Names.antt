@@ -3,14 +3,14 @@ use Rattle.std.specs.Prelude.{ℕ, ◌+◌, ◌≤◌, ◌<◌, ◌≡◌, Bool,
 use Rattle.std.proofs.Common.{arith, sym, ap, ◌∙◌, leb-true, le-leb, lt-ltb, le-ltb, eqb-true}
 use Rattle.std.proofs.Math.Path.{refl}
 use Rattle.std.proofs.lemmas.Bool.{lt-leb}
-use Rattle.spec.specs.declared.NameFault.{NameFault}
+use Rattle.spec.specs.Refusals.{FaultNumbers}
 use Rattle.spec.specs.Basics.{Each}
 use Rattle.spec.specs.Bytes.{is_printable, is_space}
 use Rattle.spec.specs.Record.{may_stand, first_bad, ends_in_slash, name_fault, name_ok}
 use Rattle.laws.specs.Tests.{not_both, not_true, and_left, and_right}
 
 -- the check's answer by its four tests, in their order
-abbrev pub fault_by : Bool → Bool → Bool → Bool → ℕ → NameFault
+abbrev pub fault_by : Bool → Bool → Bool → Bool → ℕ → FaultNumbers
 fault_by some short bad slash i =
     elim some [
       | false ↦ record { reason = 1; place = 0 }
@@ -37,21 +37,21 @@ module _ (n : List ℕ) where
   unfolding name_fault
   check_is = refl
 
-  abbrev by : Bool → Bool → Bool → Bool → NameFault
+  abbrev by : Bool → Bool → Bool → Bool → FaultNumbers
   by a b c d = fault_by a b c d bad
 
   pub check_empty : k < 1 → name_fault n ≡ record { reason = 1; place = 0 }
   check_empty h = check_is ∙ ap (λ (t : Bool). by t (leb k 63) (ltb bad k) (ends_in_slash n)) (lt-leb 1 k h)
 
   module _ (some : 1 ≤ k) where
-    more : {t : NameFault} → by true (leb k 63) (ltb bad k) (ends_in_slash n) ≡ t → name_fault n ≡ t
+    more : {t : FaultNumbers} → by true (leb k 63) (ltb bad k) (ends_in_slash n) ≡ t → name_fault n ≡ t
     more e = check_is ∙ ap (λ (t : Bool). by t (leb k 63) (ltb bad k) (ends_in_slash n)) (le-leb 1 k some) ∙ e
 
     pub check_long : 63 < k → name_fault n ≡ record { reason = 2; place = 0 }
     check_long h = more (ap (λ (t : Bool). by true t (ltb bad k) (ends_in_slash n)) (lt-leb k 63 h))
 
     module _ (short : k ≤ 63) where
-      inner : {t : NameFault} → by true true (ltb bad k) (ends_in_slash n) ≡ t → name_fault n ≡ t
+      inner : {t : FaultNumbers} → by true true (ltb bad k) (ends_in_slash n) ≡ t → name_fault n ≡ t
       inner e = more (ap (λ (t : Bool). by true t (ltb bad k) (ends_in_slash n)) (le-leb k 63 short) ∙ e)
 
       pub check_byte : bad < k → name_fault n ≡ record { reason = 3; place = bad }

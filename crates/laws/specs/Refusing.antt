@@ -3,7 +3,7 @@
 use Rattle.std.specs.Prelude.{ℕ, suc, ◌≡◌, Bool, List, length, drop}
 use Rattle.std.proofs.Math.Path.{refl}
 use Rattle.std.proofs.Math.Bool.{true, false}
-use Rattle.spec.specs.declared.Refusal.{Refusal}
+use Rattle.spec.specs.Refusals.{RefusalNumbers}
 use Rattle.spec.specs.Step.{Image}
 use Rattle.spec.specs.Basics.{Answer, refuse, give, no_fault, numbered, checked, onward}
 use Rattle.spec.specs.Geometry.{good_length}
@@ -16,14 +16,14 @@ use Rattle.spec.specs.Door.{if_settled, settled_reading, accepted, admitted, mis
 use Rattle.spec.specs.Numbers.{is_refusal}
 
 -- if the answer is a refusal, it has the property P
-abbrev pub IfRefused : (Refusal → Type 0) → {A : Type 0} → Answer A → Type 0
+abbrev pub IfRefused : (RefusalNumbers → Type 0) → {A : Type 0} → Answer A → Type 0
 IfRefused P (refuse x) = P x
 IfRefused P (give a) = Unit {0}
 
 -- ---- answers put together
 
-module _ (P : Refusal → Type 0) where
-  pub checked_refusing : {A : Type 0} (t : Bool) (x : Refusal) (a : Answer A) → P x → IfRefused P a → IfRefused P (checked t x a)
+module _ (P : RefusalNumbers → Type 0) where
+  pub checked_refusing : {A : Type 0} (t : Bool) (x : RefusalNumbers) (a : Answer A) → P x → IfRefused P a → IfRefused P (checked t x a)
   checked_refusing true x a e r = r
   checked_refusing false x a e r = e
 
@@ -34,7 +34,7 @@ module _ (P : Refusal → Type 0) where
 
 -- ---- the door, for a property of all refusals that give back no more than their number
 
-module _ (P : Refusal → Type 0) (by : (n : ℕ) → is_refusal n ≡ true → P (numbered n)) (image : Image) where
+module _ (P : RefusalNumbers → Type 0) (by : (n : ℕ) → is_refusal n ≡ true → P (numbered n)) (image : Image) where
   chosen_refusing : (a : ℕ) → IfRefused P (chosen image a)
   unfolding chosen is_refusal
   chosen_refusing a = go (start_here (drop a image)) (clean_here (drop a image)) (clean_here image) refl refl refl where
@@ -82,7 +82,7 @@ module _ (P : Refusal → Type 0) (by : (n : ℕ) → is_refusal n ≡ true → 
 
 -- ---- one of document 01's numbers
 
-abbrev pub Numbered : Refusal → Type 0
+abbrev pub Numbered : RefusalNumbers → Type 0
 Numbered x = is_refusal x.number ≡ true
 
 module _ (image : Image) where
@@ -98,7 +98,7 @@ module _ (image : Image) where
 
 -- ---- nothing that speaks of a name
 
-abbrev pub Nameless : Refusal → Type 0
+abbrev pub Nameless : RefusalNumbers → Type 0
 Nameless x = x.name ≡ no_fault
 
 module _ (image : Image) where

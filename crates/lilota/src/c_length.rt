@@ -4,7 +4,9 @@ ghost use Rattle.spec.specs.Numbers.{outcome_of};
 ghost use Rattle.spec.specs.Length.{of_length, file_length};
 ghost use Rattle.calls.specs.Numbers.{fault, with_fault};
 
+use crate::c::tell_fault;
 use calls::length::file_length;
+use calls::numbers::Numbers;
 
 #[unsafe(no_mangle)]
 pub extern "C" fn lilota_length(
@@ -19,10 +21,8 @@ pub extern "C" fn lilota_length(
         image.exit.now
         ≡ file_length image.now head name.now }
 {
-    let l = file_length(image, head, name);
-    let f = l.name;
-    *reason = f.reason;
-    *place = f.place;
-    *size = l.size;
-    l.answer
+    let n = Numbers::of_length(file_length(image, head, name));
+    tell_fault(n.fault, reason, place);
+    *size = n.size;
+    n.answer
 }

@@ -6,6 +6,8 @@ ghost use Rattle.window.specs.Handed.{slices};
 ghost use Rattle.calls.specs.Numbers.{fault, report, space, with_fault};
 ghost use Rattle.plans.specs.Planned.{handing};
 
+use crate::c::{tell_fault, tell_space};
+use calls::numbers::Numbers;
 use plans::plan_mount::plan_mount;
 use plans::plan_put::plan_put;
 use plans::plan_remove::plan_remove;
@@ -37,18 +39,12 @@ pub extern "C" fn lilota_plan_put(
         × (image.exit.now ≡ image.entry.now) }
 {
     let p = plan_put(image, name, content, first, kinds, addresses, bytes);
-    let w = p.answer;
-    *handed = p.handed;
-    let f = w.fault();
-    *reason = f.reason;
-    *place = f.place;
-    let y = w.space();
-    *live = y.live;
-    *dead = y.dead;
-    *free = y.free;
-    *lost = y.lost;
-    *steps = w.steps();
-    w.answer()
+    *handed = plans::handed(&p);
+    let n = Numbers::from(p);
+    tell_fault(n.fault, reason, place);
+    tell_space(n.space, live, dead, free, lost);
+    *steps = n.steps;
+    n.answer
 }
 
 #[unsafe(no_mangle)]
@@ -72,13 +68,11 @@ pub extern "C" fn lilota_plan_remove(
         × (image.exit.now ≡ image.entry.now) }
 {
     let p = plan_remove(image, name, first, kinds, addresses, bytes);
-    let w = p.answer;
-    *handed = p.handed;
-    let f = w.fault();
-    *reason = f.reason;
-    *place = f.place;
-    *steps = w.steps();
-    w.answer()
+    *handed = plans::handed(&p);
+    let n = Numbers::from(p);
+    tell_fault(n.fault, reason, place);
+    *steps = n.steps;
+    n.answer
 }
 
 #[unsafe(no_mangle)]
@@ -104,16 +98,12 @@ pub extern "C" fn lilota_plan_sweep(
         × (image.exit.now ≡ image.entry.now) }
 {
     let p = plan_sweep(image, first, kinds, addresses, bytes);
-    let w = p.answer;
-    *handed = p.handed;
-    *moves = w.moves();
-    let y = w.space();
-    *live = y.live;
-    *dead = y.dead;
-    *free = y.free;
-    *lost = y.lost;
-    *steps = w.steps();
-    w.answer()
+    *handed = plans::handed(&p);
+    let n = Numbers::from(p);
+    *moves = n.moves;
+    tell_space(n.space, live, dead, free, lost);
+    *steps = n.steps;
+    n.answer
 }
 
 #[unsafe(no_mangle)]
@@ -142,17 +132,12 @@ pub extern "C" fn lilota_plan_mount(
         × (image.exit.now ≡ image.entry.now) }
 {
     let p = plan_mount(image, first, kinds, addresses, bytes);
-    let w = p.answer;
-    let x = w.report();
-    *handed = p.handed;
-    *head = x.head;
-    *tail = x.tail;
-    *files = x.files;
-    let y = w.space();
-    *live = y.live;
-    *dead = y.dead;
-    *free = y.free;
-    *lost = y.lost;
-    *steps = w.steps();
-    w.answer()
+    *handed = plans::handed(&p);
+    let n = Numbers::from(p);
+    *head = n.report.head;
+    *tail = n.report.tail;
+    *files = n.report.files;
+    tell_space(n.space, live, dead, free, lost);
+    *steps = n.steps;
+    n.answer
 }

@@ -18,20 +18,18 @@ pub extern "C" fn lilota_replay(
     ensures { replayed result position.new stop.new image.new
         ≡ replay_trace image.old (slices kinds.now addresses.now bytes.now) }
 {
-    let w = replay_trace(image, kinds, addresses, bytes);
-    *position = w.position;
-    *stop = w.stop;
-    w.answer
-}
-
-// 1 for true, 0 for false.
-fn number(t: bool) -> u32
-    ensures { (eqb result 1 ≡ t) × (result ≤ 1) }
-{
-    if t {
-        return 1;
+    match replay_trace(image, kinds, addresses, bytes) {
+        Ok(r) => {
+            *position = r.position;
+            *stop = r.stop_number();
+            0
+        }
+        Err(x) => {
+            *position = 0;
+            *stop = 0;
+            x.number()
+        }
     }
-    0
 }
 
 #[unsafe(no_mangle)]
@@ -47,8 +45,16 @@ pub extern "C" fn lilota_first_refused(
         ≡ watch_trace image.old (slices kinds.now addresses.now bytes.now))
         × (there.new ≤ 1) }
 {
-    let w = first_refused(image, kinds, addresses, bytes);
-    *there = number(w.there);
-    *count = w.count;
-    w.answer
+    match first_refused(image, kinds, addresses, bytes) {
+        Ok(r) => {
+            *there = u32::from(r.there);
+            *count = r.count;
+            0
+        }
+        Err(x) => {
+            *there = 0;
+            *count = 0;
+            x.number()
+        }
+    }
 }

@@ -11,7 +11,7 @@ use Rattle.spec.specs.Record.{Entry, content_of, data_at}
 use Rattle.spec.specs.Move.{mark_here, mark_steps, clean_steps}
 use Rattle.flash.specs.declared.Meter.{Meter}
 use Rattle.flash.specs.Did.{Did, did_one}
-use Rattle.flash.specs.Toward.{Toward, toward_same, toward_more, toward_end}
+use Rattle.flash.specs.Toward.{Toward, toward_more, toward_end}
 use Rattle.chain.specs.declared.Spot.{Spot}
 use Rattle.chain.specs.Rest.{entry_of}
 use Rattle.chain.specs.Fold.{Whole, name_length_is, content_length_is}
@@ -122,9 +122,6 @@ pub record Cleaning (s : Image) (at d : ℕ) (m : Meter) (t : Image) (q : Meter)
   pub later : drop (at + i) t ≡ drop (at + i) s
 
 module _ {s : Image} {at d : ℕ} {m : Meter} where
-  pub cleaning_start : at + d ≤ length s → Cleaning s at d m s m 0
-  cleaning_start h = record { left = toward_same (λ u r f. f) (from_first s at d h); later = refl }
-
   module _ {t : Image} {q : Meter} {i : ℕ} (w : Cleaning s at d m t q i) where
     pub cleaning_more : {u : Image} {r : Meter} → at + d ≤ length s → i + 1 < d → Did t q (mark_steps (at + i) (drop (at + i) t)) u r
         → Cleaning s at d m u r (i + 8)

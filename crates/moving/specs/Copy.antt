@@ -5,18 +5,17 @@ use Rattle.std.proofs.Common.{arith, add-zero, sym, ap, ◌∙◌, inl, inr, ⊎
 use Rattle.std.proofs.Math.Option.{some}
 use Rattle.spec.specs.declared.Place.{Place}
 use Rattle.spec.specs.declared.Status.{Status}
-use Rattle.spec.specs.declared.Placed.TheVariants as placed_as
 use Rattle.spec.specs.Geometry.{up8}
 use Rattle.spec.specs.Step.{Image, Step, shifted}
 use Rattle.spec.specs.Bytes.{is_committed}
 use Rattle.spec.specs.Record.{size_of, size, Entry, name_of, content_of}
 use Rattle.spec.specs.Reading.{limit}
 use Rattle.spec.specs.Place.{fits, address, with_marker}
-use Rattle.spec.specs.Placed.{placed}
+use Rattle.spec.specs.Placed.{placed, placed_at}
 use Rattle.spec.specs.Write.{status_step, migrate_steps, delete_steps, turn_steps, record_steps, put_steps}
 use Rattle.flash.specs.declared.Meter.{Meter}
 use Rattle.flash.specs.Did.{Did}
-use Rattle.writing.specs.declared.Old.TheVariants.{At}
+use Rattle.writing.specs.Answers.{old_at}
 use Rattle.writing.specs.WriteSteps.{record_count}
 use Rattle.writing.specs.Old.{bare, old_entry, migrate_few, put_old}
 use Rattle.writing.specs.Placing.{Way, at_tail, at_start, way, placed_parts, marker_before_turn}
@@ -68,15 +67,15 @@ copy_count s a from n d h =
 
 module _ {s s₁ s₂ t : Image} {m a b r : Meter} (p : Place) (n d at : ℕ) (k : Bool) (q : Place)
     (ends : HeadEnds p (size_of n d)) (whole : p.length ≡ length s) (taken : fits p (size_of n d) ≡ true)
-    (e : placed p (size_of n d) ≡ placed_as.At at k q) (st : Status) (is : st.byte ≡ get_or s (p.head + 2) 0) where
-  pub copy_phases : Did s m (migrate_steps (old_entry (At p.head st)) ++ marks k p.tail) s₁ a
+    (e : placed p (size_of n d) ≡ placed_at at k q) (st : Status) (is : st.byte ≡ get_or s (p.head + 2) 0) where
+  pub copy_phases : Did s m (migrate_steps (old_entry (old_at p.head st)) ++ marks k p.tail) s₁ a
       → Did s₁ a (shifted at (record_steps (name_of (entry_at s₁ p.head n d)) (content_of (entry_at s₁ p.head n d)))) s₂ b
-      → Did s₂ b (delete_steps (old_entry (At p.head st))) t r
+      → Did s₂ b (delete_steps (old_entry (old_at p.head st))) t r
       → Did s m (copy_of p (entry_at s p.head n d)) t r
   copy_phases before middle behind =
       let h = p.head in
       let x : Entry = entry_at s h n d in
-      let old = old_entry (At h st) in
+      let old = old_entry (old_at h st) in
       let body = up8 (n + 1) + up8 d in
       let z = size_of n d in
       let marked : k ≡ true → h + 8 + body ≤ p.tail = (λ y.
@@ -87,9 +86,9 @@ module _ {s s₁ s₂ t : Image} {m a b r : Meter} (p : Place) (n d at : ℕ) (k
       let middle' : Did s₁ a (shifted at (record_steps (name_of x) (content_of x))) s₂ b = rw
       (same_name n d (drop h s) (drop h s₁) kept, same_content n d (drop h s) (drop h s₁) kept) at middle in
       let fit : h + z ≤ length s = omega (arith, ends.inside) in
-      let long : placed p (size x) ≡ placed_as.At at k q = rw (name_long s h n d fit, content_long s h n d fit) e in
+      let long : placed p (size x) ≡ placed_at at k q = rw (name_long s h n d fit, content_long s h n d fit) e in
       let status : st.byte ≡ x.it.status = is ∙ sym (get_or-drop h s 2 0) in
-      let same = ap (λ (b : ℕ). put_steps p (old_entry (At h (record { byte = b }))) (name_of x) (content_of x)) status
+      let same = ap (λ (b : ℕ). put_steps p (old_entry (old_at h (record { byte = b }))) (name_of x) (content_of x)) status
       ∙ put_old p (some x) (name_of x) (content_of x) in
       rw same at (put_phases p old (name_of x) (content_of x) at k q long before middle' behind)
 

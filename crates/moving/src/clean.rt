@@ -19,10 +19,7 @@ use spec::{HIGH, START};
 fn is_low(b: u8) -> bool
     ensures { result ≡ (is_start b || is_clean b || is_record b) }
 {
-    if b == START {
-        return true;
-    }
-    is_clean(b) || is_record(b)
+    b == START || is_clean(b) || is_record(b)
 }
 
 // Two bytes that could be taken for a head's magic, or for a record's.
@@ -54,10 +51,8 @@ fn clean_bytes(image: &mut [u8], at: usize, d: usize, m: Meter) -> Meter
     ensures asked_most { AskedMost m result d }
 {
     let mut q = m;
-    let mut i = 0;
-    while i + 1 < d {
+    for i in (0..d.saturating_sub(1)).step_by(8) {
         q = clean_pair(image, at + i, q);
-        i += 8;
     }
     q
 }

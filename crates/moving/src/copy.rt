@@ -12,9 +12,9 @@ ghost use Rattle.moving.specs.Copy.{HeadEnds, copy_of};
 
 use flash::{Meter, program};
 use record::{size, up_8};
-use spec::{Place, Placed, Status};
+use spec::{Place, Placement, Status};
 use writing::build::{reserve, set_status, write_end};
-use writing::{Old, delete, prepare};
+use writing::{OldFile, delete, prepare};
 
 // Programs n bytes from one address on as they stand from the other on.
 fn copy_bytes(image: &mut [u8], from: usize, to: usize, n: usize, m: Meter) -> Meter
@@ -23,11 +23,9 @@ fn copy_bytes(image: &mut [u8], from: usize, to: usize, n: usize, m: Meter) -> M
     ensures { let s = image.old in Did s m (bytes_at to (take n (drop from s))) image.new result }
 {
     let mut q = m;
-    let mut i = 0;
-    while i < n {
+    for i in 0..n {
         let byte = image[from + i];
         q = program(image, to + i, byte, q);
-        i += 1;
     }
     q
 }
@@ -73,14 +71,14 @@ pub fn copy_head(image: &mut [u8], place: Place, n: usize, d: usize, m: Meter) -
     requires head_ends { HeadEnds place (size_of n d) }
     ensures { let s = image.old in Did s m (copy_of place (entry_at s place.head n d)) image.new result }
 {
-    let Placed::At { at, marker, .. } = place.after(size(n, d)) else {
+    let Some(Placement { at, marker, .. }) = place.after(size(n, d)) else {
         return m;
     };
     let head = place.head;
-    let old = Old::At {
+    let old = Some(OldFile {
         at: head,
         status: Status::from_byte(image[head + 2]),
-    };
+    });
     let a = prepare(image, old, place.tail, marker, m);
     let b = copy_record(image, head, at, n, d, a);
     delete(image, old, b)

@@ -4,7 +4,6 @@ use Rattle.std.proofs.Common.{arith, add-zero, add_assoc, sym, ap, ap₂, ◌∙
 use Rattle.spec.specs.Step.{Image, Step, program}
 use Rattle.spec.specs.Geometry.{floor, sectors}
 use Rattle.spec.specs.Record.{Entry}
-use Rattle.spec.specs.Planner.{Slices}
 use Rattle.spec.specs.Move.{mark_steps, clean_steps, vacated_end, vacated, vacated_steps}
 use Rattle.spec.specs.Move.{start_steps, forget_steps, vacate_steps, close_steps}
 use Rattle.laws.specs.Sectors.{sectors_none, sectors_more}
@@ -18,27 +17,25 @@ standing a = record { at = a; it = record { low = 0; status = 0; name = []; cont
 
 -- ---- (c), at the i-th of the d bytes from at on
 
-abbrev pub Pairs : Slices → Window → Image → ℕ → ℕ → Slices → Window → ℕ → Type 0
-Pairs s w image at d t q i =
-    Leads s w (clean_steps d at (data_from at d image)) t q (cleaning (at + i) (drop i (data_from at d image)))
+abbrev pub Pairs : Window → Image → ℕ → ℕ → Window → ℕ → Type 0
+Pairs w image at d q i = Leads w (clean_steps d at (data_from at d image)) q (cleaning (at + i) (drop i (data_from at d image)))
 
 module _ (image : Image) (at d : ℕ) (h : at + d ≤ length image) where
   d_bytes : length (data_from at d image) ≡ d
   d_bytes = length-take-le d (drop at image) (rw length-drop (omega arith))
 
-  pub pairs_start : (s : Slices) (w : Window) → Pairs s w image at d s w 0
-  pairs_start s w = rw (add-zero, d_bytes) (leads_all s w (clean_steps d at (data_from at d image)))
+  pub pairs_start : (w : Window) → Pairs w image at d w 0
+  pairs_start w = rw (add-zero, d_bytes) (leads_all w (clean_steps d at (data_from at d image)))
 
-  module _ {s t : Slices} {w q : Window} (i : ℕ) (l : Pairs s w image at d t q i) where
-    pub pairs_more : {u : Slices} {r : Window} → i + 1 < d → Handed t q (mark_steps (at + i) (drop (at + i) image)) u r
-        → Pairs s w image at d u r (i + 8)
+  module _ {w q : Window} (i : ℕ) (l : Pairs w image at d q i) where
+    pub pairs_more : {r : Window} → i + 1 < d → Handed q (mark_steps (at + i) (drop (at + i) image)) r → Pairs w image at d r (i + 8)
     pairs_more k f =
         let n : 0 < length (drop i (data_from at d image)) = rw (length-drop, d_bytes) (omega arith) in
         leads_more l
         (clean_next (at + i) (drop i (data_from at d image)) n
         ∙ ap₂ ◌++◌ (sym (mark_as_was image at d i k)) (rw (add_assoc, drop-drop 8 i (data_from at d image)))) f
 
-    pub pairs_end : d ≤ i + 1 → Handed s w (clean_steps d at (data_from at d image)) t q
+    pub pairs_end : d ≤ i + 1 → Handed w (clean_steps d at (data_from at d image)) q
     pairs_end k = leads_end l (clean_none (at + i) (drop i (data_from at d image)) (rw (length-drop, d_bytes) (omega arith)))
 
 -- ---- (d) to (f), by addresses

@@ -12,8 +12,7 @@ use Rattle.chain.specs.declared.Spot.{Spot}
 use Rattle.chain.specs.Rest.{entry_of}
 use Rattle.chain.specs.Fold.{Whole, name_length_is, content_length_is}
 use Rattle.chain.specs.FileLaws.{name_part}
-use Rattle.writing.specs.declared.Old.{Old}
-use Rattle.writing.specs.declared.Old.TheVariants as old-as
+use Rattle.writing.specs.Answers.{Old, old_at}
 use Rattle.writing.specs.Old.{old_of, old_entry, put_old}
 use Rattle.writing.specs.Put.{Ready}
 
@@ -35,12 +34,12 @@ module _ (image : Image) (x : Spot) where
       ∙ ap (λ (i : ℕ). take x.d (drop i (drop 8 (drop x.at image)))) e
 
   -- its status is the byte that is read
-  old_here : (st : Status) → st.byte ≡ get_or image (x.at + 2) 0 → old-as.At x.at st ≡ old_of (some (entry_of image x))
-  old_here st b = ap (λ (i : ℕ). old-as.At x.at (record { byte = i })) (b ∙ sym (get_or-drop x.at image 2 0))
+  old_here : (st : Status) → st.byte ≡ get_or image (x.at + 2) 0 → old_at x.at st ≡ old_of (some (entry_of image x))
+  old_here st b = ap (λ (i : ℕ). old_at x.at (record { byte = i })) (b ∙ sym (get_or-drop x.at image 2 0))
 
   -- so the steps are those of the record's copy
   pub copy_is : (p : Place) (st : Status) (u : ℕ) → st.byte ≡ get_or image (x.at + 2) 0 → u ≡ up8 (x.n + 1)
-      → put_steps p (old_entry (old-as.At x.at st)) (name_bytes image x) (content_bytes image x u)
+      → put_steps p (old_entry (old_at x.at st)) (name_bytes image x) (content_bytes image x u)
       ≡ put_steps p (some (entry_of image x)) (name_of (entry_of image x)) (content_of (entry_of image x))
   copy_is p st u b e =
       let v = entry_of image x in

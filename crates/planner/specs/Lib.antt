@@ -1,3 +1,4 @@
+pub mod Answers
 pub mod Close
 pub mod Place
 pub mod Walk

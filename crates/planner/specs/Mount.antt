@@ -12,7 +12,6 @@ use Rattle.spec.specs.Chain.{Reading}
 use Rattle.spec.specs.Files.{files}
 use Rattle.spec.specs.Reading.{marks_ok}
 use Rattle.spec.specs.Answers.{report_of}
-use Rattle.spec.specs.Planner.{Slices}
 use Rattle.laws.specs.Settled.{second_marked}
 use Rattle.planning.specs.Repairs.{steps_1, steps_2, steps_3}
 use Rattle.planning.specs.Planned.{led_place, planned_mend, mended_reading}
@@ -36,10 +35,10 @@ use Rattle.planner.specs.Superseded.{without_first, behind_is}
 
 -- ---- repair 4, with the cursors that the code has
 
-pub drops_handed : {s t : Slices} {w r : Window} {all es own : List Entry} {b : Bool} → all ≡ own → es ≡ without_first b all
-    → b ≡ second_marked own → Handed s w (dropped all es) t r → Handed s w (dropped own (behind own)) t r
-drops_handed {s} {t} {w} {r} {own = own} {b = b} e f g h =
-    subst (λ (ss : List Step). Handed s w ss t r) (ap₂ dropped e (f ∙ ap (without_first b) e ∙ behind_is own g)) h
+pub drops_handed : {w r : Window} {all es own : List Entry} {b : Bool} → all ≡ own → es ≡ without_first b all
+    → b ≡ second_marked own → Handed w (dropped all es) r → Handed w (dropped own (behind own)) r
+drops_handed {w} {r} {own = own} {b = b} e f g h =
+    subst (λ (ss : List Step). Handed w ss r) (ap₂ dropped e (f ∙ ap (without_first b) e ∙ behind_is own g)) h
 
 -- ---- all four
 

@@ -1,5 +1,6 @@
 -- What a planned move leaves: nothing where there is none; else its steps, and a place, a cursor and a first copy to go on from.
-use Rattle.std.specs.Prelude.{ℕ, suc, ◌+◌, ◌*◌, ◌%◌, ◌≤◌, ◌<◌, ◌^◌, ◌≡◌, refl, Bool, true, false, ◌&&◌, not, List, [], ◌∷◌, ◌++◌, length, eqb, ltb}
+use Rattle.std.specs.Prelude.{ℕ, suc, ◌+◌, ◌*◌, ◌%◌, ◌≤◌, ◌<◌, ◌^◌, ◌≡◌, refl, Bool, true, false, ◌&&◌, not}
+use Rattle.std.specs.Prelude.{List, [], ◌∷◌, ◌++◌, length, eqb, ltb, None, Some}
 use Rattle.std.proofs.Common.{arith, sym, ap, ap₂, subst, ◌∙◌}
 use Rattle.std.proofs.Math.Option.{some}
 use Rattle.spec.specs.declared.Place.{Place}
@@ -10,7 +11,6 @@ use Rattle.spec.specs.Files.{live}
 use Rattle.spec.specs.Place.{fits, fits_at_tail, address, place_after}
 use Rattle.spec.specs.Placed.{PlaceSound}
 use Rattle.spec.specs.Write.{put_steps}
-use Rattle.spec.specs.Planner.{Slices}
 use Rattle.planning.specs.Planned.{come_round, copied_place, led_place, walked}
 use Rattle.chain.specs.declared.Cursor.{Cursor}
 use Rattle.chain.specs.declared.Spot.{Spot}
@@ -20,9 +20,8 @@ use Rattle.chain.specs.Fold.{Whole, name_length_is, content_length_is}
 use Rattle.writing.specs.Placing.{placed_inside}
 use Rattle.writing.specs.Put.{Ready}
 use Rattle.window.specs.declared.Window.{Window}
-use Rattle.planner.specs.declared.Copied.{Copied}
+use Rattle.planner.specs.Answers.{Copied, Moved}
 use Rattle.planner.specs.declared.Walk.{Walk}
-use Rattle.planner.specs.declared.Moved.{Moved}
 use Rattle.window.specs.Handed.{Handed, handed_both}
 use Rattle.planner.specs.Walk.{copy_entry, first_of, going_on, walked_full, walked_live, walked_dead, walked_end}
 
@@ -30,8 +29,8 @@ use Rattle.planner.specs.Walk.{copy_entry, first_of, going_on, walked_full, walk
 
 -- the copy lies in an image of this length
 abbrev pub Below : Copied → ℕ → Type 0
-Below Copied.None N = Unit {0}
-Below (Copied.At a) N = a < N
+Below None N = Unit {0}
+Below (Some a) N = a < N
 
 -- a place in an image of this length, with its tail on a boundary
 pub record Walkable (N : ℕ) (p : Place) : Type 0 where
@@ -52,51 +51,47 @@ moves_left image k all v = walked k all v.place (rest image v.cursor).entries (c
 
 -- ---- what (b) to (f) leave
 
-pub record OnHanded (image : Image) (x : Spot) (past : Cursor) (p : Place) (c : Copied) (s : Slices) (w : Window) (t : Slices) (v : Walk)
-    (r : Window)
-    : Type 0 where
+pub record OnHanded (image : Image) (x : Spot) (past : Cursor) (p : Place) (c : Copied) (w r : Window) (v : Walk) : Type 0 where
   pub steps : List Step
-  pub handed : Handed s w steps t r
+  pub handed : Handed w steps r
   pub moves : (k : ℕ) (all : List Entry) (ss : List Step)
       → going_on k all (length image) (entry_of image x) (rest image past).entries p (copy_entry c) ss ≡
       (ss ++ steps) ∷ moves_left image k all v
   pub known : Known image v
   pub few : r.passed ≤ w.passed + (2 * length image + 4)
 
-abbrev pub OverHanded : Image → Spot → Cursor → Place → Copied → Slices → Window → Slices → Moved → Type 0
-OverHanded image x past p c s w t Moved.Stop = (t ≡ s) × ((k : ℕ) (all : List Entry) (ss : List Step)
+abbrev pub OverHanded : Image → Spot → Cursor → Place → Copied → Window → Window → Moved → Type 0
+OverHanded image x past p c w r None = (r ≡ w) × ((k : ℕ) (all : List Entry) (ss : List Step)
     → going_on k all (length image) (entry_of image x) (rest image past).entries p (copy_entry c) ss ≡ [])
-OverHanded image x past p c s w t (Moved.On v r) = OnHanded image x past p c s w t v r
+OverHanded image x past p c w r (Some v) = OnHanded image x past p c w r v
 
 -- ---- what a move of a live X leaves
 
-pub record LiveWent (image : Image) (x : Spot) (past : Cursor) (p : Place) (c : Copied) (s : Slices) (w : Window) (t : Slices) (v : Walk)
-    (r : Window)
-    : Type 0 where
+pub record LiveWent (image : Image) (x : Spot) (past : Cursor) (p : Place) (c : Copied) (w r : Window) (v : Walk) : Type 0 where
   pub steps : List Step
-  pub handed : Handed s w steps t r
+  pub handed : Handed w steps r
   pub moves : (k : ℕ) (all : List Entry) → live all (entry_of image x) ≡ true
       → walked (suc k) all p (entry_of image x ∷ (rest image past).entries) (copy_entry c) ≡ steps ∷ moves_left image k all v
   pub known : Known image v
   pub few : r.passed ≤ w.passed + 2 ^ 27
 
-abbrev pub LiveHanded : Image → Spot → Cursor → Place → Copied → Slices → Window → Slices → Moved → Type 0
-LiveHanded image x past p c s w t Moved.Stop = (t ≡ s) × ((k : ℕ) (all : List Entry) → live all (entry_of image x) ≡ true
+abbrev pub LiveHanded : Image → Spot → Cursor → Place → Copied → Window → Window → Moved → Type 0
+LiveHanded image x past p c w r None = (r ≡ w) × ((k : ℕ) (all : List Entry) → live all (entry_of image x) ≡ true
     → walked (suc k) all p (entry_of image x ∷ (rest image past).entries) (copy_entry c) ≡ [])
-LiveHanded image x past p c s w t (Moved.On v r) = LiveWent image x past p c s w t v r
+LiveHanded image x past p c w r (Some v) = LiveWent image x past p c w r v
 
 -- ---- what a whole move leaves, of the entry chain `all`
 
-pub record Went (image : Image) (all : List Entry) (v : Walk) (s : Slices) (w : Window) (t : Slices) (u : Walk) (r : Window) : Type 0 where
+pub record Went (image : Image) (all : List Entry) (v : Walk) (w : Window) (u : Walk) (r : Window) : Type 0 where
   pub steps : List Step
-  pub handed : Handed s w steps t r
+  pub handed : Handed w steps r
   pub moves : (k : ℕ) → moves_left image (suc k) all v ≡ steps ∷ moves_left image k all u
   pub known : Known image u
   pub few : r.passed ≤ w.passed + 2 ^ 27
 
-abbrev pub MoveHanded : Image → List Entry → Walk → Slices → Window → Slices → Moved → Type 0
-MoveHanded image all v s w t Moved.Stop = (t ≡ s) × ((k : ℕ) → moves_left image (suc k) all v ≡ [])
-MoveHanded image all v s w t (Moved.On u r) = Went image all v s w t u r
+abbrev pub MoveHanded : Image → List Entry → Walk → Window → Window → Moved → Type 0
+MoveHanded image all v w r None = (r ≡ w) × ((k : ℕ) → moves_left image (suc k) all v ≡ [])
+MoveHanded image all v w r (Some u) = Went image all v w u r
 
 -- ---- places stay good
 
@@ -163,14 +158,14 @@ unfolding copied_place
 copied_is p z = refl
 
 pub first_below : (c : Copied) (a N : ℕ) → Below c N → a < N → Below (first_of c a) N
-first_below Copied.None a N b h = h
-first_below (Copied.At i) a N b h = b
+first_below None a N b h = h
+first_below (Some i) a N b h = b
 
 -- with a copy made there is a Y
 never_ends : (k : ℕ) (all : List Entry) (N : ℕ) (x : Entry) (xs : List Entry) (p : Place) (c : Copied) (a : ℕ) (ss : List Step)
     → going_on k all N x xs p (copy_entry (first_of c a)) ss ≡ [] → ⊥
-never_ends k all N x [] p Copied.None a ss e = let z : ◌≡◌ {A = ℕ} 0 1 = cc in omega arith
-never_ends k all N x [] p (Copied.At b) a ss e = let z : ◌≡◌ {A = ℕ} 0 1 = cc in omega arith
+never_ends k all N x [] p None a ss e = let z : ◌≡◌ {A = ℕ} 0 1 = cc in omega arith
+never_ends k all N x [] p (Some b) a ss e = let z : ◌≡◌ {A = ℕ} 0 1 = cc in omega arith
 never_ends k all N x (y ∷ xs) p c a ss e = let z : ◌≡◌ {A = ℕ} 0 1 = cc in omega arith
 
 module _ (image : Image) (x : Spot) (past : Cursor) (p : Place) (c : Copied) (whole : Whole image x)
@@ -178,8 +173,8 @@ module _ (image : Image) (x : Spot) (past : Cursor) (p : Place) (c : Copied) (wh
   size_is : size (entry_of image x) ≡ size_of x.n x.d
   size_is = ap₂ size_of (name_length_is image x whole) (content_length_is image x whole)
 
-  pub live_full : (s : Slices) (w : Window) → fits p (size_of x.n x.d) ≡ false → LiveHanded image x past p c s w s Moved.Stop
-  live_full s w f = (
+  pub live_full : (w : Window) → fits p (size_of x.n x.d) ≡ false → LiveHanded image x past p c w w None
+  live_full w f = (
     refl,
     λ k all l. walked_full k all p (entry_of image x) (rest image past).entries (copy_entry c) l
         (ap (fits p) size_is ∙ f),
@@ -209,14 +204,14 @@ module _ (image : Image) (x : Spot) (past : Cursor) (p : Place) (c : Copied) (wh
         ∙ ap₂ (λ (N : ℕ) (r : Place). going_on k all N v (rest image past).entries r (copy_entry (first_of c a)) ss) good.whole
         (ap (copied_place p) size_is ∙ sym (copied_is p z) ∙ ap come_round after)
 
-    pub live_over : (s t u : Slices) (w b : Window) (r : Moved)
-        → Handed s w (put_steps p (some (entry_of image x)) (name_of (entry_of image x)) (content_of (entry_of image x))) t b
+    pub live_over : (w b r : Window) (m : Moved)
+        → Handed w (put_steps p (some (entry_of image x)) (name_of (entry_of image x)) (content_of (entry_of image x))) b
         → b.passed ≤ w.passed + 2 ^ 25
-        → OverHanded image x past (come_round q) (first_of c a) t b u r
-        → LiveHanded image x past p c s w u r
-    live_over s t u w b Moved.Stop h few o =
+        → OverHanded image x past (come_round q) (first_of c a) b r m
+        → LiveHanded image x past p c w r m
+    live_over w b r None h few o =
         absurd (never_ends 0 [] (length image) (entry_of image x) (rest image past).entries (come_round q) c a [] (o.1 0 [] []))
-    live_over s t u w b (Moved.On v r) h few o =
+    live_over w b r (Some v) h few o =
         record {
           steps = _;
           handed = handed_both h o.handed;
@@ -228,8 +223,8 @@ module _ (image : Image) (x : Spot) (past : Cursor) (p : Place) (c : Copied) (wh
 -- ---- a whole move, by what stands at the cursor
 
 module _ (image : Image) (all : List Entry) (v : Walk) (good : Known image v) where
-  pub move_none : (s : Slices) (w : Window) → (rest image v.cursor).entries ≡ [] → MoveHanded image all v s w s Moved.Stop
-  move_none s w e = (
+  pub move_none : (w : Window) → (rest image v.cursor).entries ≡ [] → MoveHanded image all v w w None
+  move_none w e = (
     refl,
     λ k. ap (λ (xs : List Entry). walked (suc k) all v.place xs (copy_entry v.copy)) e
         ∙ walked_end (suc k) all v.place (copy_entry v.copy),
@@ -240,10 +235,10 @@ module _ (image : Image) (all : List Entry) (v : Walk) (good : Known image v) wh
         ≡ walked (suc k) all v.place (entry_of image x ∷ (rest image past).entries) (copy_entry v.copy)
     here k = ap (λ (xs : List Entry). walked (suc k) all v.place xs (copy_entry v.copy)) e
 
-    pub move_live : (s t : Slices) (w : Window) (r : Moved) → live all (entry_of image x) ≡ true
-        → LiveHanded image x past v.place v.copy s w t r → MoveHanded image all v s w t r
-    move_live s t w Moved.Stop l o = (o.0, λ k. here k ∙ o.1 k all l)
-    move_live s t w (Moved.On u r) l o =
+    pub move_live : (w r : Window) (m : Moved) → live all (entry_of image x) ≡ true
+        → LiveHanded image x past v.place v.copy w r m → MoveHanded image all v w r m
+    move_live w r None l o = (o.0, λ k. here k ∙ o.1 k all l)
+    move_live w r (Some u) l o =
         record { steps = o.steps; handed = o.handed; moves = λ k. here k ∙ o.moves k all l; known = o.known; few = o.few }
 
     dead_walked : (k : ℕ) → live all (entry_of image x) ≡ false
@@ -254,10 +249,10 @@ module _ (image : Image) (all : List Entry) (v : Walk) (good : Known image v) wh
         ∙ ap (λ (N : ℕ). going_on k all N (entry_of image x) (rest image past).entries v.place (copy_entry v.copy) [])
         good.place.whole
 
-    pub move_dead : (s t : Slices) (w : Window) (r : Moved) → live all (entry_of image x) ≡ false
-        → OverHanded image x past v.place v.copy s w t r → MoveHanded image all v s w t r
-    move_dead s t w Moved.Stop l o = (o.0, λ k. dead_walked k l ∙ o.1 k all [])
-    move_dead s t w (Moved.On u r) l o =
+    pub move_dead : (w r : Window) (m : Moved) → live all (entry_of image x) ≡ false
+        → OverHanded image x past v.place v.copy w r m → MoveHanded image all v w r m
+    move_dead w r None l o = (o.0, λ k. dead_walked k l ∙ o.1 k all [])
+    move_dead w r (Some u) l o =
         record {
           steps = o.steps;
           handed = o.handed;

@@ -8,7 +8,6 @@ use Rattle.spec.specs.Geometry.{floor, ceiling, sectors}
 use Rattle.spec.specs.Bytes.{is_clean, is_start}
 use Rattle.spec.specs.Record.{Entry}
 use Rattle.spec.specs.Reading.{head_clean}
-use Rattle.spec.specs.Planner.{Slices}
 use Rattle.spec.specs.Move.{start_steps, close_steps}
 use Rattle.spec.specs.Mount.{dirty, erase_steps, head_low, status_void_steps, torn_steps}
 use Rattle.planning.specs.Repairs.{steps_1, steps_2}
@@ -103,9 +102,9 @@ module _ {s : Image} {v : Survey} (w : Surveyed s v) where
 
 -- ---- 3: a status voided, by way of another byte
 
-pub void_handed : {s t u : Slices} {w q r : Window} (a status : ℕ) {first : ℕ} → first ≡ status - 0x80
-    → Handed s w (program a first ∷ []) t q → Handed t q (program a 0x00 ∷ []) u r → Handed s w (status_void_steps a status) u r
-void_handed {s} {t} {w = w} {q = q} a status e f g = handed_both (subst (λ (b : ℕ). Handed s w (program a b ∷ []) t q) e f) g
+pub void_handed : {w q r : Window} (a status : ℕ) {first : ℕ} → first ≡ status - 0x80
+    → Handed w (program a first ∷ []) q → Handed q (program a 0x00 ∷ []) r → Handed w (status_void_steps a status) r
+void_handed {w} {q} a status e f g = handed_both (subst (λ (b : ℕ). Handed w (program a b ∷ []) q) e f) g
 
 -- ---- 3: a torn record, at its address
 

@@ -29,7 +29,8 @@ behind_is es e = ap (λ (u : Bool). without_first u es) e ∙ go _ refl where
 -- ---- the chain, record by record
 
 module _ (image : Image) (c : Cursor) where
-  pub entries_on : (e : Spot) (next : Cursor) → Passes image c e next → (rest image c).entries ≡ entry_of image e ∷ (rest image next).entries
+  pub entries_on : (e : Spot) (next : Cursor) → Passes image c e next
+      → (rest image c).entries ≡ entry_of image e ∷ (rest image next).entries
   entries_on e next p = ap (λ (r : Run). r.entries) p.split
 
   pub entries_end : (r : Item) → r ≡ advance image c → NotRecord r → (rest image c).entries ≡ []

@@ -1,5 +1,5 @@
 -- A sweep's moves by the entry chain: one move, and what the next one goes by.
-use Rattle.std.specs.Prelude.{ℕ, zero, suc, ◌≡◌, refl, Bool, true, false, List, [], ◌∷◌, ◌++◌}
+use Rattle.std.specs.Prelude.{ℕ, zero, suc, ◌≡◌, refl, Bool, true, false, List, [], ◌∷◌, ◌++◌, None, Some}
 use Rattle.std.proofs.Common.{arith, sym, ap, ap₂, ◌∙◌}
 use Rattle.std.proofs.Math.Option.{Option, none, some}
 use Rattle.spec.specs.Step.{Step, program}
@@ -10,22 +10,22 @@ use Rattle.spec.specs.Place.{fits, address}
 use Rattle.spec.specs.Write.{put_steps}
 use Rattle.spec.specs.Move.{close_steps}
 use Rattle.planning.specs.Planned.{copied_place, led_place, copy_of, next_of, first_copy, handing, walked}
-use Rattle.planner.specs.declared.Copied.{Copied}
+use Rattle.planner.specs.Answers.{Copied}
 use Rattle.planner.specs.Close.{standing, close_same}
 
 -- ---- the first copy, told by its address
 
 abbrev pub copy_entry : Copied → Option Entry
-copy_entry Copied.None = none
-copy_entry (Copied.At a) = some (standing a)
+copy_entry None = none
+copy_entry (Some a) = some (standing a)
 
 abbrev pub address_of : Option Entry → Copied
-address_of none = Copied.None
-address_of (some e) = Copied.At e.at
+address_of none = None
+address_of (some e) = Some e.at
 
 pub address_copy : (c : Copied) → address_of (copy_entry c) ≡ c
-address_copy Copied.None = refl
-address_copy (Copied.At a) = refl
+address_copy None = refl
+address_copy (Some a) = refl
 
 abbrev bare : Option Entry → Option Entry
 bare c = copy_entry (address_of c)
@@ -99,13 +99,13 @@ walked_bare (suc k) all p (x ∷ xs) c = go _ _ refl refl (λ (q : Place) (d : O
 
 -- a live X that fits: its copy goes to the address a, and is the first unless there is one
 abbrev pub first_of : Copied → ℕ → Copied
-first_of Copied.None a = Copied.At a
-first_of (Copied.At b) a = Copied.At b
+first_of None a = Some a
+first_of (Some b) a = Some b
 
 first_is : (c : Copied) (p : Place) (x : Entry) (a : ℕ) → address p (size x) ≡ a
     → bare (first_copy (copy_entry c) (copy_of p x)) ≡ copy_entry (first_of c a)
-first_is Copied.None p x a e = ap (λ (i : ℕ). some (standing i)) e
-first_is (Copied.At b) p x a e = refl
+first_is None p x a e = ap (λ (i : ℕ). some (standing i)) e
+first_is (Some b) p x a e = refl
 
 module _ (k : ℕ) (all : List Entry) (p : Place) (x : Entry) (xs : List Entry) (c : Copied) (a : ℕ) where
   pub walked_live : live all x ≡ true → fits p (size x) ≡ true → address p (size x) ≡ a → walked (suc k) all p (x ∷ xs) (copy_entry c)
@@ -123,17 +123,17 @@ module _ (k : ℕ) (all : List Entry) (p : Place) (x : Entry) (xs : List Entry) 
 
 module _ (k : ℕ) (all : List Entry) (N : ℕ) (x : Entry) (xs : List Entry) (p : Place) (c : Copied) (ss : List Step) where
   -- no Y
-  pub over_none : address_of (next_of xs (copy_entry c)) ≡ Copied.None → going_on k all N x xs p (copy_entry c) ss ≡ []
+  pub over_none : address_of (next_of xs (copy_entry c)) ≡ None → going_on k all N x xs p (copy_entry c) ss ≡ []
   over_none e = go (next_of xs (copy_entry c)) refl e where
-    go : (o : Option Entry) → next_of xs (copy_entry c) ≡ o → address_of o ≡ Copied.None → going_on k all N x xs p (copy_entry c) ss ≡ []
+    go : (o : Option Entry) → next_of xs (copy_entry c) ≡ o → address_of o ≡ None → going_on k all N x xs p (copy_entry c) ss ≡ []
     go none f g = ap (λ (o : Option Entry). handing N x o (λ y. walked k all (led_place p y.at) xs (copy_entry c)) ss) f
     go (some y) f g = let z : ◌≡◌ {A = ℕ} 0 1 = cc in absurd (omega arith)
 
   -- Y at the address y
-  pub over_at : (y : ℕ) → address_of (next_of xs (copy_entry c)) ≡ Copied.At y
+  pub over_at : (y : ℕ) → address_of (next_of xs (copy_entry c)) ≡ Some y
       → going_on k all N x xs p (copy_entry c) ss ≡ (ss ++ over_steps N x y) ∷ walked k all (led_place p y) xs (copy_entry c)
   over_at y e = go (next_of xs (copy_entry c)) refl e where
-    go : (o : Option Entry) → next_of xs (copy_entry c) ≡ o → address_of o ≡ Copied.At y
+    go : (o : Option Entry) → next_of xs (copy_entry c) ≡ o → address_of o ≡ Some y
         → going_on k all N x xs p (copy_entry c) ss ≡ (ss ++ over_steps N x y) ∷ walked k all (led_place p y) xs (copy_entry c)
     go none f g = let z : ◌≡◌ {A = ℕ} 0 1 = cc in absurd (omega arith)
     go (some v) f g =

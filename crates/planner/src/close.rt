@@ -6,7 +6,7 @@ ghost use Rattle.spec.specs.Move.{mark_steps, clean_steps, start_steps, forget_s
 ghost use Rattle.chain.specs.Rest.{entry_of};
 ghost use Rattle.chain.specs.Fold.{Whole};
 ghost use Rattle.moving.specs.Clean.{cleaned_steps};
-ghost use Rattle.window.specs.Handed.{slices, Handed, Counts};
+ghost use Rattle.window.specs.Handed.{Handed, Counts};
 ghost use Rattle.planner.specs.Close.{standing};
 
 use chain::Spot;
@@ -14,179 +14,93 @@ use moving::clean::is_mark;
 use moving::vacated_end;
 use record::up_8;
 use spec::{CLEAN, SECTOR, START, floor};
-use window::{Window, hand_erases, hand_program, hand_two};
+use window::Window;
 
 // The pair at this address, if it could be taken for a head's magic or a record's: its second byte 00.
-fn hand_pair(
-    image: &[u8],
-    kinds: &mut [u32],
-    addresses: &mut [u32],
-    bytes: &mut [u32],
-    at: usize,
-    w: Window,
-) -> Window
+fn hand_pair(out: &mut Window<'_>, image: &[u8], at: usize)
     requires at_in_bounds { (at + 1 < length image.now) × (length image.now ≤ 2 ^ 24) }
-    requires counts { Counts w 1 }
-    ensures handed { Handed (slices kinds.old addresses.old bytes.old) w
-        (mark_steps at (drop at image.now))
-        (slices kinds.new addresses.new bytes.new) result }
-    ensures passed_bound { result.passed ≤ w.passed + 1 }
+    requires counts { Counts out.old 1 }
+    ensures handed { Handed out.old (mark_steps at (drop at image.now)) out.new }
+    ensures passed_bound { out.new.passed ≤ out.old.passed + 1 }
 {
     if is_mark(image[at], image[at + 1]) {
-        return hand_program(kinds, addresses, bytes, at + 1, 0x00, w);
+        out.program(at + 1, 0x00);
     }
-    w
 }
 
 // The pairs at the 8-byte boundaries of the d bytes from `at` on.
-fn hand_pairs(
-    image: &[u8],
-    kinds: &mut [u32],
-    addresses: &mut [u32],
-    bytes: &mut [u32],
-    at: usize,
-    d: usize,
-    w: Window,
-) -> Window
+fn hand_pairs(out: &mut Window<'_>, image: &[u8], at: usize, d: usize)
     requires d_in_bounds { (at + d ≤ length image.now) × (length image.now ≤ 2 ^ 24) }
-    requires counts { Counts w d }
-    ensures handed { Handed (slices kinds.old addresses.old bytes.old) w
-        (clean_steps d at (take d (drop at image.now)))
-        (slices kinds.new addresses.new bytes.new) result }
-    ensures passed_bound { result.passed ≤ w.passed + d }
+    requires counts { Counts out.old d }
+    ensures handed { Handed out.old (clean_steps d at (take d (drop at image.now))) out.new }
+    ensures passed_bound { out.new.passed ≤ out.old.passed + d }
 {
-    let mut q = w;
-    let mut i = 0;
-    while i + 1 < d {
-        q = hand_pair(image, kinds, addresses, bytes, at + i, q);
-        i += 8;
+    for i in (0..d.saturating_sub(1)).step_by(8) {
+        hand_pair(out, image, at + i);
     }
-    q
 }
 
 // (c) X's data.
-fn hand_cleaned(
-    image: &[u8],
-    kinds: &mut [u32],
-    addresses: &mut [u32],
-    bytes: &mut [u32],
-    x: Spot,
-    w: Window,
-) -> Window
+fn hand_cleaned(out: &mut Window<'_>, image: &[u8], x: Spot)
     requires whole { Whole image.now x × (length image.now ≤ 2 ^ 24) }
-    requires counts { Counts w x.d }
-    ensures handed { Handed (slices kinds.old addresses.old bytes.old) w
-        (cleaned_steps (entry_of image.now x))
-        (slices kinds.new addresses.new bytes.new) result }
-    ensures passed_bound { result.passed ≤ w.passed + x.d }
+    requires counts { Counts out.old x.d }
+    ensures handed { Handed out.old (cleaned_steps (entry_of image.now x)) out.new }
+    ensures passed_bound { out.new.passed ≤ out.old.passed + x.d }
 {
-    hand_pairs(
-        image,
-        kinds,
-        addresses,
-        bytes,
-        x.at + 8 + up_8(x.n + 1),
-        x.d,
-        w,
-    )
+    hand_pairs(out, image, x.at + 8 + up_8(x.n + 1), x.d);
 }
 
 // (e) A CLEAN record becomes START, from A0 by way of 80.
-pub fn hand_start(
-    kinds: &mut [u32],
-    addresses: &mut [u32],
-    bytes: &mut [u32],
-    at: usize,
-    low: u8,
-    w: Window,
-) -> Window
+pub fn hand_start(out: &mut Window<'_>, at: usize, low: u8)
     requires at_bound { at < 2 ^ 32 }
-    requires counts { Counts w 2 }
-    ensures handed { Handed (slices kinds.old addresses.old bytes.old) w
-        (start_steps at low)
-        (slices kinds.new addresses.new bytes.new) result }
-    ensures passed_bound { result.passed ≤ w.passed + 2 }
+    requires counts { Counts out.old 2 }
+    ensures handed { Handed out.old (start_steps at low) out.new }
+    ensures passed_bound { out.new.passed ≤ out.old.passed + 2 }
 {
     if low == CLEAN {
-        return hand_two(kinds, addresses, bytes, at, 0x80, w);
+        out.program_by(at, 0x80);
+    } else {
+        out.program(at, START);
     }
-    hand_program(kinds, addresses, bytes, at, START, w)
 }
 
 // (e) and (f): X's second byte goes, if its sector is not erased, where the erased sectors end at `to` at most.
-fn hand_over(
-    kinds: &mut [u32],
-    addresses: &mut [u32],
-    bytes: &mut [u32],
-    x: usize,
-    to: usize,
-    y: usize,
-    low: u8,
-    w: Window,
-) -> Window
+fn hand_over(out: &mut Window<'_>, x: usize, to: usize, y: usize, low: u8)
     requires x_bound { (x ≤ 2 ^ 24) × (y < 2 ^ 32) }
-    requires counts { Counts w 3 }
-    ensures handed { Handed (slices kinds.old addresses.old bytes.old) w
+    requires counts { Counts out.old 3 }
+    ensures handed { Handed out.old
         (start_steps y low ++ forget_steps (standing x) (sectors (floor x) to))
-        (slices kinds.new addresses.new bytes.new) result }
-    ensures passed_bound { result.passed ≤ w.passed + 3 }
+        out.new }
+    ensures passed_bound { out.new.passed ≤ out.old.passed + 3 }
 {
-    let a = hand_start(kinds, addresses, bytes, y, low, w);
-    if floor(x) + SECTOR <= to {
-        return a;
+    hand_start(out, y, low);
+    if to < floor(x) + SECTOR {
+        out.program(x + 1, 0x00);
     }
-    hand_program(kinds, addresses, bytes, x + 1, 0x00, a)
 }
 
 // (d) to (f).
-fn hand_vacated(
-    kinds: &mut [u32],
-    addresses: &mut [u32],
-    bytes: &mut [u32],
-    x: usize,
-    to: usize,
-    y: usize,
-    low: u8,
-    w: Window,
-) -> Window
+fn hand_vacated(out: &mut Window<'_>, x: usize, to: usize, y: usize, low: u8)
     requires x_bound { (x ≤ 2 ^ 24) × (to ≤ 2 ^ 24) × (y < 2 ^ 32) }
-    requires counts { Counts w (to + 3) }
-    ensures handed { Handed (slices kinds.old addresses.old bytes.old) w
+    requires counts { Counts out.old (to + 3) }
+    ensures handed { Handed out.old
         (vacate_steps (standing x) (standing y) low (sectors (floor x) to))
-        (slices kinds.new addresses.new bytes.new) result }
-    ensures passed_bound { result.passed ≤ w.passed + (to + 3) }
+        out.new }
+    ensures passed_bound { out.new.passed ≤ out.old.passed + (to + 3) }
 {
-    let a = hand_erases(kinds, addresses, bytes, floor(x), to, w);
-    hand_over(kinds, addresses, bytes, x, to, y, low, a)
+    out.erase_sectors(floor(x), to);
+    hand_over(out, x, to, y, low);
 }
 
 // (c) to (f), of the record X and of a Y at this address with this low byte.
-pub fn hand_close(
-    image: &[u8],
-    kinds: &mut [u32],
-    addresses: &mut [u32],
-    bytes: &mut [u32],
-    x: Spot,
-    y: usize,
-    low: u8,
-    w: Window,
-) -> Window
+pub fn hand_close(out: &mut Window<'_>, image: &[u8], x: Spot, y: usize, low: u8)
     requires whole { Whole image.now x × (y < length image.now) × (length image.now ≤ 2 ^ 24) }
-    requires counts { Counts w (2 * length image.now + 3) }
-    ensures handed { Handed (slices kinds.old addresses.old bytes.old) w
+    requires counts { Counts out.old (2 * length image.now + 3) }
+    ensures handed { Handed out.old
         (close_steps (length image.now) (entry_of image.now x) (standing y) low)
-        (slices kinds.new addresses.new bytes.new) result }
-    ensures passed_bound { result.passed ≤ w.passed + (2 * length image.now + 3) }
+        out.new }
+    ensures passed_bound { out.new.passed ≤ out.old.passed + (2 * length image.now + 3) }
 {
-    let a = hand_cleaned(image, kinds, addresses, bytes, x, w);
-    hand_vacated(
-        kinds,
-        addresses,
-        bytes,
-        x.at,
-        vacated_end(image.len(), y),
-        y,
-        low,
-        a,
-    )
+    hand_cleaned(out, image, x);
+    hand_vacated(out, x.at, vacated_end(image.len(), y), y, low);
 }

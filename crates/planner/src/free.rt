@@ -6,7 +6,7 @@ ghost use Rattle.planning.specs.Repairs.{steps_1};
 ghost use Rattle.chain.specs.FreeLaws.{InImage};
 ghost use Rattle.reading.specs.Read.{reading_of, Surveyed};
 ghost use Rattle.recovery.specs.DirtySectors.{dirty_erased};
-ghost use Rattle.window.specs.Handed.{slices, Handed, Counts};
+ghost use Rattle.window.specs.Handed.{Handed, Counts};
 
 use crate::close::hand_start;
 use chain::scan::low_of;
@@ -15,104 +15,58 @@ use reading::Survey;
 use record::bytes::is_clean;
 use recovery::free::ceiling;
 use spec::{Place, SECTOR, floor};
-use window::{Window, hand_erase};
+use window::Window;
 
 // The sector at this address, unless it is all FF already.
-fn hand_if_dirty(
-    kinds: &mut [u32],
-    addresses: &mut [u32],
-    bytes: &mut [u32],
-    image: &[u8],
-    at: usize,
-    w: Window,
-) -> Window
-    requires { (at + 4096 ≤ length image.now) × (at ≤ 2 ^ 24) × Counts w 1 }
-    ensures handed { Handed (slices kinds.old addresses.old bytes.old) w
-        (dirty_erased image.now (at ∷ []))
-        (slices kinds.new addresses.new bytes.new) result }
-    ensures passed_bound { result.passed ≤ w.passed + 1 }
+fn hand_if_dirty(out: &mut Window<'_>, image: &[u8], at: usize)
+    requires { (at + 4096 ≤ length image.now) × (at ≤ 2 ^ 24) × Counts out.old 1 }
+    ensures handed { Handed out.old (dirty_erased image.now (at ∷ [])) out.new }
+    ensures passed_bound { out.new.passed ≤ out.old.passed + 1 }
 {
-    let end = at + SECTOR;
-    if is_blank(&image[at..end]) {
-        return w;
+    if !is_blank(&image[at..at + SECTOR]) {
+        out.erase(at);
     }
-    hand_erase(kinds, addresses, bytes, at, w)
 }
 
 // Those of the sectors that are not all FF.
-fn hand_dirty(
-    kinds: &mut [u32],
-    addresses: &mut [u32],
-    bytes: &mut [u32],
-    image: &[u8],
-    from: usize,
-    to: usize,
-    w: Window,
-) -> Window
-    requires { (from ≤ 2 ^ 24) × (to ≤ length image.now) × (to ≤ 2 ^ 24) × Counts w to }
-    ensures handed { Handed (slices kinds.old addresses.old bytes.old) w
-        (dirty_erased image.now (sectors from to))
-        (slices kinds.new addresses.new bytes.new) result }
-    ensures passed_bound { result.passed ≤ w.passed + to }
+fn hand_dirty(out: &mut Window<'_>, image: &[u8], from: usize, to: usize)
+    requires { (from ≤ 2 ^ 24) × (to ≤ length image.now) × (to ≤ 2 ^ 24) × Counts out.old to }
+    ensures handed { Handed out.old (dirty_erased image.now (sectors from to)) out.new }
+    ensures passed_bound { out.new.passed ≤ out.old.passed + to }
 {
-    let mut q = w;
-    let mut a = from;
-    while a + SECTOR <= to {
-        q = hand_if_dirty(kinds, addresses, bytes, image, a, q);
-        a += SECTOR;
+    for a in (from..to.saturating_sub(SECTOR - 1)).step_by(SECTOR) {
+        hand_if_dirty(out, image, a);
     }
-    q
 }
 
 // The sectors that lie wholly in the free run and are not all FF.
-fn hand_run(
-    kinds: &mut [u32],
-    addresses: &mut [u32],
-    bytes: &mut [u32],
-    image: &[u8],
-    p: Place,
-    w: Window,
-) -> Window
-    requires { InImage image.now p × Counts w (2 * length image.now) }
-    ensures handed { Handed (slices kinds.old addresses.old bytes.old) w
-        (erase_steps image.now p)
-        (slices kinds.new addresses.new bytes.new) result }
-    ensures passed_bound { result.passed ≤ w.passed + 2 * length image.now }
+fn hand_run(out: &mut Window<'_>, image: &[u8], p: Place)
+    requires { InImage image.now p × Counts out.old (2 * length image.now) }
+    ensures handed { Handed out.old (erase_steps image.now p) out.new }
+    ensures passed_bound { out.new.passed ≤ out.old.passed + 2 * length image.now }
 {
     let low = floor(p.head);
     let from = ceiling(p.tail);
     if p.turned {
-        return hand_dirty(kinds, addresses, bytes, image, from, low, w);
+        hand_dirty(out, image, from, low);
+    } else {
+        hand_dirty(out, image, 0, low);
+        hand_dirty(out, image, from, p.length);
     }
-    let a = hand_dirty(kinds, addresses, bytes, image, 0, low, w);
-    hand_dirty(kinds, addresses, bytes, image, from, p.length, a)
 }
 
 // The repair, on what was read.
-pub fn hand_free(
-    kinds: &mut [u32],
-    addresses: &mut [u32],
-    bytes: &mut [u32],
-    image: &[u8],
-    s: Survey,
-    w: Window,
-) -> Window
-    requires { Surveyed image.now s × Counts w (2 * length image.now + 2) }
-    ensures handed { Handed (slices kinds.old addresses.old bytes.old) w
-        (steps_1 image.now (reading_of image.now s))
-        (slices kinds.new addresses.new bytes.new) result }
-    ensures passed_bound { result.passed ≤ w.passed + (2 * length image.now + 2) }
+pub fn hand_free(out: &mut Window<'_>, image: &[u8], s: Survey)
+    requires { Surveyed image.now s × Counts out.old (2 * length image.now + 2) }
+    ensures handed { Handed out.old (steps_1 image.now (reading_of image.now s)) out.new }
+    ensures passed_bound { out.new.passed ≤ out.old.passed + (2 * length image.now + 2) }
 {
-    let t = s.tally;
-    let p = s.place;
-    if t.records == 0 {
-        return w;
+    if s.tally.records == 0 {
+        return;
     }
-    let first = t.first;
-    let low = low_of(image, first);
+    let low = low_of(image, s.tally.first);
     if is_clean(low) {
-        let a = hand_run(kinds, addresses, bytes, image, p, w);
-        return hand_start(kinds, addresses, bytes, p.head, low, a);
+        hand_run(out, image, s.place);
+        hand_start(out, s.place.head, low);
     }
-    w
 }

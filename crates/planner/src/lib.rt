@@ -13,33 +13,14 @@ pub mod sweep;
 
 use chain::Cursor;
 use spec::Place;
-use window::Window;
 
-// The first copy that a planned sweep makes, if it has made one.
-#[derive(Clone, Copy)]
-pub enum Copied {
-    None,
-    At(usize),
-}
+// Recovery, moving and sweeping do the same steps, but read the image anew after those before; here all comes from the first reading. So
+// the two differ in more than a type, and stay apart.
 
 // Where a planned sweep stands: the cursor at X, the place that is read there, and the first copy.
 #[derive(Clone, Copy)]
 pub struct Walk {
     pub cursor: Cursor,
     pub place: Place,
-    pub copy: Copied,
-}
-
-// A move: there is none, or it was handed out, and the sweep goes on there.
-#[derive(Clone, Copy)]
-pub enum Moved {
-    Stop,
-    On(Walk, Window),
-}
-
-// The moves of a planned sweep, and its window.
-#[derive(Clone, Copy)]
-pub struct Moves {
-    pub moves: usize,
-    pub window: Window,
+    pub copy: Option<usize>,
 }

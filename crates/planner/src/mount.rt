@@ -8,7 +8,7 @@ ghost use Rattle.planning.specs.Told.{behind, behind_place};
 ghost use Rattle.reading.specs.Read.{reading_of, Surveyed};
 ghost use Rattle.reading.specs.Survey.{TornInside};
 ghost use Rattle.recovery.specs.Drop.{dropped};
-ghost use Rattle.window.specs.Handed.{slices, Handed, Counts};
+ghost use Rattle.window.specs.Handed.{Handed, Counts};
 
 use crate::finish::hand_finish;
 use crate::free::hand_free;
@@ -22,61 +22,37 @@ use spec::{Place, Report};
 use window::Window;
 
 // Repairs 1 and 2.
-fn hand_head(
-    kinds: &mut [u32],
-    addresses: &mut [u32],
-    bytes: &mut [u32],
-    image: &[u8],
-    s: Survey,
-    w: Window,
-) -> Window
-    requires { Surveyed image.now s × Counts w (4 * length image.now + 5) }
-    ensures handed { Handed (slices kinds.old addresses.old bytes.old) w
+fn hand_head(out: &mut Window<'_>, image: &[u8], s: Survey)
+    requires { Surveyed image.now s × Counts out.old (4 * length image.now + 5) }
+    ensures handed { Handed out.old
         (steps_1 image.now (reading_of image.now s)
         ++ steps_2 (length image.now) (reading_of image.now s).entries)
-        (slices kinds.new addresses.new bytes.new) result }
-    ensures passed_bound { result.passed ≤ w.passed + (4 * length image.now + 5) }
+        out.new }
+    ensures passed_bound { out.new.passed ≤ out.old.passed + (4 * length image.now + 5) }
 {
-    let a = hand_free(kinds, addresses, bytes, image, s, w);
-    hand_finish(kinds, addresses, bytes, image, s, a)
+    hand_free(out, image, s);
+    hand_finish(out, image, s);
 }
 
 // Repairs 3 and 4.
-fn hand_rest(
-    kinds: &mut [u32],
-    addresses: &mut [u32],
-    bytes: &mut [u32],
-    image: &[u8],
-    s: Survey,
-    w: Window,
-) -> Window
-    requires { Surveyed image.now s × TornInside (length image.now) s.ending × Counts w (2 * length image.now + 12) }
+fn hand_rest(out: &mut Window<'_>, image: &[u8], s: Survey)
+    requires { Surveyed image.now s × TornInside (length image.now) s.ending × Counts out.old (2 * length image.now + 12) }
     ensures { let es = (reading_of image.now s).entries in
-        Handed (slices kinds.old addresses.old bytes.old) w
-        (steps_3 image.now (reading_of image.now s) ++ dropped es (behind es))
-        (slices kinds.new addresses.new bytes.new) result }
+        Handed out.old (steps_3 image.now (reading_of image.now s) ++ dropped es (behind es)) out.new }
 {
-    let a = hand_last(kinds, addresses, bytes, image, s, w);
-    hand_superseded(kinds, addresses, bytes, image, s, a)
+    hand_last(out, image, s);
+    hand_superseded(out, image, s);
 }
 
 // All four, on an image that mount accepts.
-pub fn hand_mend(
-    kinds: &mut [u32],
-    addresses: &mut [u32],
-    bytes: &mut [u32],
-    image: &[u8],
-    s: Survey,
-    w: Window,
-) -> Window
-    requires surveyed { Surveyed image.now s × TornInside (length image.now) s.ending × Counts w (6 * length image.now + 17) }
+pub fn hand_mend(out: &mut Window<'_>, image: &[u8], s: Survey)
+    requires surveyed { Surveyed image.now s × TornInside (length image.now) s.ending
+        × Counts out.old (6 * length image.now + 17) }
     requires s_value { marks_ok (reading_of image.now s).entries ≡ true }
-    ensures { Handed (slices kinds.old addresses.old bytes.old) w
-        (planned_mend image.now (reading_of image.now s))
-        (slices kinds.new addresses.new bytes.new) result }
+    ensures { Handed out.old (planned_mend image.now (reading_of image.now s)) out.new }
 {
-    let a = hand_head(kinds, addresses, bytes, image, s, w);
-    hand_rest(kinds, addresses, bytes, image, s, a)
+    hand_head(out, image, s);
+    hand_rest(out, image, s);
 }
 
 // The place that is read when the repairs are done.
@@ -84,13 +60,10 @@ pub fn mended_place(image: &[u8], s: Survey) -> Place
     requires { Surveyed image.now s }
     ensures { result ≡ behind_place s.place (reading_of image.now s).entries }
 {
-    let place = s.place;
-    let t = s.tally;
-    let y = t.second;
     if leads(image, s) {
-        return led(place, y.at);
+        return led(s.place, s.tally.second.at);
     }
-    place
+    s.place
 }
 
 // What mount reports: head and tail that the repairs leave, and as many live files as there are now.
@@ -99,11 +72,10 @@ pub fn planned_report(image: &[u8], s: Survey) -> Report
     requires s_value { marks_ok (reading_of image.now s).entries ≡ true }
     ensures { result ≡ report_of (mended_reading (reading_of image.now s)) }
 {
-    let place = s.place;
-    let p = mended_place(image, s);
+    let Place { head, tail, .. } = mended_place(image, s);
     Report {
-        head: p.head,
-        tail: p.tail,
-        files: count_files(image, first_cursor(image, place.head)),
+        head,
+        tail,
+        files: count_files(image, first_cursor(image, s.place.head)),
     }
 }

@@ -1,7 +1,6 @@
 // The place that is read after a copy, and after the head has moved on: nothing is read again.
 ghost use Rattle.std.specs.Prelude.{◌≡◌};
 ghost use Rattle.planning.specs.Planned.{come_round, led_place};
-ghost use Rattle.planner.specs.Place.{with_head};
 
 use spec::{Place, floor};
 
@@ -9,40 +8,23 @@ use spec::{Place, floor};
 pub fn come_round(p: Place) -> Place
     ensures { result ≡ come_round p }
 {
-    if p.turned {
-        return p;
-    }
-    if p.tail == p.length {
-        if 0 < floor(p.head) {
-            return Place {
-                head: p.head,
-                tail: 0,
-                turned: true,
-                length: p.length,
-            };
-        }
+    if !p.turned && p.tail == p.length && floor(p.head) > 0 {
+        return Place {
+            tail: 0,
+            turned: true,
+            ..p
+        };
     }
     p
-}
-
-// The same place with another head, turned or not.
-fn with_head(p: Place, head: usize, turned: bool) -> Place
-    ensures { result ≡ with_head p head turned }
-{
-    Place {
-        head: head,
-        tail: p.tail,
-        turned: turned,
-        length: p.length,
-    }
 }
 
 // With Y at this address as the head; with Y at 0 the turn lies behind it.
 pub fn led(p: Place, y: usize) -> Place
     ensures { result ≡ led_place p y }
 {
-    if y == 0 {
-        return come_round(with_head(p, y, false));
-    }
-    come_round(with_head(p, y, p.turned))
+    come_round(Place {
+        head: y,
+        turned: p.turned && y != 0,
+        ..p
+    })
 }

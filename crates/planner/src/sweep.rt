@@ -9,256 +9,166 @@ ghost use Rattle.record.specs.Within.{NameLength};
 ghost use Rattle.chain.specs.Cursor.{CursorSound};
 ghost use Rattle.chain.specs.Rest.{entry_of, rest};
 ghost use Rattle.chain.specs.Fold.{Whole};
-ghost use Rattle.window.specs.Handed.{slices, Handed, Counts};
+ghost use Rattle.window.specs.Handed.{Handed, Counts};
 ghost use Rattle.planner.specs.Walk.{copy_entry, address_of, first_of, over_steps};
 ghost use Rattle.planner.specs.Moves.{Below, Walkable, Known, OverHanded, LiveHanded, MoveHanded};
 ghost use Rattle.planner.specs.Sweep.{MovesHanded};
 
+use crate::Walk;
 use crate::close::hand_close;
 use crate::place::{come_round, led};
-use crate::{Copied, Moved, Moves, Walk};
 use chain::files::is_live;
 use chain::walk::advance;
 use chain::{Cursor, Item, Spot};
 use record::{size, up_8};
-use spec::{CLEAN, Place, Placed, Status};
-use window::file::hand_file;
-use window::{Window, hand_program};
-use writing::Old;
+use spec::{CLEAN, Place, Placement, Status};
+use window::Window;
+use writing::OldFile;
 
-pub fn first_of(c: Copied, at: usize) -> Copied
+// The first copy that is made, with one at this address.
+pub fn first_of(c: Option<usize>, at: usize) -> Option<usize>
     ensures { result ≡ first_of c at }
 {
-    match c {
-        Copied::None => Copied::At(at),
-        Copied::At(a) => Copied::At(a),
-    }
+    c.or(Some(at))
 }
 
 // Where Y stands, if there is one: at the cursor behind X, or the first copy.
-pub fn find_next(image: &[u8], past: Cursor, copy: Copied) -> Copied
+pub fn find_next(image: &[u8], past: Cursor, copy: Option<usize>) -> Option<usize>
     requires { CursorSound image.now past × Below copy (length image.now) }
     ensures { let s = image.now in
         (result ≡ address_of (next_of (rest s past).entries (copy_entry copy))) × Below result (length s) }
 {
-    let Item::Record { spot: y, .. } = advance(image, past) else {
-        return copy;
-    };
-    Copied::At(y.at)
+    match advance(image, past) {
+        Item::Record { spot, .. } => Some(spot.at),
+        _ => copy,
+    }
 }
 
 // (b) to (f), with Y at this address.
-fn hand_next(
-    image: &[u8],
-    kinds: &mut [u32],
-    addresses: &mut [u32],
-    bytes: &mut [u32],
-    x: Spot,
-    y: usize,
-    w: Window,
-) -> Window
+fn hand_next(out: &mut Window<'_>, image: &[u8], x: Spot, y: usize)
     requires whole { Whole image.now x × (y < length image.now) × (length image.now ≤ 2 ^ 24) }
-    requires counts { Counts w (2 * length image.now + 4) }
-    ensures handed { Handed (slices kinds.old addresses.old bytes.old) w
-        (over_steps (length image.now) (entry_of image.now x) y)
-        (slices kinds.new addresses.new bytes.new) result }
-    ensures passed_bound { result.passed ≤ w.passed + (2 * length image.now + 4) }
+    requires counts { Counts out.old (2 * length image.now + 4) }
+    ensures handed { Handed out.old (over_steps (length image.now) (entry_of image.now x) y) out.new }
+    ensures passed_bound { out.new.passed ≤ out.old.passed + (2 * length image.now + 4) }
 {
-    let a = hand_program(kinds, addresses, bytes, y, CLEAN, w);
-    hand_close(image, kinds, addresses, bytes, x, y, CLEAN, a)
+    out.program(y, CLEAN);
+    hand_close(out, image, x, y, CLEAN);
 }
 
 // (b) to (f) of X, with the place and the first copy that (a) left: there is no Y, or the place at Y.
 fn hand_over(
+    out: &mut Window<'_>,
     image: &[u8],
-    kinds: &mut [u32],
-    addresses: &mut [u32],
-    bytes: &mut [u32],
     x: Spot,
     past: Cursor,
     place: Place,
-    copy: Copied,
-    w: Window,
-) -> Moved
+    copy: Option<usize>,
+) -> Option<Walk>
     requires cursor_sound { CursorSound image.now past × Whole image.now x × Below copy (length image.now)
         × Walkable (length image.now) place }
-    requires passed_bound { w.passed ≤ 2 ^ 31 }
-    ensures { OverHanded image.now x past place copy
-        (slices kinds.old addresses.old bytes.old) w
-        (slices kinds.new addresses.new bytes.new) result }
+    requires passed_bound { out.old.passed ≤ 2 ^ 31 }
+    ensures { OverHanded image.now x past place copy out.old out.new result }
 {
-    let Copied::At(y) = find_next(image, past, copy) else {
-        return Moved::Stop;
-    };
-    let a = hand_next(image, kinds, addresses, bytes, x, y, w);
-    Moved::On(
-        Walk {
-            cursor: past,
-            place: led(place, y),
-            copy: copy,
-        },
-        a,
-    )
+    let y = find_next(image, past, copy)?;
+    hand_next(out, image, x, y);
+    Some(Walk {
+        cursor: past,
+        place: led(place, y),
+        copy,
+    })
 }
 
 // (a) X copied to its place.
-fn hand_copy(
-    image: &[u8],
-    kinds: &mut [u32],
-    addresses: &mut [u32],
-    bytes: &mut [u32],
-    x: Spot,
-    place: Place,
-    w: Window,
-) -> Window
+fn hand_copy(out: &mut Window<'_>, image: &[u8], x: Spot, place: Place)
     requires whole { Whole image.now x × NameLength x.n × Walkable (length image.now) place
         × (fits place (size_of x.n x.d) ≡ true) }
-    requires passed_bound { w.passed ≤ 2 ^ 31 }
+    requires passed_bound { out.old.passed ≤ 2 ^ 31 }
     ensures fact { let e = entry_of image.now x in
-        Handed (slices kinds.old addresses.old bytes.old) w
-        (put_steps place (some e) (name_of e) (content_of e))
-        (slices kinds.new addresses.new bytes.new) result }
-    ensures passed_bound_2 { result.passed ≤ w.passed + 2 ^ 25 }
+        Handed out.old (put_steps place (some e) (name_of e) (content_of e)) out.new }
+    ensures passed_bound_2 { out.new.passed ≤ out.old.passed + 2 ^ 25 }
 {
     let at = x.at;
-    let status = at + 2;
     let name = at + 8;
-    let name_end = name + x.n;
-    let from = name + up_8(x.n + 1);
-    let to = from + x.d;
-    let old = Old::At {
-        at: at,
-        status: Status::from_byte(image[status]),
+    let content = name + up_8(x.n + 1);
+    let old = OldFile {
+        at,
+        status: Status::from_byte(image[at + 2]),
     };
-    hand_file(
-        kinds,
-        addresses,
-        bytes,
+    out.file(
         place,
-        old,
-        &image[name..name_end],
-        &image[from..to],
-        w,
-    )
+        Some(old),
+        &image[name..name + x.n],
+        &image[content..content + x.d],
+    );
 }
 
 // A live X: its copy, then (b) to (f); without room for it there is no move.
 fn hand_live(
+    out: &mut Window<'_>,
     image: &[u8],
-    kinds: &mut [u32],
-    addresses: &mut [u32],
-    bytes: &mut [u32],
     x: Spot,
     past: Cursor,
     place: Place,
-    copy: Copied,
-    w: Window,
-) -> Moved
+    copy: Option<usize>,
+) -> Option<Walk>
     requires cursor_sound { CursorSound image.now past × Whole image.now x × Below copy (length image.now)
         × Walkable (length image.now) place }
-    requires name_length { NameLength x.n × (x.d < 2 ^ 32) × (w.passed ≤ 2 ^ 30) }
-    ensures { LiveHanded image.now x past place copy
-        (slices kinds.old addresses.old bytes.old) w
-        (slices kinds.new addresses.new bytes.new) result }
+    requires name_length { NameLength x.n × (x.d < 2 ^ 32) × (out.old.passed ≤ 2 ^ 30) }
+    ensures { LiveHanded image.now x past place copy out.old out.new result }
 {
-    let Placed::At {
-        at,
-        place: next,
-        ..
-    } = place.after(size(x.n, x.d))
-    else {
-        return Moved::Stop;
-    };
-    let a = hand_copy(image, kinds, addresses, bytes, x, place, w);
+    let copied = place.after(size(x.n, x.d))?;
+    hand_copy(out, image, x, place);
     hand_over(
+        out,
         image,
-        kinds,
-        addresses,
-        bytes,
         x,
         past,
-        come_round(next),
-        first_of(copy, at),
-        a,
+        come_round(copied.place),
+        first_of(copy, copied.at),
     )
 }
 
 // The next move of a sweep, where the entry chain begins at `start`.
-fn hand_move(
-    image: &[u8],
-    kinds: &mut [u32],
-    addresses: &mut [u32],
-    bytes: &mut [u32],
-    start: Cursor,
-    v: Walk,
-    w: Window,
-) -> Moved
+fn hand_move(out: &mut Window<'_>, image: &[u8], start: Cursor, v: Walk) -> Option<Walk>
     requires cursor_sound { CursorSound image.now start × Known image.now v }
-    requires passed_bound { w.passed ≤ 2 ^ 30 }
-    ensures { MoveHanded image.now (rest image.now start).entries v
-        (slices kinds.old addresses.old bytes.old) w
-        (slices kinds.new addresses.new bytes.new) result }
+    requires passed_bound { out.old.passed ≤ 2 ^ 30 }
+    ensures { MoveHanded image.now (rest image.now start).entries v out.old out.new result }
 {
-    let cursor = v.cursor;
-    let place = v.place;
-    let copy = v.copy;
     let Item::Record {
         spot: x,
         next: past,
-    } = advance(image, cursor)
+    } = advance(image, v.cursor)
     else {
-        return Moved::Stop;
+        return None;
     };
     if is_live(image, start, x) {
-        return hand_live(image, kinds, addresses, bytes, x, past, place, copy, w);
+        return hand_live(out, image, x, past, v.place, v.copy);
     }
-    hand_over(image, kinds, addresses, bytes, x, past, place, copy, w)
+    hand_over(out, image, x, past, v.place, v.copy)
 }
 
-// The sweep of the entry chain that begins at `start`, with its place: at most so many moves.
+// The sweep of the entry chain that begins at `start`, with its place: at most so many moves. It answers how many they were.
 pub fn hand_sweep(
+    out: &mut Window<'_>,
     image: &[u8],
-    kinds: &mut [u32],
-    addresses: &mut [u32],
-    bytes: &mut [u32],
     start: Cursor,
     place: Place,
     most: usize,
-    w: Window,
-) -> Moves
-    requires { CursorSound image.now start × Walkable (length image.now) place × (most ≤ 5) × (w.passed ≡ 0) }
+) -> usize
+    requires { CursorSound image.now start × Walkable (length image.now) place × (most ≤ 5) × (out.old.passed ≡ 0) }
     ensures { let s = image.now in let all = (rest s start).entries in
-        MovesHanded (slices kinds.old addresses.old bytes.old) w
-        (walked most all place all none)
-        (slices kinds.new addresses.new bytes.new) result.moves result.window }
+        MovesHanded out.old (walked most all place all none) result out.new }
 {
-    let mut left = most;
     let mut v = Walk {
         cursor: start,
-        place: place,
-        copy: Copied::None,
+        place,
+        copy: None,
     };
-    let mut q = w;
-    let mut n = 0;
-    while 0 < left {
-        let t = hand_move(image, kinds, addresses, bytes, start, v, q);
-        match t {
-            Moved::Stop => {
-                return Moves {
-                    moves: n,
-                    window: q,
-                };
-            }
-            Moved::On(next, r) => {
-                v = next;
-                q = r;
-            }
-        }
-        n += 1;
-        left -= 1;
+    for n in 0..most {
+        let Some(next) = hand_move(out, image, start, v) else {
+            return n;
+        };
+        v = next;
     }
-    Moves {
-        moves: n,
-        window: q,
-    }
+    most
 }

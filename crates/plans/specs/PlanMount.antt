@@ -1,5 +1,5 @@
 -- A planned mount (02, K1): what the first reading plans is the definition's plan.
-use Rattle.std.specs.Prelude.{ℕ, ◌-◌, min, ◌≡◌, true, [], length}
+use Rattle.std.specs.Prelude.{◌≡◌, true, [], length}
 use Rattle.std.proofs.Common.{arith, sym, ap, ◌∙◌}
 use Rattle.spec.specs.declared.Report.{Report}
 use Rattle.spec.specs.declared.Space.{Space}
@@ -11,16 +11,16 @@ use Rattle.spec.specs.Mount.{mended}
 use Rattle.spec.specs.Space.{space_left}
 use Rattle.spec.specs.Numbers.{of_mount}
 use Rattle.spec.specs.Answers.{Plan, report_of, mount_of}
-use Rattle.spec.specs.Planner.{Slices, shortest, hand_out}
+use Rattle.spec.specs.Planner.{hand_out}
 use Rattle.planning.specs.Planned.{planned_mend, mended_reading}
 use Rattle.planning.specs.Known.{accepted_known}
 use Rattle.planning.specs.Spaces.{space_read, mount_leaves, mount_as_planned}
 use Rattle.reading.specs.declared.Survey.{Survey}
 use Rattle.reading.specs.Read.{reading_of}
 use Rattle.window.specs.declared.Window.{Window}
-use Rattle.window.specs.Handed.{Handed}
+use Rattle.window.specs.Handed.{held, Handed}
 use Rattle.calls.specs.Space.{Legal}
-use Rattle.plans.specs.Planned.{handing, planned_out}
+use Rattle.plans.specs.Planned.{handing, count_in, planned_out}
 
 module _ {image : Image} {v : Survey} (l : Legal image v) where
   abbrev r : Reading
@@ -29,11 +29,10 @@ module _ {image : Image} {v : Survey} (l : Legal image v) where
   pub marks_are : marks_ok r.entries ≡ true
   marks_are = (accepted_known image r l.read).marks
 
-  pub mount_out : {s t : Slices} {w q : Window} {report : Report} {x : Space} (first : ℕ) → report ≡ report_of (mended_reading r)
-      → x ≡ space_left (mended image r)
-      → w.first ≡ first → w.passed ≡ 0 → Handed s w (planned_mend image r) t q
-      → handing (of_mount 0 report x q.passed) (min (shortest s) (q.passed - q.first)) t ≡ hand_out (mount_of image r) first s
-  mount_out {s} {t} {w} {q} first e o f z h =
+  pub mount_out : {w q : Window} {report : Report} {x : Space} → report ≡ report_of (mended_reading r) → x ≡ space_left (mended image r)
+      → w.passed ≡ 0 → Handed w (planned_mend image r) q
+      → handing (of_mount 0 report x q.passed) (count_in q) (held q) ≡ hand_out (mount_of image r) w.first (held w)
+  mount_out {w} {q} e o z h =
       let p : Plan = record {
         steps = planned_mend image r;
         moves = [];
@@ -41,6 +40,6 @@ module _ {image : Image} {v : Survey} (l : Legal image v) where
       } in
       let n : q.passed ≡ length (planned_mend image r) = omega (arith, h.count) in
       let told = o ∙ (mount_leaves image r l.sized l.read).told in
-      (λ i. handing (of_mount 0 (e i) (told i) (n i)) (min (shortest s) (q.passed - q.first)) t)
-      ∙ planned_out p first f z h
-      ∙ ap (λ (a : Answer Plan). hand_out a first s) (sym (mount_as_planned image r l.sized l.read))
+      (λ i. handing (of_mount 0 (e i) (told i) (n i)) (count_in q) (held q))
+      ∙ planned_out p z h
+      ∙ ap (λ (a : Answer Plan). hand_out a w.first (held w)) (sym (mount_as_planned image r l.sized l.read))

@@ -1,5 +1,5 @@
 -- A planned sweep: from the moves that were handed out to what the definition hands out.
-use Rattle.std.specs.Prelude.{ℕ, ◌-◌, min, ◌≡◌, Bool, false, not, List, length}
+use Rattle.std.specs.Prelude.{ℕ, min, ◌≡◌, Bool, false, not, List, length}
 use Rattle.std.proofs.Common.{arith, sym, ap₂, ◌∙◌}
 use Rattle.std.proofs.Math.Path.{ap}
 use Rattle.std.proofs.Math.Option.{none}
@@ -13,7 +13,7 @@ use Rattle.spec.specs.Door.{admitted}
 use Rattle.spec.specs.Space.{space_left, sweep_work}
 use Rattle.spec.specs.Numbers.{of_sweep}
 use Rattle.spec.specs.Answers.{Plan, sweeping, sweep_of}
-use Rattle.spec.specs.Planner.{Slices, shortest, hand_out}
+use Rattle.spec.specs.Planner.{hand_out}
 use Rattle.laws.specs.Door.{admitted_gives}
 use Rattle.planning.specs.Planned.{walked}
 use Rattle.planning.specs.Walked.{sweep_as_walked}
@@ -24,18 +24,17 @@ use Rattle.reading.specs.Read.{first_cursor, reading_of}
 use Rattle.reading.specs.RuleLaws.{count_is}
 use Rattle.reading.specs.Accepted.{Accepted}
 use Rattle.window.specs.declared.Window.{Window}
+use Rattle.window.specs.Handed.{held}
 use Rattle.planner.specs.Sweep.{MovesHanded}
 use Rattle.calls.specs.Sweep.{moving}
-use Rattle.plans.specs.Planned.{handing, planned_out}
+use Rattle.plans.specs.Planned.{handing, count_in, planned_out}
 
 -- the moves of a sweep, all of them
-swept_out : {s t : Slices} {w r : Window} {n : ℕ} {x : Space} (ms : List (List Step)) (first : ℕ) → w.first ≡ first → w.passed ≡ 0
-    → MovesHanded s w ms t n r
-    → handing (of_sweep 0 n x r.passed) (min (shortest s) (r.passed - r.first)) t ≡ hand_out (give (moving ms x)) first s
-swept_out {s} {t} {w} {r} {n} {x} ms first f z h =
+swept_out : {w r : Window} {n : ℕ} {x : Space} (ms : List (List Step)) → w.passed ≡ 0 → MovesHanded w ms n r
+    → handing (of_sweep 0 n x r.passed) (count_in r) (held r) ≡ hand_out (give (moving ms x)) w.first (held w)
+swept_out {w} {r} {n} {x} ms z h =
     let steps : r.passed ≡ length (concat ms) = omega (arith, h.handed.count) in
-    ap₂ (λ (i k : ℕ). handing (of_sweep 0 i x k) (min (shortest s) (r.passed - r.first)) t) h.count steps
-    ∙ planned_out (moving ms x) first f z h.handed
+    ap₂ (λ (i k : ℕ). handing (of_sweep 0 i x k) (count_in r) (held r)) h.count steps ∙ planned_out (moving ms x) z h.handed
 
 module _ (image : Image) (s : Survey) (w : Accepted image s) where
   abbrev all : List Entry
@@ -58,15 +57,14 @@ module _ (image : Image) (s : Survey) (w : Accepted image s) where
       (e ∙ ap (λ (x : Reading). no_room x x.entries) (sym w.same))
 
   -- the moves that were handed out, as the definition hands them out
-  pub moves_out : {a b : Slices} {v r : Window} {n k : ℕ} {c : Cursor} {x : Space} (first : ℕ) → give (reading_of image s) ≡ admitted image
+  pub moves_out : {v r : Window} {n k : ℕ} {c : Cursor} {x : Space} → give (reading_of image s) ≡ admitted image
       → x ≡ space_left (sweep_work image (reading_of image s))
       → false ≡ no_room (reading_from image s.place.head) (reading_from image s.place.head).entries
-      → k ≡ min 5 s.tally.records → c ≡ first_cursor image s.place.head → v.first ≡ first → v.passed ≡ 0
-      → MovesHanded a v (walked k (rest image c).entries s.place (rest image c).entries none) b n r
-      → handing (of_sweep 0 n x r.passed) (min (shortest a) (r.passed - r.first)) b ≡
-      hand_out (sweep_of image (reading_of image s)) first a
-  moves_out {a} {x = x} first e o room most start f z h =
+      → k ≡ min 5 s.tally.records → c ≡ first_cursor image s.place.head → v.passed ≡ 0
+      → MovesHanded v (walked k (rest image c).entries s.place (rest image c).entries none) n r
+      → handing (of_sweep 0 n x r.passed) (count_in r) (held r) ≡ hand_out (sweep_of image (reading_of image s)) v.first (held v)
+  moves_out {v} {x = x} e o room most start z h =
       let same = ap₂ (λ (i : ℕ) (d : Cursor). walked i (rest image d).entries s.place (rest image d).entries none) most start in
-      swept_out _ first f z h
-      ∙ ap₂ (λ (ms : List (List Step)) (y : Space). hand_out (give (moving ms y)) first a) (same ∙ walked_is e) o
-      ∙ ap (λ (x : Answer Plan). hand_out x first a) (sweep_out false room)
+      swept_out _ z h
+      ∙ ap₂ (λ (ms : List (List Step)) (y : Space). hand_out (give (moving ms y)) v.first (held v)) (same ∙ walked_is e) o
+      ∙ ap (λ (x : Answer Plan). hand_out x v.first (held v)) (sweep_out false room)

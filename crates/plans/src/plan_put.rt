@@ -11,85 +11,70 @@ ghost use Rattle.spec.specs.Planner.{Writing, hand_out, planned};
 ghost use Rattle.record.specs.Within.{NameLength};
 ghost use Rattle.reading.specs.Read.{reading_of, FileTold};
 ghost use Rattle.reading.specs.Accepted.{Settled};
-ghost use Rattle.window.specs.Handed.{slices, Handed};
+ghost use Rattle.window.specs.Handed.{slices, held, Lent, Handed};
 ghost use Rattle.calls.specs.Numbers.{stored, StoredTold};
-ghost use Rattle.plans.specs.Planned.{handing};
+ghost use Rattle.plans.specs.Planned.{handing, answer_of, handed_of};
 
-use crate::PlannedPut;
-use crate::planned::{planned_put, refused_put};
-use chain::Found;
+use crate::Planned;
+use calls::Stored;
+use chain::Spot;
 use door::admitted_named;
 use door::replaced::old_file;
-use reading::{Read, Survey};
+use reading::Survey;
 use room::has_room;
 use space::counting::put_space;
-use spec::{NO_FAULT, Refusal};
-use window::file::hand_file;
-use window::{Window, shortest};
+use spec::Refusal;
+use window::Window;
 
 // Put's steps, where there is room.
 fn plan_replace(
+    out: &mut Window<'_>,
     image: &[u8],
     s: Survey,
-    f: Found,
+    f: Option<Spot>,
     name: &[u8],
     content: &[u8],
-    kinds: &mut [u32],
-    addresses: &mut [u32],
-    bytes: &mut [u32],
-    w: Window,
-) -> Window
+)
     requires { Settled image.now s × NameLength (length name.now)
-        × (fits s.place (size_of (length name.now) (length content.now)) ≡ true) × (w.passed ≡ 0)
+        × (fits s.place (size_of (length name.now) (length content.now)) ≡ true) × (out.old.passed ≡ 0)
         × FileTold image.now name.now s f }
-    ensures { Handed (slices kinds.old addresses.old bytes.old) w
+    ensures { Handed out.old
         (put_steps s.place (file_named name.now (reading_of image.now s).entries)
         name.now content.now)
-        (slices kinds.new addresses.new bytes.new) result }
+        out.new }
 {
-    let place = s.place;
     let old = old_file(image, f);
-    hand_file(kinds, addresses, bytes, place, old, name, content, w)
+    out.file(s.place, old, name, content);
 }
 
 // The plan on an image that was read: no room, or the steps.
 fn plan_put_from(
+    out: &mut Window<'_>,
     image: &[u8],
     s: Survey,
-    f: Found,
+    f: Option<Spot>,
     name: &[u8],
     content: &[u8],
-    first: usize,
-    kinds: &mut [u32],
-    addresses: &mut [u32],
-    bytes: &mut [u32],
-) -> PlannedPut
+) -> Result<Planned<Stored>, Refusal>
     requires { Settled image.now s × NameLength (length name.now)
-        × (give (reading_of image.now s) ≡ admitted_named name.now image.now) × FileTold image.now name.now s f }
-    ensures { (handing (stored result.answer) result.handed (slices kinds.new addresses.new bytes.new)
-        ≡ hand_out (put_into name.now content.now image.now (reading_of image.now s)) first
-        (slices kinds.old addresses.old bytes.old))
-        × StoredTold result.answer }
+        × (give (reading_of image.now s) ≡ admitted_named name.now image.now) × FileTold image.now name.now s f
+        × (out.old.passed ≡ 0) }
+    ensures told { handing (stored (answer_of result)) (handed_of result) (held out.new)
+        ≡ hand_out (put_into name.now content.now image.now (reading_of image.now s)) out.old.first (held out.old) }
+    ensures lent { Lent out.old out.new }
 {
-    if has_room(image, s, name, content.len()) {
-        let space = put_space(image, s, f, name, content.len());
-        let slots = shortest(kinds.len(), addresses.len(), bytes.len());
-        let w = plan_replace(
-            image,
-            s,
-            f,
-            name,
-            content,
-            kinds,
-            addresses,
-            bytes,
-            Window::from(first),
-        );
-        return planned_put(space, w, slots);
+    if !has_room(image, s, name, content.len()) {
+        return Err(Refusal::NoRoom);
     }
-    refused_put(Refusal {
-        number: 28,
-        name: NO_FAULT,
+    let space = put_space(image, s, f, name, content.len());
+    plan_replace(out, image, s, f, name, content);
+    let answer = Stored::Done {
+        space,
+        steps: out.passed,
+    };
+    Ok(Planned {
+        answer,
+        handed: out.handed(),
     })
 }
 
@@ -102,17 +87,19 @@ pub fn plan_put(
     kinds: &mut [u32],
     addresses: &mut [u32],
     bytes: &mut [u32],
-) -> PlannedPut
-    ensures { (handing (stored result.answer) result.handed (slices kinds.new addresses.new bytes.new)
+) -> Result<Planned<Stored>, Refusal>
+    ensures { (handing (stored (answer_of result)) (handed_of result) (slices kinds.new addresses.new bytes.new)
         ≡ planned (Writing.put name.now content.now) image.now first
         (slices kinds.old addresses.old bytes.old))
-        × StoredTold result.answer × (image.exit.now ≡ image.entry.now) }
+        × StoredTold (answer_of result) × (image.exit.now ≡ image.entry.now) }
 {
-    let d = admitted_named(image, name);
-    let x = d.read;
-    let f = d.file;
-    match x {
-        Read::Good(s) => plan_put_from(image, s, f, name, content, first, kinds, addresses, bytes),
-        Read::Refused(y) => refused_put(y),
-    }
+    let x = admitted_named(image, name)?;
+    let mut out = Window {
+        kinds,
+        addresses,
+        bytes,
+        first,
+        passed: 0,
+    };
+    plan_put_from(&mut out, image, x.survey, x.file, name, content)
 }

@@ -4,50 +4,36 @@ ghost use Rattle.spec.specs.Answers.{found, removing};
 ghost use Rattle.spec.specs.Planner.{Writing, hand_out, planned};
 ghost use Rattle.laws.specs.Length.{InRange};
 ghost use Rattle.chain.specs.Seek.{found_in, FoundWhole};
-ghost use Rattle.window.specs.Handed.{slices};
+ghost use Rattle.window.specs.Handed.{slices, held, Lent};
 ghost use Rattle.calls.specs.Numbers.{written, WrittenTold};
-ghost use Rattle.plans.specs.Planned.{handing};
+ghost use Rattle.plans.specs.Planned.{handing, answer_of, handed_of};
 
-use crate::PlannedWrite;
-use crate::planned::{planned_write, refused_write};
-use chain::Found;
+use crate::Planned;
+use calls::Written;
+use chain::Spot;
 use door::admitted_named;
-use reading::Read;
-use spec::{NO_FAULT, Refusal, Status};
-use window::build::hand_status;
-use window::{Window, shortest};
+use spec::{Refusal, Status};
+use window::Window;
 
 // The plan for the file that was found: no such file, or the one step.
 fn plan_remove_from(
+    out: &mut Window<'_>,
     image: &[u8],
-    f: Found,
-    first: usize,
-    kinds: &mut [u32],
-    addresses: &mut [u32],
-    bytes: &mut [u32],
-) -> PlannedWrite
-    requires { FoundWhole image.now f × InRange (length image.now) }
-    ensures { (handing (written result.answer) result.handed (slices kinds.new addresses.new bytes.new)
-        ≡ hand_out (found removing (found_in image.now f)) first
-        (slices kinds.old addresses.old bytes.old))
-        × WrittenTold result.answer }
+    f: Option<Spot>,
+) -> Result<Planned<Written>, Refusal>
+    requires { FoundWhole image.now f × InRange (length image.now) × (out.old.passed ≡ 0) }
+    ensures told { handing (written (answer_of result)) (handed_of result) (held out.new)
+        ≡ hand_out (found removing (found_in image.now f)) out.old.first (held out.old) }
+    ensures lent { Lent out.old out.new }
 {
-    let Found::At(e) = f else {
-        return refused_write(Refusal {
-            number: 2,
-            name: NO_FAULT,
-        });
+    let Some(e) = f else {
+        return Err(Refusal::NoFile);
     };
-    let slots = shortest(kinds.len(), addresses.len(), bytes.len());
-    let w = hand_status(
-        kinds,
-        addresses,
-        bytes,
-        e.at,
-        Status::DELETED,
-        Window::from(first),
-    );
-    planned_write(w, slots)
+    out.status(e.at, Status::DELETED);
+    Ok(Planned {
+        answer: Written::Done { steps: out.passed },
+        handed: out.handed(),
+    })
 }
 
 // Hands out the steps of a remove of this name, from the step `first` on; the image stays as it is.
@@ -58,17 +44,19 @@ pub fn plan_remove(
     kinds: &mut [u32],
     addresses: &mut [u32],
     bytes: &mut [u32],
-) -> PlannedWrite
-    ensures { (handing (written result.answer) result.handed (slices kinds.new addresses.new bytes.new)
+) -> Result<Planned<Written>, Refusal>
+    ensures { (handing (written (answer_of result)) (handed_of result) (slices kinds.new addresses.new bytes.new)
         ≡ planned (Writing.remove name.now) image.now first
         (slices kinds.old addresses.old bytes.old))
-        × WrittenTold result.answer × (image.exit.now ≡ image.entry.now) }
+        × WrittenTold (answer_of result) × (image.exit.now ≡ image.entry.now) }
 {
-    let d = admitted_named(image, name);
-    let x = d.read;
-    let f = d.file;
-    match x {
-        Read::Good(_) => plan_remove_from(image, f, first, kinds, addresses, bytes),
-        Read::Refused(y) => refused_write(y),
-    }
+    let x = admitted_named(image, name)?;
+    let mut out = Window {
+        kinds,
+        addresses,
+        bytes,
+        first,
+        passed: 0,
+    };
+    plan_remove_from(&mut out, image, x.file)
 }

@@ -1,3 +1,4 @@
+pub mod Answers
 pub mod Bridge
 pub mod Ends
 pub mod NamesLaw

@@ -1,5 +1,5 @@
 -- The rules of a whole chain, from its tally, as the code goes through them.
-use Rattle.std.specs.Prelude.{ℕ, ◌≤◌, ◌<◌, ◌≡◌, refl, Bool, true, false, ◌&&◌, not, List, [], ◌∷◌, length, eqb}
+use Rattle.std.specs.Prelude.{ℕ, ◌≤◌, ◌<◌, ◌≡◌, refl, Bool, true, false, ◌&&◌, ◌||◌, not, List, [], ◌∷◌, length, eqb, Ok}
 use Rattle.std.proofs.Common.{arith, zero-add, ap, ◌∙◌}
 use Rattle.std.proofs.Math.Path.{sym}
 use Rattle.spec.specs.Basics.{Answer, refuse, give, checked, onward, any, Each, numbered}
@@ -12,12 +12,11 @@ use Rattle.spec.specs.Files.{live, superseded, files}
 use Rattle.spec.specs.Reading.{head_clean, free_ok, whole, marked, second_ok, marks_ok, names_ok, single, legal, judged, reading}
 use Rattle.spec.specs.Mount.{head_low, settled}
 use Rattle.spec.specs.Door.{if_settled, settled_reading}
-use Rattle.spec.specs.declared.Refusal.{Refusal}
+use Rattle.spec.specs.Refusals.{RefusalNumbers}
 use Rattle.chain.specs.declared.Cursor.{Cursor}
 use Rattle.chain.specs.declared.Spot.{Spot}
 use Rattle.chain.specs.declared.Tally.{Tally}
 use Rattle.reading.specs.declared.Judged.{Judged}
-use Rattle.reading.specs.declared.Judgement.{Judgement}
 use Rattle.chain.specs.Rest.{rest, entry_of}
 use Rattle.chain.specs.Faithful.{Stands, faithful}
 use Rattle.chain.specs.Tally.{none_yet, tally}
@@ -47,6 +46,11 @@ module _ (es : List Entry) (x y : Entry) where
       → eqb (floor y.at) (floor x.at) ≡ second_ok es x y
   unfolding second_ok
   second_start m l k = rw (second_ok, m, l, k)
+
+  pub second_rest : marked y ≡ true → live es x ≡ false → (p : Bool) → p ≡ (is_clean y.it.low || eqb (floor y.at) (floor x.at))
+      → p ≡ second_ok es x y
+  unfolding second_ok
+  second_rest m l p e = rw (second_ok, m, l) e
 
 -- ---- what the tally of the whole chain says
 
@@ -194,11 +198,11 @@ pub reading_by : (image : List ℕ) (h : ℕ) → give h ≡ head image → judg
 unfolding reading
 reading_by image h e = ap (λ (a : Answer ℕ). onward a (λ (h : ℕ). judged image (reading_from image h))) e
 
-pub reading_refused : (image : List ℕ) (n : ℕ) → refuse (numbered n) ≡ head image → refuse (numbered n) ≡ reading image
+pub reading_refused : (image : List ℕ) (x : RefusalNumbers) → refuse x ≡ head image → refuse x ≡ reading image
 unfolding reading
-reading_refused image n e = ap (λ (a : Answer ℕ). onward a (λ (h : ℕ). judged image (reading_from image h))) e
+reading_refused image x e = ap (λ (a : Answer ℕ). onward a (λ (h : ℕ). judged image (reading_from image h))) e
 
-pub settled_none : (image : List ℕ) (x : Refusal) → refuse x ≡ reading image → refuse x ≡ settled_reading image
+pub settled_none : (image : List ℕ) (x : RefusalNumbers) → refuse x ≡ reading image → refuse x ≡ settled_reading image
 unfolding settled_reading
 settled_none image x e = ap (λ (a : Answer Reading). onward a (if_settled image)) e
 
@@ -210,7 +214,7 @@ settled_by image r t e s = ap (λ (b : Bool). checked b (numbered 16) (give r)) 
 
 -- a judgement, as the reading of a settled image or 16
 pub settled_told : (image : List ℕ) (j : Judged) (b : Bool) → j.settled ≡ b → give (reading_of image j.survey) ≡ reading image
-    → JudgedWell image (Judgement.Good j)
+    → JudgedWell image (Ok j)
     → (answered image (settled_read j.survey b) ≡ settled_reading image) × Told image (settled_read j.survey b)
     × Quiet image (settled_read j.survey b)
 settled_told image j true q e w = (

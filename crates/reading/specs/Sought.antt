@@ -1,5 +1,5 @@
 -- The first file whose name has a hash: what the pass of a judgement keeps for a call that asks for a name, and what it tells of the name.
-use Rattle.std.specs.Prelude.{ℕ, ◌≡◌, refl, Bool, true, false, ◌&&◌, List, [], ◌∷◌, ◌++◌, eqb}
+use Rattle.std.specs.Prelude.{ℕ, ◌≡◌, refl, Bool, true, false, ◌&&◌, List, [], ◌∷◌, ◌++◌, eqb, None, Some}
 use Rattle.std.proofs.Common.{sym, ap, subst, ◌∙◌, eq-eqb}
 use Rattle.std.proofs.Math.Option.{Option, none, some}
 use Rattle.spec.specs.Basics.{keep, first_such}
@@ -8,7 +8,7 @@ use Rattle.spec.specs.Files.{has_name}
 use Rattle.laws.specs.Tests.{wrong}
 use Rattle.laws.specs.Lists.{same_is, keep_yes, keep_no, first_yes, first_no}
 use Rattle.chain.specs.declared.Spot.{Spot}
-use Rattle.chain.specs.declared.Found.{Found}
+use Rattle.chain.specs.Answers.{Found}
 use Rattle.reading.specs.declared.Sight.{Sight}
 use Rattle.chain.specs.Rest.{entry_of}
 use Rattle.chain.specs.Fold.{Whole}
@@ -26,8 +26,8 @@ abbrev pub not_seen : Sight
 not_seen = record { seen = 0; spot = record { at = 0; n = 0; d = 0 } }
 
 abbrev pub found_at : Bool → Spot → Found
-found_at true e = Found.Nothing
-found_at false e = Found.At e
+found_at true e = None
+found_at false e = Some e
 
 abbrev pub found_of : Sight → Found
 found_of f = found_at (eqb f.seen 0) f.spot
@@ -107,7 +107,7 @@ module _ {image : List ℕ} (e : Spot) (w : Whole image e) where
         whole = found_whole t _ f refl h.whole;
       }
 
-pub sought_none : (image : List ℕ) (wanted : ℕ) → Sought image wanted [] Found.Nothing
+pub sought_none : (image : List ℕ) (wanted : ℕ) → Sought image wanted [] None
 sought_none image wanted = record { first = refl; whole = tt }
 
 -- ---- what the hash tells of the name
@@ -142,11 +142,11 @@ same_hash name x h = eq-eqb (hash_of x) (name_hash name) (ap (name_hash) (same_i
 
 module _ {image : List ℕ} (name : List ℕ) {es : List Entry} where
   -- no file has the hash, and none the name
-  pub named_none : Sought image (name_hash name) es Found.Nothing → none ≡ first_such (has_name name) (keep is_file es)
+  pub named_none : Sought image (name_hash name) es None → none ≡ first_such (has_name name) (keep is_file es)
   named_none h = sym (none_narrow (has_hash (name_hash name)) (has_name name) (same_hash name) (keep is_file es) (sym h.first))
 
   -- the first that has the hash has the name
-  pub named_some : {e : Spot} → Sought image (name_hash name) es (Found.At e) → has_name name (entry_of image e) ≡ true
+  pub named_some : {e : Spot} → Sought image (name_hash name) es (Some e) → has_name name (entry_of image e) ≡ true
       → some (entry_of image e) ≡ first_such (has_name name) (keep is_file es)
   named_some {e} h k =
       let p = has_hash (name_hash name) in

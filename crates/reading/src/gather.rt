@@ -17,8 +17,7 @@ use chain::names::repeats_signed;
 use chain::plain::near;
 use chain::scan::{name_fine, none_yet, noted_as, noted_plain};
 use chain::walk::advance;
-use chain::{Cursor, Item, Nearby, Pass, Repeats, Spot};
-use filter::marks::both;
+use chain::{Cursor, Item, Pass, Repeats, Spot};
 use filter::table::{WORDS, signature_by};
 
 // What is gathered, with one record more, which stands before next and is a file. Its name is read twice: `marks_of` is left to the loop
@@ -37,19 +36,16 @@ fn gather_named(
     ensures { Gathering image.now start wanted result table.new × (result.cursor ≡ next) }
 {
     let t = g.tally;
-    let n = g.repeats;
-    let f = g.sight;
     let h = hash_of(image, e);
     let s = signature_by(h);
-    let o = seen_or(h == wanted, f, e);
-    let m = repeats_signed(image, start, t.records, table, n, e, s);
+    let sight = seen_or(h == wanted, g.sight, e);
+    let repeats = repeats_signed(image, start, t.records, table, g.repeats, e, s);
     let fine = name_fine(image, e);
-    let u = noted_as(image, t, e, true, both(t.fine, fine), next.pending);
     Gathered {
         cursor: next,
-        tally: u,
-        repeats: m,
-        sight: o,
+        tally: noted_as(image, t, e, true, t.fine & fine, next.pending),
+        repeats,
+        sight,
     }
 }
 
@@ -70,14 +66,10 @@ fn gather_one(
         return gather_named(image, start, table, g, e, next, wanted);
     }
     let t = g.tally;
-    let n = g.repeats;
-    let f = g.sight;
-    let u = noted_as(image, t, e, false, t.fine, next.pending);
     Gathered {
         cursor: next,
-        tally: u,
-        repeats: n,
-        sight: f,
+        tally: noted_as(image, t, e, false, t.fine, next.pending),
+        ..g
     }
 }
 
@@ -100,16 +92,12 @@ fn gather_file(
         × (2 ≤ result.tally.records) }
 {
     let t = g.tally;
-    let n = g.repeats;
-    let f = g.sight;
     let s = signature_by(hash);
-    let m = repeats_signed(image, start, t.records, table, n, e, s);
-    let u = noted_plain(t, e, true, t.fine, next.pending);
     Gathered {
         cursor: next,
-        tally: u,
-        repeats: m,
-        sight: f,
+        repeats: repeats_signed(image, start, t.records, table, g.repeats, e, s),
+        tally: noted_plain(t, e, true, t.fine, next.pending),
+        ..g
     }
 }
 
@@ -128,12 +116,7 @@ fn gather_plain(
         × (left result.cursor ≤ left first.cursor) }
 {
     let mut g = first;
-    loop {
-        let c = g.cursor;
-        let s = near(image, c);
-        let Nearby::Record { spot: e, next } = s else {
-            return g;
-        };
+    while let Some((e, next)) = near(image, g.cursor) {
         if is_file(image, e) {
             let name = marks_of(image, e);
             if name.hash == wanted {
@@ -145,32 +128,27 @@ fn gather_plain(
             g = gather_file(image, start, table, g, e, next, wanted, name.hash);
         } else {
             let t = g.tally;
-            let n = g.repeats;
-            let f = g.sight;
-            let u = noted_plain(t, e, false, t.fine, next.pending);
             g = Gathered {
                 cursor: next,
-                tally: u,
-                repeats: n,
-                sight: f,
+                tally: noted_plain(t, e, false, t.fine, next.pending),
+                ..g
             };
         }
     }
+    g
 }
 
 fn nothing_yet(start: Cursor) -> Gathered
     ensures { result ≡ nothing_yet start }
 {
-    let t = none_yet();
-    let f = not_seen();
     Gathered {
         cursor: start,
-        tally: t,
+        tally: none_yet(),
         repeats: Repeats {
             doubled: false,
             superseded: false,
         },
-        sight: f,
+        sight: not_seen(),
     }
 }
 
@@ -184,22 +162,19 @@ pub fn gather(image: &[u8], start: Cursor, wanted: u64) -> FullPass
     let mut table = [0u64; WORDS];
     let mut g = nothing_yet(start);
     loop {
-        let c = g.cursor;
-        let s = advance(image, c);
-        let Item::Record { spot: e, next } = s else {
-            let t = g.tally;
-            let n = g.repeats;
-            let f = g.sight;
-            let o = found_of(f);
+        let end = advance(image, g.cursor);
+        let Item::Record { spot: e, next } = end else {
             return FullPass {
-                pass: Pass { tally: t, end: s },
-                repeats: n,
-                found: o,
+                pass: Pass {
+                    tally: g.tally,
+                    end,
+                },
+                repeats: g.repeats,
+                found: found_of(g.sight),
             };
         };
         g = gather_one(image, start, &mut table, g, e, next, wanted);
-        let t = g.tally;
-        if 2 <= t.records {
+        if 2 <= g.tally.records {
             g = gather_plain(image, start, &mut table, g, wanted);
         }
     }

@@ -4,14 +4,14 @@
 mod gather;
 pub mod image;
 mod marks;
-mod rules;
+pub mod rules;
 mod sought;
 
-use chain::{Cursor, Found, Pass, Repeats, Spot, Tally};
-use spec::{Ending, Place, Refusal};
+use chain::{Cursor, Pass, Repeats, Spot, Tally};
+use spec::{Ending, Place};
 
-// Where a file was found; seen is 0 where none was. A loop carries this and not Found, for the compiler copies an enum, and the bytes
-// beside a bool, at each turn.
+// Where a file was found; seen is 0 where none was. A loop carries this and not an Option<Spot>, which misses the bar of speed: the
+// compiler copies an enum, and the bytes beside a bool, at each turn.
 #[derive(Clone, Copy)]
 pub struct Sight {
     pub seen: usize,
@@ -32,7 +32,7 @@ pub struct Gathered {
 pub struct FullPass {
     pub pass: Pass,
     pub repeats: Repeats,
-    pub found: Found,
+    pub found: Option<Spot>,
 }
 
 // All that the calls go by: head, tail and turn; how the chain ends; the tally.
@@ -48,7 +48,7 @@ pub struct Survey {
 pub struct Overview {
     pub survey: Survey,
     pub repeats: Repeats,
-    pub found: Found,
+    pub found: Option<Spot>,
 }
 
 // What a legal image reads as, whether mount has no step to do, and the first file of the hash that is wanted.
@@ -56,26 +56,12 @@ pub struct Overview {
 pub struct Judged {
     pub survey: Survey,
     pub settled: bool,
-    pub found: Found,
+    pub found: Option<Spot>,
 }
 
-// That, or the refusal.
+// What a settled image reads as, and the file of the name that was asked for.
 #[derive(Clone, Copy)]
-pub enum Judgement {
-    Good(Judged),
-    Refused(Refusal),
-}
-
-// What an image reads as, or the refusal.
-#[derive(Clone, Copy)]
-pub enum Read {
-    Good(Survey),
-    Refused(Refusal),
-}
-
-// What an image reads as, and the file of the name that was asked for.
-#[derive(Clone, Copy)]
-pub struct NamedRead {
-    pub read: Read,
-    pub file: Found,
+pub struct NamedSurvey {
+    pub survey: Survey,
+    pub file: Option<Spot>,
 }

@@ -16,9 +16,7 @@ pub fn hash_of(image: &[u8], e: Spot) -> u64
     requires { Whole image.now e }
     ensures { (result ≡ hash_of (entry_of image.now e)) × (result < 2 ^ 32) }
 {
-    let from = e.at + 8;
-    let to = from + e.n;
-    hash(&image[from..to])
+    hash(e.name(image))
 }
 
 // The record's name, read to the end of its last word, which is padded.
@@ -26,6 +24,5 @@ pub fn marks_of(image: &[u8], e: Spot) -> NameMarks
     requires { Whole image.now e × (e.n < 64) }
     ensures { MarkedAs (name_of (entry_of image.now e)) result }
 {
-    let at = e.at + 8;
-    marks(&image[at..], e.n)
+    marks(&image[e.at + 8..], e.n)
 }

@@ -11,8 +11,7 @@ ghost use Rattle.reading.specs.Sought.{not_seen, found_of, seen_or, Sought};
 
 use crate::Sight;
 use chain::files::{file_named, has_name};
-use chain::{Cursor, Found, Spot};
-use filter::marks::both;
+use chain::{Cursor, Spot};
 
 pub fn not_seen() -> Sight
     ensures { result ≡ not_seen }
@@ -23,21 +22,20 @@ pub fn not_seen() -> Sight
     }
 }
 
-pub fn found_of(f: Sight) -> Found
+pub fn found_of(f: Sight) -> Option<Spot>
     ensures { result ≡ found_of f }
 {
-    let e = f.spot;
     if f.seen == 0 {
-        return Found::Nothing;
+        return None;
     }
-    Found::At(e)
+    Some(f.spot)
 }
 
 // What was seen; or e, where it is the first that fits. Field by field, so that the compiler keeps them apart.
 pub fn seen_or(fits: bool, f: Sight, e: Spot) -> Sight
     ensures { result ≡ seen_or fits f e }
 {
-    if both(fits, f.seen == 0) {
+    if fits && f.seen == 0 {
         return Sight {
             seen: 1,
             spot: Spot {
@@ -59,18 +57,16 @@ pub fn seen_or(fits: bool, f: Sight, e: Spot) -> Sight
 }
 
 // The file of this name: f, which has the name's hash, unless the two names only share it.
-pub fn file_of(image: &[u8], start: Cursor, name: &[u8], f: Found) -> Found
+pub fn file_of(image: &[u8], start: Cursor, name: &[u8], f: Option<Spot>) -> Option<Spot>
     requires { CursorSound image.now start
         × Sought image.now (name_hash name.now) (rest image.now start).entries f }
     ensures { (found_in image.now result
         ≡ first_such (has_name name.now) (keep is_file (rest image.now start).entries))
         × FoundWhole image.now result }
 {
-    let Found::At(e) = f else {
-        return Found::Nothing;
-    };
+    let e = f?;
     if has_name(image, e, name) {
-        return Found::At(e);
+        return Some(e);
     }
     file_named(image, start, name)
 }

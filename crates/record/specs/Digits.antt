@@ -1,12 +1,14 @@
 -- A word of eight bytes as one number: its bytes, the first the lowest, and what a sum and a mask of the whole word say of each of them.
-use Rattle.std.specs.Prelude.{ℕ, zero, suc, ◌+◌, ◌*◌, ◌/◌, ◌%◌, ◌≤◌, ◌<◌, ◌^◌, ◌≡◌, refl, List, [], ◌∷◌, ◌++◌, map, length, take}
+use Rattle.std.specs.Prelude.{ℕ, zero, suc, ◌+◌, ◌*◌, ◌/◌, ◌%◌, ◌≤◌, ◌<◌, ◌^◌, ◌≡◌, refl, List, [], ◌∷◌, ◌++◌, map, length, take, drop, get_or}
 use Rattle.std.proofs.Common.{arith, pow-suc, mul_right_comm, sym, ap, ap₂, ◌∙◌}
+use Rattle.std.proofs.Math.Seq.{take-suc, take-length}
+use Rattle.std.proofs.lemmas.List.{length-take-le}
 use Rattle.std.proofs.Math.Nat.{mod-one}
+use Rattle.std.specs.Int.{w64, byte_worth, sum_through, from_le_bytes}
 use Rattle.std.specs.Int.Bits.{bit_and, and_zero_r}
 use Rattle.std.proofs.lemmas.Nat.{and_block, and_le_r}
 use Rattle.std.proofs.Math.Arith.{mod-mul}
 use Rattle.spec.specs.Basics.{Each}
-use Rattle.flash.specs.Words.{word}
 
 -- these bytes as one number
 unfoldable pub number : List ℕ → ℕ
@@ -32,15 +34,6 @@ digits_number (b ∷ s) h =
     let r : (b + 256 * number s) % 256 ≡ b = omega arith in
     let q : (b + 256 * number s) / 256 ≡ number s = omega arith in
     rw (r, q) (ap (λ (t : List ℕ). b ∷ t) (digits_number s h.1))
-
--- eight of them, as the code joins them
-pub digits_word : (a b c d e f g h : ℕ) → a < 256 → b < 256 → c < 256 → d < 256 → e < 256 → f < 256 → g < 256 → h < 256
-    → digits 8 (word a b c d e f g h) ≡ a ∷ b ∷ c ∷ d ∷ e ∷ f ∷ g ∷ h ∷ []
-unfolding number
-digits_word a b c d e f g h ha hb hc hd he hf hg hh =
-    let s : List ℕ = a ∷ b ∷ c ∷ d ∷ e ∷ f ∷ g ∷ h ∷ [] in
-    let w : word a b c d e f g h ≡ number s = omega arith in
-    ap (digits 8) w ∙ digits_number s (ha, (hb, (hc, (hd, (he, (hf, (hg, (hh, tt))))))))
 
 pow_pos : (k : ℕ) → 0 < 256 ^ k
 pow_pos zero = omega arith
@@ -75,6 +68,41 @@ number_append (b ∷ s) t =
     let e : 256 ^ length s * 256 * number t ≡ 256 ^ length s * number t * 256 = mul_right_comm (256 ^ length s) 256 (number t) in
     let ih : number (s ++ t) ≡ number s + 256 ^ length s * number t = number_append s t in
     rw p (omega (arith, e, ih))
+
+-- the library's sum of bytes, each times what its place is worth
+number_sum : (k : ℕ) (s : List ℕ) → k < length s → sum_through (λ i. byte_worth i (get_or s i 0)) k ≡ number (take (suc k) s)
+unfolding number
+number_sum zero [] h = absurd (omega arith)
+number_sum zero (b ∷ s) h = omega arith
+number_sum (suc k) s h =
+    let b = get_or s (suc k) 0 in
+    let l : length (take (suc k) s) ≡ suc k = length-take-le (suc k) s (omega arith) in
+    let e = ap number (take-suc s (suc k) 0 h) ∙ number_append (take (suc k) s) (b ∷ []) in
+    let f : number (take (suc (suc k)) s) ≡ number (take (suc k) s) + 256 ^ suc k * (b + 256 * 0) = rw l at e in
+    omega (arith, number_sum k s (omega arith), f)
+
+-- eight neighbours
+bytes_each : (s : List ℕ) → ((j : ℕ) → get_or s j 0 < 256) → Each (λ b. b < 256) s
+bytes_each [] h = tt
+bytes_each (b ∷ s) h = (h 0, bytes_each s (λ j. h (suc j)))
+
+bytes_part : (s : List ℕ) → Each (λ b. b < 256) s → (k i : ℕ) → Each (λ b. b < 256) (take k (drop i s))
+bytes_part s h zero i = tt
+bytes_part [] h (suc k) zero = tt
+bytes_part [] h (suc k) (suc i) = tt
+bytes_part (b ∷ s) h (suc k) zero = (h.0, bytes_part s h.1 k zero)
+bytes_part (b ∷ s) h (suc k) (suc i) = bytes_part s h.1 (suc k) i
+
+pub word_bytes : (s : List ℕ) (i : ℕ) → ((j : ℕ) → get_or s j 0 < 256) → length (take 8 (drop i s)) ≡ 8
+    → digits 8 (number (take 8 (drop i s))) ≡ take 8 (drop i s)
+word_bytes s i h l =
+    let t : List ℕ = take 8 (drop i s) in
+    ap (λ (k : ℕ). digits k (number t)) (sym l) ∙ digits_number t (bytes_part s (bytes_each s h) 8 i)
+
+pub from_bytes : (s : List ℕ) → length s ≡ 8 → from_le_bytes w64 s ≡ number s
+from_bytes s l =
+    let t : take 8 s ≡ s = rw (sym l) (take-length s) in
+    number_sum 7 s (omega (arith, l)) ∙ ap number t
 
 -- ---- a sum of the whole word adds to each byte, where none of them runs over
 

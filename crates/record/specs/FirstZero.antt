@@ -190,3 +190,6 @@ module _ (w : ℕ) where
 
   pub few_zeros : count_trailing_zeros 64 (0x8080_8080_8080_8080 - Tops) ≤ 64
   few_zeros = trailing_le 64 (0x8080_8080_8080_8080 - Tops)
+
+-- what first_zero's proof goes by
+pub ruleset zeros = (written_fits, tops_least, few_zeros, first_zero_is)

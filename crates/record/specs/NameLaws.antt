@@ -1,30 +1,42 @@
 -- The end of a name, and the name check, one byte at a time.
-use Rattle.std.specs.Prelude.{ℕ, zero, suc, ◌+◌, ◌-◌, ◌≤◌, ◌<◌, ◌≡◌, refl, Bool, true, false, List, [], ◌∷◌, length, drop, get_or, eqb}
-use Rattle.std.proofs.Common.{arith, drop_of_length-le}
+use Rattle.std.specs.Prelude.{ℕ, zero, suc, ◌+◌, ◌-◌, ◌≤◌, ◌<◌, ◌≡◌, refl, Bool, true, false, List, [], ◌∷◌, length, take, drop, get_or, eqb, ltb, cond, Some, None, unwrap_or, position}
+use Rattle.std.specs.List.{ends_with}
+use Rattle.std.proofs.Common.{arith, inl, inr, sym, ap, ◌∙◌, drop_of_length-le}
+use Rattle.std.proofs.Math.Bool.{and-true}
+use Rattle.std.proofs.lemmas.Bool.{cases_lt, lt-ltb, le-ltb, eq-eqb, eqb-true}
 use Rattle.spec.specs.Bytes.{ends_name, is_slash}
 use Rattle.spec.specs.Record.{name_length, may_stand, first_bad, ends_in_slash}
 use Rattle.laws.specs.Parts.{drop_next}
+use Rattle.laws.specs.Tests.{iff}
 
--- ---- the end of a name, with n bytes of the window left: past the part, at an end, at another byte, past the window
+-- ---- the end of a name: the first byte that ends it, among the first k
 
-pub name_end : (n : ℕ) (reserved : Bool) (s : List ℕ) (i : ℕ) → length s ≤ i → name_length n reserved (drop i s) ≡ n
+place_past : (m l k : ℕ)
+    → unwrap_or (cond (ltb (1 + m) (suc l)) (Some (1 + m)) None) (suc k) ≡ suc (unwrap_or (cond (ltb m l) (Some m) None) k)
+place_past m l k = elim (cases_lt m l) [
+  | inl h ↦ rw (lt-ltb m l h, lt-ltb (1 + m) (suc l) (omega arith)) (omega arith)
+  | inr h ↦ rw (le-ltb m l h, le-ltb (1 + m) (suc l) (omega arith)) refl
+]
+
+pub name_position : (k : ℕ) (reserved : Bool) (s : List ℕ)
+    → unwrap_or (position (ends_name reserved) (take k s)) k ≡ name_length k reserved s
 unfolding name_length
-name_end zero reserved s i h = refl
-name_end (suc k) reserved s i h = rw (drop_of_length-le s h)
+name_position zero reserved s = refl
+name_position (suc k) reserved [] = refl
+name_position (suc k) reserved (b ∷ s) = go (ends_name reserved b) refl (name_position k reserved s) where
+  go : (t : Bool) → ends_name reserved b ≡ t → unwrap_or (position (ends_name reserved) (take k s)) k ≡ name_length k reserved s
+      → unwrap_or (position (ends_name reserved) (b ∷ take k s)) (suc k) ≡ name_length (suc k) reserved (b ∷ s)
+  go true q ih = rw (q, name_length, lt-ltb 0 (suc (length (take k s))) (omega arith)) refl
+  go false q ih = rw (q, name_length) (place_past _ (length (take k s)) k ∙ ap suc ih)
 
-module _ (n k : ℕ) (reserved : Bool) (s : List ℕ) (i : ℕ) (e : n ≡ suc k) (h : i < length s) where
-  pub name_hit : ends_name reserved (get_or s i 0) ≡ true → name_length n reserved (drop i s) ≡ 0
-  unfolding name_length
-  name_hit q = rw (e, drop_next s i h, q, name_length)
-
-  pub name_miss : ends_name reserved (get_or s i 0) ≡ false
-      → name_length n reserved (drop i s) ≡ suc (name_length k reserved (drop (i + 1) s))
-  unfolding name_length
-  name_miss q = rw (e, drop_next s i h, q, name_length)
-
-pub name_out : (n : ℕ) (reserved : Bool) (s : List ℕ) → n ≡ 0 → name_length n reserved s ≡ 0
+pub name_most : (k : ℕ) (reserved : Bool) (s : List ℕ) → name_length k reserved s ≤ k
 unfolding name_length
-name_out n reserved s e = rw e
+name_most zero reserved s = omega arith
+name_most (suc k) reserved [] = omega arith
+name_most (suc k) reserved (b ∷ s) = go (ends_name reserved b) refl (name_most k reserved s) where
+  go : (t : Bool) → ends_name reserved b ≡ t → name_length k reserved s ≤ k → name_length (suc k) reserved (b ∷ s) ≤ suc k
+  go true q ih = rw (q, name_length) (omega arith)
+  go false q ih = rw (q, name_length) (omega arith)
 
 -- ---- the first bad byte of a name of k bytes, from the place i on
 
@@ -50,3 +62,14 @@ slash_last (b ∷ []) h = refl
 slash_last (b ∷ (c ∷ s)) h =
     let e : suc (suc (length s)) - 1 ≡ suc (suc (length s) - 1) = omega arith in
     rw e (slash_last (c ∷ s) (omega arith))
+
+eqb_sym : (a b : ℕ) → eqb a b ≡ eqb b a
+eqb_sym a b = iff (eqb a b) (eqb b a) (λ t. eq-eqb b a (sym (eqb-true a b t))) (λ t. eq-eqb a b (sym (eqb-true b a t)))
+
+pub slash_ends : (n : List ℕ) → ends_with eqb n (0x2F ∷ []) ≡ ends_in_slash n
+unfolding ends_in_slash is_slash
+slash_ends [] = refl
+slash_ends (b ∷ []) = and-true (eqb 0x2F b) ∙ eqb_sym 0x2F b
+slash_ends (b ∷ (c ∷ s)) =
+    let e : suc (suc (length s)) - 1 ≡ suc (suc (length s) - 1) = omega arith in
+    rw e (slash_ends (c ∷ s))

@@ -46,7 +46,7 @@ name_take (suc k) reserved (b ∷ s) = go (ends_name reserved b) refl (name_take
 -- it does not
 past_whole : (k n : ℕ) (reserved : Bool) (s : List ℕ) → k ≤ length s → k ≤ name_length k reserved s
     → name_length (k + n) reserved s ≡ k + name_length n reserved (drop k s)
-past_whole zero n reserved s l h = rw zero-add (sym (zero-add (name_length n reserved s)))
+past_whole zero n reserved s l h = simp zero-add
 past_whole (suc k) n reserved [] l h = absurd (omega arith)
 past_whole (suc k) n reserved (b ∷ s) l h =
     let e : suc k + n ≡ suc (k + n) = omega arith in

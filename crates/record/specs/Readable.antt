@@ -110,3 +110,6 @@ module _ (w : ℕ) where
   pub sum_fits : w < 2 ^ 64 → bit_and w 0x8080_8080_8080_8080 ≡ 0 → w ≤ 0x7F7F_7F7F_7F7F_7F7F
   unfolding each_byte
   sum_fits h a = low_most 8 w h (mask_none 8 w a)
+
+-- what all_readable's proof goes by
+pub ruleset sums = (top_set, sum_set, sums_tell, sum_fits)

@@ -12,13 +12,10 @@ use record::bytes::is_clean;
 use spec::START;
 
 // The head that the repair leaves, with the meter.
-fn at_head(head: usize, m: Meter) -> NewHead
-    ensures { result ≡ record { head = head; meter = m } }
+fn at_head(head: usize, meter: Meter) -> NewHead
+    ensures { result ≡ record { head = head; meter = meter } }
 {
-    NewHead {
-        head: head,
-        meter: m,
-    }
+    NewHead { head, meter }
 }
 
 // The repair, on what is read from the head h on: a second record CLEAN, START, or neither.
@@ -29,8 +26,7 @@ pub fn finish_move(image: &mut [u8], h: usize, m: Meter) -> NewHead
     ensures asked_most { AskedMost m result.meter (2 * length image.old + 3) }
     ensures head_in_bounds { result.head < length image.old }
 {
-    let s = survey(image, h);
-    let t = s.tally;
+    let t = survey(image, h).tally;
     if t.records < 2 {
         return at_head(h, m);
     }

@@ -52,15 +52,12 @@ pub fn erase_free(image: &mut [u8], h: usize, m: Meter) -> Meter
     ensures asked_most { AskedMost m result (2 * length image.old + 2) }
 {
     let s = survey(image, h);
-    let t = s.tally;
-    let p = s.place;
-    if t.records == 0 {
+    if s.tally.records == 0 {
         return m;
     }
-    let first = t.first;
-    let low = low_of(image, first);
+    let low = low_of(image, s.tally.first);
     if is_clean(low) {
-        let a = erase_run(image, p, m);
+        let a = erase_run(image, s.place, m);
         return to_start(image, h, low, a);
     }
     m

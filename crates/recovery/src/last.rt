@@ -92,8 +92,7 @@ fn void_counted(image: &mut [u8], t: Tally, h: usize, m: Meter) -> Meter
     if t.records == 0 {
         return m;
     }
-    let e = t.last;
-    void_record(image, e, m)
+    void_record(image, t.last, m)
 }
 
 // A torn wrap marker is written over with all its bytes.
@@ -117,8 +116,6 @@ pub fn void_last(image: &mut [u8], h: usize, m: Meter) -> Meter
     ensures asked_most { AskedMost m result 12 }
 {
     let s = survey(image, h);
-    let t = s.tally;
-    let ending = s.ending;
-    let a = void_counted(image, t, h, m);
-    finish_wrap(image, ending, a)
+    let a = void_counted(image, s.tally, h, m);
+    finish_wrap(image, s.ending, a)
 }

@@ -21,6 +21,7 @@ use free::erase_free;
 use last::void_last;
 use moving::NewHead;
 use reading::image::{first_cursor, survey};
+use spec::Report;
 use superseded::drop_superseded;
 
 // The four repairs. The next one reads what those before it left, so none begins once the allowance is used up.
@@ -33,10 +34,7 @@ fn repair(image: &mut [u8], head: usize, m: Meter) -> NewHead
 {
     let a = erase_free(image, head, m);
     if a.allowance < a.asked {
-        return NewHead {
-            head: head,
-            meter: a,
-        };
+        return NewHead { head, meter: a };
     }
     let p = finish_move(image, head, a);
     let b = p.meter;
@@ -57,12 +55,10 @@ fn repair(image: &mut [u8], head: usize, m: Meter) -> NewHead
     }
 }
 
-// What mount leaves: head, tail and the number of live files, where the allowance was enough; and the meter.
+// What is reported of the image that mount leaves, none if the allowance was not enough; and the meter.
 #[derive(Clone, Copy)]
 pub struct Mended {
-    pub head: usize,
-    pub tail: usize,
-    pub files: usize,
+    pub report: Option<Report>,
     pub meter: Meter,
 }
 
@@ -74,21 +70,20 @@ pub fn mend(image: &mut [u8], head: usize, m: Meter) -> Mended
     ensures { Counted image.old head m image.new result }
 {
     let p = repair(image, head, m);
-    let q = p.meter;
-    if q.allowance < q.asked {
+    let meter = p.meter;
+    if meter.allowance < meter.asked {
         return Mended {
-            head: 0,
-            tail: 0,
-            files: 0,
-            meter: q,
+            report: None,
+            meter,
         };
     }
-    let s = survey(image, p.head);
-    let place = s.place;
-    Mended {
+    let report = Report {
         head: p.head,
-        tail: place.tail,
+        tail: survey(image, p.head).place.tail,
         files: count_files(image, first_cursor(image, p.head)),
-        meter: q,
+    };
+    Mended {
+        report: Some(report),
+        meter,
     }
 }

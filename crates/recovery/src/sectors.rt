@@ -17,8 +17,7 @@ fn erase_if_dirty(image: &mut [u8], at: usize, m: Meter) -> Meter
     ensures asked_most { AskedMost m result 1 }
     ensures by_index { (k : ℕ) → at + 4096 ≤ k → drop k image.new ≡ drop k image.old }
 {
-    let end = at + SECTOR;
-    if is_blank(&image[at..end]) {
+    if is_blank(&image[at..at + SECTOR]) {
         return m;
     }
     erase(image, at, m)
@@ -33,10 +32,8 @@ pub fn erase_dirty(image: &mut [u8], from: usize, to: usize, m: Meter) -> Meter
     ensures image_unchanged { drop to image.new ≡ drop to image.old }
 {
     let mut q = m;
-    let mut a = from;
-    while a + SECTOR <= to {
+    for a in (from..to.saturating_sub(SECTOR - 1)).step_by(SECTOR) {
         q = erase_if_dirty(image, a, q);
-        a += SECTOR;
     }
     q
 }

@@ -42,12 +42,9 @@ pub fn drop_superseded(image: &mut [u8], h: usize, m: Meter) -> Meter
     let start = first_cursor(image, h);
     let mut q = m;
     let mut c = start;
-    loop {
-        let s = advance(image, c);
-        let Item::Record { spot: e, next } = s else {
-            return q;
-        };
-        q = drop_one(image, start, e, q);
+    while let Item::Record { spot, next } = advance(image, c) {
+        q = drop_one(image, start, spot, q);
         c = next;
     }
+    q
 }

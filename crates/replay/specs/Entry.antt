@@ -1,12 +1,11 @@
 -- One entry of a trace: each way out of the tests, and what an entry leaves.
-use Rattle.std.specs.Prelude.{ℕ, ◌+◌, ◌%◌, ◌≤◌, ◌<◌, ◌≡◌, refl, Bool, [], ◌∷◌, length, get_or, set, ltb, eqb}
-use Rattle.std.proofs.Common.{arith, sym, ◌∙◌, subst}
+use Rattle.std.specs.Prelude.{ℕ, ◌+◌, ◌%◌, ◌≤◌, ◌<◌, ◌≡◌, refl, Bool, List, length, get_or, ltb, eqb}
+use Rattle.std.proofs.Common.{arith, sym, ◌∙◌}
 use Rattle.std.proofs.Math.Path.{ap}
 use Rattle.std.proofs.Math.Bool.{true, false, not}
 use Rattle.std.proofs.lemmas.Bool.{false≢true}
-use Rattle.std.proofs.lemmas.List.{set-get_or}
 use borrow.Author.Tests.{eq-eqb, ne_eqb, eqb-true, eqb-false, lt-ltb, le-ltb, ltb-true, ltb-false}
-use Rattle.spec.specs.Step.{Image, program, erase, apply}
+use Rattle.spec.specs.Step.{Image, apply}
 use Rattle.spec.specs.Geometry.{good_length}
 use Rattle.spec.specs.Bytes.{clears}
 use Rattle.spec.specs.Planner.{step_of}
@@ -14,8 +13,11 @@ use Rattle.spec.specs.Trace.{out_of_range, known_kind, sets_bit, fault, is_sound
 use Rattle.laws.specs.Tests.{not_false}
 use Rattle.laws.specs.Length.{good}
 use Rattle.chain.specs.TallyLaws.{or_false}
-use Rattle.flash.specs.declared.Meter.{Meter}
-use Rattle.flash.specs.Did.{Did}
+use Rattle.replay.specs.declared.entry.Entry.{Entry}
+
+-- what three slices hold at i
+abbrev pub entry_at : List ℕ → List ℕ → List ℕ → ℕ → Entry
+entry_at ks xs bs i = record { kind = get_or ks i 0; address = get_or xs i 0; byte = get_or bs i 0 }
 
 -- the image behind an entry
 abbrev pub carried : Image → ℕ → ℕ → ℕ → Image
@@ -35,10 +37,6 @@ module _ (N kind a b : ℕ) where
   pub range_program : a < N → kind ≡ 1 → out_of_range N kind a b ≡ ltb 255 b
   unfolding out_of_range
   range_program h e = rw (out_of_range, lt-ltb a N h, e)
-
-  pub range_other : a < N → (kind ≡ 2 → ⊥) → (kind ≡ 1 → ⊥) → out_of_range N kind a b ≡ false
-  unfolding out_of_range
-  range_other h p q = rw (out_of_range, lt-ltb a N h, ne_eqb kind 2 p, ne_eqb kind 1 q)
 
   -- what is not out of range lies in the image
   pub range_in : out_of_range N kind a b ≡ false → a < N
@@ -106,14 +104,6 @@ module _ (image : Image) (kind a b : ℕ) where
     go true f = eqb-true kind 1 f
     go false f = absurd (omega (arith, fault_kind (no_fault_range e) p (eqb-false kind 1 f)))
 
--- ---- the step of an entry
-
-step_erase : (kind a b : ℕ) → kind ≡ 2 → step_of kind a b ≡ erase a
-step_erase kind a b e = rw e
-
-pub step_program : (kind a b : ℕ) → (kind ≡ 2 → ⊥) → step_of kind a b ≡ program a b
-step_program kind a b p = rw (step_of, ne_eqb kind 2 p)
-
 -- ---- the image behind an entry
 
 module _ (image : Image) (kind a b : ℕ) where
@@ -123,7 +113,7 @@ module _ (image : Image) (kind a b : ℕ) where
   pub carried_not : (fault image kind a b ≡ 0 → ⊥) → carried image kind a b ≡ image
   carried_not e = rw (carried, ne_eqb (fault image kind a b) 0 e)
 
--- ---- what the one step needs, and what it did
+-- ---- what the one step needs
 
 module _ (image : Image) (kind a b : ℕ) (g : good_length (length image) ≡ true) (e : fault image kind a b ≡ 0) where
   pub erase_room : kind ≡ 2 → a + 4096 ≤ length image
@@ -137,37 +127,3 @@ module _ (image : Image) (kind a b : ℕ) (g : good_length (length image) ≡ tr
   pub program_byte : (kind ≡ 2 → ⊥) → b < 256
   program_byte p =
       range_byte (length image) kind a b (no_fault_kind image kind a b e p) (no_fault_range image kind a b e)
-
-abbrev one_step : Meter
-one_step = record { allowance = 1; asked = 0 }
-
-module _ (image left : Image) (kind a b : ℕ) {r : Meter} where
-  pub did_erase : kind ≡ 2 → Did image one_step (erase a ∷ []) left r → left ≡ apply image (step_of kind a b)
-  did_erase k d = d.bytes ∙ ap (apply image) (sym (step_erase kind a b k))
-
-  pub did_program : {x : ℕ} → x ≡ b → (kind ≡ 2 → ⊥) → Did image one_step (program a x ∷ []) left r → left ≡ apply image (step_of kind a b)
-  did_program e k d = d.bytes ∙ ap (λ (n : ℕ). apply image (program a n)) e ∙ ap (apply image) (sym (step_program kind a b k))
-
--- an address that was widened
-pub by_address : (image left : Image) (f kind x a b : ℕ) → x ≡ a → (f ≡ fault image kind x b) × (left ≡ carried image kind x b)
-    → (f ≡ fault image kind a b) × (left ≡ carried image kind a b)
-by_address image left f kind x a b e h = subst (λ (n : ℕ). (f ≡ fault image kind n b) × (left ≡ carried image kind n b)) e h
-
--- an entry that programs what stands there already changes nothing
-carried_same : (image : Image) (kind a b : ℕ) → kind ≡ 1 → get_or image a 0 ≡ b → carried image kind a b ≡ image
-carried_same image kind a b k e = go (is_sound image kind a b) refl where
-  same : apply image (step_of kind a b) ≡ image
-  same =
-      ap (apply image) (step_program kind a b (λ q. omega (arith, k)))
-      ∙ ap (λ (n : ℕ). set image a n) (sym e) ∙ set-get_or image a 0
-
-  go : (t : Bool) → is_sound image kind a b ≡ t → carried image kind a b ≡ image
-  go true q = rw (carried, q) same
-  go false q = rw (carried, q)
-
-pub unchanged : (image : Image) (kind a b x : ℕ) → kind ≡ 1 → x ≡ get_or image a 0 → not (eqb x b) ≡ false → carried image kind a b ≡ image
-unchanged image kind a b x k e h = carried_same image kind a b k (sym e ∙ eqb-true x b (not_false (eqb x b) h))
-
-pub at_address : (image : Image) (t : Bool) (kind x a b : ℕ) → x ≡ a → (t ≡ false → carried image kind x b ≡ image)
-    → t ≡ false → carried image kind a b ≡ image
-at_address image t kind x a b e h = subst (λ (n : ℕ). t ≡ false → carried image kind n b ≡ image) e h

@@ -5,81 +5,101 @@
 mod entry;
 pub mod watch;
 
-ghost use Rattle.std.specs.Prelude.{◌≡◌, true, ◌&&◌, eqb, length};
-ghost use Rattle.spec.specs.Geometry.{good_length};
-ghost use Rattle.spec.specs.Trace.{replay_on, replay_trace};
+ghost use Rattle.std.specs.Prelude.{◌≡◌, true};
+ghost use Rattle.spec.specs.Trace.{replay_on, replayable, replay_trace, replayed};
 ghost use Rattle.window.specs.Handed.{slices};
-ghost use Rattle.replay.specs.Told.{told};
+ghost use Rattle.replay.specs.Told.{stop_number, stop_told, told};
 
 use door::good_length;
-use entry::carry_entry;
+use entry::Entry;
+use spec::Refusal;
 
-// What a replay answers: 0 or 22; where it stopped, or the count of all entries; and which of the three stopped it, or 0.
+// What stops a replay: an entry that is out of range, of unknown kind, or programs a bit from 0 to 1.
 #[derive(Clone, Copy)]
-pub struct Replayed {
-    pub answer: u32,
-    pub position: usize,
-    pub stop: u32,
+pub enum Stop {
+    OutOfRange,
+    UnknownKind,
+    BitSet,
 }
 
-// What the search for the first image that mount would refuse answers: 0 or 22; whether there is such a count of entries; the count, or
-// that of all before the stop.
+impl Stop {
+    // K7's number.
+    pub fn number(self) -> u32
+        ensures { result ≡ stop_number self }
+    {
+        match self {
+            Stop::OutOfRange => 1,
+            Stop::UnknownKind => 2,
+            Stop::BitSet => 3,
+        }
+    }
+}
+
+// How far a replay went: where it stopped, and what stopped it; or the count of all entries.
+#[derive(Clone, Copy)]
+pub struct Replayed {
+    pub position: usize,
+    pub stop: Option<Stop>,
+}
+
+impl Replayed {
+    // The number of what stopped it, or 0.
+    pub fn stop_number(self) -> u32
+        ensures { result ≡ stop_told self.stop }
+    {
+        self.stop.map_or(0, |stop| stop.number())
+    }
+}
+
+// The first image of a replay that mount would refuse: whether there is one; the count of entries before it, or of all up to the stop. No
+// Option, for K7 gives a count in both cases.
 #[derive(Clone, Copy)]
 pub struct Refusing {
-    pub answer: u32,
     pub there: bool,
     pub count: usize,
 }
 
-// Whether three slices are of one length.
-fn equal_lengths(kinds: usize, addresses: usize, bytes: usize) -> bool
-    ensures { result ≡ (eqb kinds addresses && eqb addresses bytes) }
+// Whether the image's length is good and the three slices are of one length.
+#[tactic(auto, unfolding(spec::specs::Trace::replayable, spec::specs::Trace::equal_lengths))]
+fn replayable(image: &[u8], kinds: &[u32], addresses: &[u32], bytes: &[u32]) -> bool
+    ensures { result ≡ replayable image.now (slices kinds.now addresses.now bytes.now) }
 {
-    if kinds == addresses {
-        return addresses == bytes;
-    }
-    false
+    good_length(image.len()) && kinds.len() == addresses.len() && addresses.len() == bytes.len()
 }
 
 // The entries one after another, up to the first that can't be carried out.
 fn replay_entries(image: &mut [u8], kinds: &[u32], addresses: &[u32], bytes: &[u32]) -> Replayed
-    requires { (good_length (length image.old) ≡ true) × (length kinds.now ≡ length addresses.now)
-        × (length addresses.now ≡ length bytes.now) }
-    ensures { told result image.new
+    requires { replayable image.old (slices kinds.now addresses.now bytes.now) ≡ true }
+    ensures { replayed 0 result.position (stop_told result.stop) image.new
         ≡ replay_on 0 image.old kinds.now addresses.now bytes.now }
 {
-    let mut i = 0;
-    while i < kinds.len() {
-        let stop = carry_entry(image, kinds, addresses, bytes, i);
-        if stop != 0 {
+    for i in 0..kinds.len() {
+        if let Err(stop) = Entry::at(kinds, addresses, bytes, i).carry_out(image) {
             return Replayed {
-                answer: 0,
                 position: i,
-                stop: stop,
+                stop: Some(stop),
             };
         }
-        i += 1;
     }
     Replayed {
-        answer: 0,
-        position: i,
-        stop: 0,
+        position: kinds.len(),
+        stop: None,
     }
 }
 
 // Replays a trace over the image; the image is then that after all entries before the stop.
-pub fn replay_trace(image: &mut [u8], kinds: &[u32], addresses: &[u32], bytes: &[u32]) -> Replayed
+#[tactic(auto, unfolding(spec::specs::Trace::replay_trace))]
+pub fn replay_trace(
+    image: &mut [u8],
+    kinds: &[u32],
+    addresses: &[u32],
+    bytes: &[u32],
+) -> Result<Replayed, Refusal>
     ensures { told result image.new
         ≡ replay_trace image.old (slices kinds.now addresses.now bytes.now) }
 {
-    if good_length(image.len()) {
-        if equal_lengths(kinds.len(), addresses.len(), bytes.len()) {
-            return replay_entries(image, kinds, addresses, bytes);
-        }
+    if replayable(image, kinds, addresses, bytes) {
+        return Ok(replay_entries(image, kinds, addresses, bytes));
     }
-    Replayed {
-        answer: 22,
-        position: 0,
-        stop: 0,
-    }
+    Err(Refusal::BadLength)
 }

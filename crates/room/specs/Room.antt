@@ -2,20 +2,18 @@
 -- and the largest of all sizes is kept.
 use Prim.Native.Nat.{ℕ, ◌≤◌, ◌<◌, max}
 use Rattle.std.proofs.Common.{arith, ◌∙◌}
-use Rattle.std.specs.Prelude.{◌≡◌, refl, Bool, length}
+use Rattle.std.specs.Prelude.{◌≡◌, refl, Bool, None, length}
 use Rattle.std.proofs.Math.Path.{sym, ap, ap₂}
 use Rattle.std.proofs.Math.Bool.{true, false}
 use mathlib.Core.List.{List, [], ◌∷◌, ◌++◌, map}
 use Rattle.spec.specs.declared.Place.{Place}
-use Rattle.spec.specs.declared.Placed.{Placed}
-use Rattle.spec.specs.declared.Placed.TheVariants.{Full}
 use Rattle.spec.specs.Step.{Image}
 use Rattle.spec.specs.Basics.{keep, any}
 use Rattle.spec.specs.Record.{Entry, size_of, size}
 use Rattle.spec.specs.Chain.{Reading}
 use Rattle.spec.specs.Files.{superseded, has_name}
 use Rattle.spec.specs.Place.{address, largest, other_name, largest_with, in_head_sector, begins_there, standing, joining, room}
-use Rattle.spec.specs.Placed.{placed}
+use Rattle.spec.specs.Placed.{Placed, placed}
 use Rattle.room.specs.declared.Stowed.{Stowed}
 use Rattle.chain.specs.declared.Cursor.{Cursor}
 use Rattle.chain.specs.declared.Spot.{Spot}
@@ -182,7 +180,7 @@ module _ (p : Place) (name : List ℕ) (s : ℕ) (es : List Entry) where
   unfolding room
   room_long image i l = sym (too_long image p s _ i l)
 
-  pub room_full : placed p s ≡ Full → false ≡ room p name s es
+  pub room_full : placed p s ≡ None → false ≡ room p name s es
   unfolding room
   room_full e = sym (none_fit p s _ e)
 

@@ -18,16 +18,16 @@ ghost use Rattle.room.specs.Room.{Unsuperseded, room_in, others, with_size, larg
 use chain::files::{has_name, is_file};
 use chain::plain::near;
 use chain::walk::advance;
-use chain::{Cursor, Item, Nearby, Spot};
+use chain::{Cursor, Item, Spot};
 use reading::Survey;
 use reading::image::first_cursor;
 use record::size;
-use spec::{Place, Placed, floor};
+use spec::{Place, Placement, floor};
 
 // Where the last size was placed, and the largest size so far.
 #[derive(Clone, Copy)]
 struct Stowed {
-    placed: Placed,
+    placed: Option<Placement>,
     largest: usize,
 }
 
@@ -39,13 +39,10 @@ struct Farther {
 }
 
 // A further size, behind what was placed.
-fn stow(placed: Placed, size: usize) -> Placed
+fn stow(placed: Option<Placement>, size: usize) -> Option<Placement>
     ensures { result ≡ stow placed size }
 {
-    let Placed::At { place, .. } = placed else {
-        return Placed::Full;
-    };
-    place.after(size)
+    placed?.place.after(size)
 }
 
 // Whether an address lies in the head's sector.
@@ -55,33 +52,19 @@ fn in_head_sector(place: Place, at: usize) -> bool
     floor(at) == floor(place.head)
 }
 
-// The larger of two sizes.
-fn max_of(a: usize, b: usize) -> usize
-    ensures { result ≡ max a b }
-{
-    if a < b {
-        return b;
-    }
-    a
-}
-
 // A file that stays: placed if it begins in the head's sector, and compared with the largest.
 fn stow_file(place: Place, at: usize, size: usize, stowed: Stowed) -> Stowed
     ensures { result ≡ with_size (in_head_sector place at) size stowed }
 {
-    let placed = stowed.placed;
-    let largest = max_of(stowed.largest, size);
+    let largest = stowed.largest.max(size);
     if in_head_sector(place, at) {
-        let next = stow(placed, size);
+        let next = stow(stowed.placed, size);
         return Stowed {
             placed: next,
-            largest: largest,
+            largest,
         };
     }
-    Stowed {
-        placed: placed,
-        largest: largest,
-    }
+    Stowed { largest, ..stowed }
 }
 
 // The same for a record of the chain, if it is a file of another name.
@@ -120,13 +103,9 @@ fn larger(image: &[u8], x: Spot, name: &[u8], size: usize, largest: usize) -> us
 fn stowed_at(cursor: Cursor, first: Stowed, largest: usize) -> Farther
     ensures { result ≡ record { cursor = cursor; stowed = record { placed = first.placed; largest = largest } } }
 {
-    let placed = first.placed;
     Farther {
-        cursor: cursor,
-        stowed: Stowed {
-            placed: placed,
-            largest: largest,
-        },
+        cursor,
+        stowed: Stowed { largest, ..first },
     }
 }
 
@@ -138,17 +117,14 @@ fn stow_far(image: &[u8], start: Cursor, place: Place, name: &[u8], first: Stowe
 {
     let mut c = start;
     let mut largest = first.largest;
-    loop {
-        let s = near(image, c);
-        let Nearby::Record { spot: e, next } = s else {
-            return stowed_at(c, first, largest);
-        };
+    while let Some((e, next)) = near(image, c) {
         if in_head_sector(place, e.at) {
-            return stowed_at(c, first, largest);
+            break;
         }
         largest = larger(image, e, name, size(e.n, e.d), largest);
         c = next;
     }
+    stowed_at(c, first, largest)
 }
 
 // All files that stay, in the order of the chain.
@@ -160,19 +136,16 @@ fn stow_chain(image: &[u8], start: Cursor, place: Place, name: &[u8], first: Sto
     let mut stowed = first;
     loop {
         let f = stow_far(image, c, place, name, stowed);
-        let d = f.cursor;
-        let x = f.stowed;
-        let s = advance(image, d);
-        let Item::Record { spot: e, next } = s else {
-            return x;
+        let Item::Record { spot: e, next } = advance(image, f.cursor) else {
+            return f.stowed;
         };
-        stowed = stow_record(image, place, e, name, x);
+        stowed = stow_record(image, place, e, name, f.stowed);
         c = next;
     }
 }
 
 // The new record, which got this address, once more if it begins in the head's sector.
-fn stow_new(place: Place, at: usize, size: usize, placed: Placed) -> Placed
+fn stow_new(place: Place, at: usize, size: usize, placed: Option<Placement>) -> Option<Placement>
     requires { at ≡ address place size }
     ensures { result ≡ stow_all placed (joining place size) }
 {
@@ -187,13 +160,9 @@ fn has_last(place: Place, at: usize, size: usize, stowed: Stowed) -> bool
     requires { at ≡ address place size }
     ensures { result ≡ last_fit place size stowed }
 {
-    let placed = stowed.placed;
     let largest = stowed.largest;
-    let new = stow_new(place, at, size, placed);
-    let Placed::At { .. } = stow(stow(new, largest), largest) else {
-        return false;
-    };
-    true
+    let new = stow_new(place, at, size, stowed.placed);
+    stow(stow(new, largest), largest).is_some()
 }
 
 // Whether there is room for a file of this name with d data bytes, where nothing is superseded.
@@ -208,7 +177,7 @@ pub fn has_room(image: &[u8], s: Survey, name: &[u8], d: usize) -> bool
     }
     let new = size(name.len(), d);
     let first = place.after(new);
-    let Placed::At { at, .. } = first else {
+    let Some(x) = first else {
         return false;
     };
     let alone = Stowed {
@@ -216,5 +185,5 @@ pub fn has_room(image: &[u8], s: Survey, name: &[u8], d: usize) -> bool
         largest: new,
     };
     let stowed = stow_chain(image, first_cursor(image, place.head), place, name, alone);
-    has_last(place, at, new, stowed)
+    has_last(place, x.at, new, stowed)
 }

@@ -6,6 +6,7 @@
 use calls::format;
 use calls::get::{get, get_place};
 use calls::mount::mount;
+use calls::numbers::Numbers;
 use calls::put::put;
 use calls::remove::remove;
 use calls::sweep::sweep;
@@ -24,39 +25,25 @@ fn number(rt: &impl Print, n: usize) -> io::Result<()> {
     print!(rt; "  {n:>4}")
 }
 
-fn wide(byte: u8) -> u64 {
-    byte as u64
-}
-
-// The byte at this index, if the file is so long.
-fn byte_at(rt: &impl Print, file: &[u8], i: usize) -> io::Result<()> {
-    if i < file.len() {
-        let byte = wide(file[i]);
-        print!(rt; " {byte:02x}")?;
-    }
-    Ok(())
-}
-
 // The first three bytes of a file, or as many as it has.
 fn first_bytes(rt: &impl Print, file: &[u8]) -> io::Result<()> {
-    if file.len() > 0 {
+    if !file.is_empty() {
         text(rt, " ")?;
     }
-    byte_at(rt, file, 0)?;
-    byte_at(rt, file, 1)?;
-    byte_at(rt, file, 2)?;
+    for byte in file.iter().take(3) {
+        print!(rt; " {byte:02x}")?;
+    }
     text(rt, "\n")
 }
 
 // What mount answers, and the four numbers of its success.
 fn mounted(rt: &impl Print, image: &mut [u8]) -> io::Result<()> {
-    let m = mount(image, ENOUGH);
-    number(rt, m.answer() as usize)?;
-    number(rt, m.steps())?;
-    let r = m.report();
-    number(rt, r.head)?;
-    number(rt, r.tail)?;
-    number(rt, r.files)
+    let n = Numbers::from(mount(image, ENOUGH));
+    number(rt, n.answer as usize)?;
+    number(rt, n.steps)?;
+    number(rt, n.report.head)?;
+    number(rt, n.report.tail)?;
+    number(rt, n.report.files)
 }
 
 // A put within an allowance, the mount after it, and what get then gives of that name.
@@ -67,14 +54,13 @@ fn put_row(
     content: &[u8],
     allowance: usize,
 ) -> io::Result<()> {
-    let w = put(image, name, content, allowance);
-    number(rt, w.answer() as usize)?;
-    number(rt, w.steps())?;
+    let n = Numbers::from(put(image, name, content, allowance));
+    number(rt, n.answer as usize)?;
+    number(rt, n.steps)?;
     mounted(rt, image)?;
-    let h = get_place(image, name);
-    number(rt, h.answer as usize)?;
-    let x = h.extent;
-    number(rt, x.length)?;
+    let place = Numbers::from(get_place(image, name));
+    number(rt, place.answer as usize)?;
+    number(rt, place.extent.length)?;
     first_bytes(rt, get(image, name))
 }
 
@@ -86,7 +72,7 @@ fn first_put_row(
     content: &[u8],
     allowance: usize,
 ) -> io::Result<()> {
-    format(image, ENOUGH);
+    let _ = format(image, ENOUGH);
     put_row(rt, image, name, content, allowance)
 }
 
@@ -99,51 +85,50 @@ fn second_put_row(
     new: &[u8],
     allowance: usize,
 ) -> io::Result<()> {
-    format(image, ENOUGH);
-    put(image, name, old, ENOUGH);
+    let _ = format(image, ENOUGH);
+    let _ = put(image, name, old, ENOUGH);
     put_row(rt, image, name, new, allowance)
 }
 
 // A sweep after the first put, and the mount after it.
 fn sweep_row(rt: &impl Print, image: &mut [u8], name: &[u8], content: &[u8]) -> io::Result<()> {
-    format(image, ENOUGH);
-    put(image, name, content, ENOUGH);
-    let w = sweep(image, ENOUGH);
-    number(rt, w.answer() as usize)?;
-    number(rt, w.moves())?;
-    number(rt, w.steps())?;
+    let _ = format(image, ENOUGH);
+    let _ = put(image, name, content, ENOUGH);
+    let n = Numbers::from(sweep(image, ENOUGH));
+    number(rt, n.answer as usize)?;
+    number(rt, n.moves)?;
+    number(rt, n.steps)?;
     mounted(rt, image)?;
     first_bytes(rt, get(image, name))
 }
 
 // What is wrong with a name: the reason, and the bad byte's place.
-fn fault(rt: &impl Print, f: NameFault) -> io::Result<()> {
-    number(rt, f.reason as usize)?;
-    number(rt, f.place)
+fn fault(rt: &impl Print, f: Option<NameFault>) -> io::Result<()> {
+    number(rt, f.map_or(0, NameFault::reason) as usize)?;
+    number(rt, f.map_or(0, NameFault::place))
 }
 
 // What put answers to a name, and what it says is wrong with it.
 fn put_named(rt: &impl Print, image: &mut [u8], name: &[u8], content: &[u8]) -> io::Result<()> {
-    let w = put(image, name, content, ENOUGH);
-    number(rt, w.answer() as usize)?;
-    fault(rt, w.fault())
+    let n = Numbers::from(put(image, name, content, ENOUGH));
+    number(rt, n.answer as usize)?;
+    fault(rt, n.fault)
 }
 
 // The same of get, with where it says that the bytes stand.
 fn get_named(rt: &impl Print, image: &[u8], name: &[u8]) -> io::Result<()> {
-    let h = get_place(image, name);
-    number(rt, h.answer as usize)?;
-    fault(rt, h.name)?;
-    let x = h.extent;
-    number(rt, x.offset)?;
-    number(rt, x.length)
+    let n = Numbers::from(get_place(image, name));
+    number(rt, n.answer as usize)?;
+    fault(rt, n.fault)?;
+    number(rt, n.extent.offset)?;
+    number(rt, n.extent.length)
 }
 
 // The same of remove.
 fn remove_named(rt: &impl Print, image: &mut [u8], name: &[u8]) -> io::Result<()> {
-    let w = remove(image, name, ENOUGH);
-    number(rt, w.answer() as usize)?;
-    fault(rt, w.fault())
+    let n = Numbers::from(remove(image, name, ENOUGH));
+    number(rt, n.answer as usize)?;
+    fault(rt, n.fault)
 }
 
 // The three calls with one name, on this image.
@@ -162,7 +147,7 @@ fn first_name_row(
     name: &[u8],
     content: &[u8],
 ) -> io::Result<()> {
-    format(image, ENOUGH);
+    let _ = format(image, ENOUGH);
     name_row(rt, image, name, content)
 }
 

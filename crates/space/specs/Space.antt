@@ -1,5 +1,5 @@
 -- Request K3 in the code's steps: the four numbers from live bytes, a place and a wall.
-use Rattle.std.specs.Prelude.{ℕ, ◌+◌, ◌-◌, ◌≤◌, ◌<◌, ◌^◌, ◌≡◌, refl, Bool, true, false, List, [], ◌∷◌, length}
+use Rattle.std.specs.Prelude.{ℕ, ◌+◌, ◌-◌, ◌≤◌, ◌<◌, ◌^◌, ◌≡◌, refl, Bool, true, false, List, [], ◌∷◌, length, Ok}
 use Rattle.std.proofs.Common.{arith, zero-add, sym, ap, subst, ◌∙◌}
 use Rattle.std.proofs.Math.Path.{ap₂}
 use borrow.Author.Tests.{eq-eqb, ne_eqb, lt-ltb, le-ltb}
@@ -19,7 +19,6 @@ use Rattle.planning.specs.Space.{marker_at}
 use Rattle.planning.specs.Walls.{first_wall, put_wall, led_wall, mended_wall, wall_of, wall_counted, space_filled}
 use Rattle.reading.specs.declared.Survey.{Survey}
 use Rattle.chain.specs.declared.Tally.{Tally}
-use Rattle.reading.specs.declared.Read.{Read}
 use Rattle.chain.specs.Rest.{entry_of}
 use Rattle.chain.specs.FileLaws.{is_file}
 use Rattle.chain.specs.Sums.{sizes_most}
@@ -119,7 +118,7 @@ module _ {im : Image} {s : Survey} (w : Countable im s) where
   wall_is_counted e f = f ∙ ap (first_wall s.place) e ∙ wall_counted _ w.reads all_sizes
 
   -- where no file is superseded, those of the files are the live bytes
-  pub live_is_counted : Quiet im (Read.Good s) → s.tally.sums.files ≡ live_bytes entries
+  pub live_is_counted : Quiet im (Ok s) → s.tally.sums.files ≡ live_bytes entries
   live_is_counted q =
       ap (λ (t : Tally). t.sums.files) w.surveyed.tallied.same ∙ tally_file_sizes none_yet entries
       ∙ zero-add (sizes (keep is_file entries)) ∙ ap sizes (sym (files_are entries q))

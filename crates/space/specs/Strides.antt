@@ -1,5 +1,5 @@
 -- A sweep that is only walked: one move, and what the next one goes by. The first copy is told by its address.
-use Rattle.std.specs.Prelude.{ℕ, suc, ◌≡◌, refl, Bool, true, false, List, [], ◌∷◌, length}
+use Rattle.std.specs.Prelude.{ℕ, suc, ◌≡◌, refl, Bool, true, false, List, [], ◌∷◌, length, None, Some}
 use Rattle.std.proofs.Common.{sym, ap, ◌∙◌}
 use Rattle.std.proofs.Math.Option.{Option, none, some}
 use Rattle.spec.specs.declared.Place.{Place}
@@ -15,9 +15,9 @@ use Rattle.chain.specs.declared.Spot.{Spot}
 use Rattle.chain.specs.Rest.{entry_of, rest}
 use Rattle.chain.specs.Fold.{Whole}
 use Rattle.chain.specs.Sums.{size_is}
-use Rattle.planner.specs.declared.Copied.{Copied}
+use Rattle.planner.specs.Answers.{Copied}
 use Rattle.space.specs.declared.Course.{Course}
-use Rattle.space.specs.declared.Strode.{Strode}
+use Rattle.space.specs.Answers.{Strode}
 use Rattle.planner.specs.Walk.{copy_entry, address_of, first_of}
 use Rattle.space.specs.Space.{put_by}
 use Rattle.planner.specs.Moves.{Walkable, Known, copied_is}
@@ -25,18 +25,18 @@ use Rattle.planner.specs.Moves.{Walkable, Known, copied_is}
 -- ---- addresses
 
 abbrev pub at_of : Copied → Option ℕ
-at_of Copied.None = none
-at_of (Copied.At a) = some a
+at_of None = none
+at_of (Some a) = some a
 
 -- the code's Y
 next_is : (xs : List Entry) (c : Copied) → at_of (address_of (next_of xs (copy_entry c))) ≡ next_at xs (at_of c)
-next_is [] Copied.None = refl
-next_is [] (Copied.At a) = refl
+next_is [] None = refl
+next_is [] (Some a) = refl
 next_is (y ∷ xs) c = refl
 
 first_is : (c : Copied) (a : ℕ) → at_of (first_of c a) ≡ first_at (at_of c) a
-first_is Copied.None a = refl
-first_is (Copied.At b) a = refl
+first_is None a = refl
+first_is (Some b) a = refl
 
 -- ---- what is left
 
@@ -46,12 +46,12 @@ stand_left image k all u = strode k all u.walk.place u.wall (rest image u.walk.c
 
 -- after a move, which goes on or stops at s
 abbrev pub onward : Image → ℕ → List Entry → Stand → Strode → Stand
-onward image k all s Strode.Stop = s
-onward image k all s (Strode.On u) = stand_left image k all u
+onward image k all s None = s
+onward image k all s (Some u) = stand_left image k all u
 
 abbrev pub KnownOn : Image → Strode → Type 0
-KnownOn image Strode.Stop = Unit {0}
-KnownOn image (Strode.On u) = Known image u.walk
+KnownOn image None = Unit {0}
+KnownOn image (Some u) = Known image u.walk
 
 -- (b) to (f)
 pub record OverStrode (image : Image) (past : Cursor) (p : Place) (c : Copied) (wall : ℕ) (r : Strode) : Type 0 where
@@ -77,7 +77,7 @@ module _ (image : Image) (past : Cursor) (p : Place) (c : Copied) (wall : ℕ) w
   abbrev xs : List Entry
   xs = (rest image past).entries
 
-  pub over_stop : address_of (next_of xs (copy_entry c)) ≡ Copied.None → OverStrode image past p c wall Strode.Stop
+  pub over_stop : address_of (next_of xs (copy_entry c)) ≡ None → OverStrode image past p c wall None
   over_stop e =
       let none_is : next_at xs (at_of c) ≡ none = sym (next_is xs c) ∙ ap at_of e in
       record {
@@ -86,10 +86,10 @@ module _ (image : Image) (past : Cursor) (p : Place) (c : Copied) (wall : ℕ) w
         known = tt;
       }
 
-  pub over_on : (y : ℕ) → address_of (next_of xs (copy_entry c)) ≡ Copied.At y
+  pub over_on : (y : ℕ) → address_of (next_of xs (copy_entry c)) ≡ Some y
       → Known image (record { cursor = past; place = led_place p y; copy = c })
       → OverStrode image past p c wall
-      (Strode.On (record { walk = record { cursor = past; place = led_place p y; copy = c }; wall = led_wall (length image) y wall }))
+      (Some (record { walk = record { cursor = past; place = led_place p y; copy = c }; wall = led_wall (length image) y wall }))
   over_on y e w =
       let some_is : next_at xs (at_of c) ≡ some y = sym (next_is xs c) ∙ ap at_of e in
       record {
@@ -109,7 +109,7 @@ module _ (image : Image) (x : Spot) (past : Cursor) (p : Place) (c : Copied) (wa
     abbrev e : Entry
     e = entry_of image x
 
-    pub live_stop : fits p z ≡ false → LiveStrode image x past p c wall Strode.Stop
+    pub live_stop : fits p z ≡ false → LiveStrode image x past p c wall None
     live_stop f =
         record {
           is = λ k all l. strode_live k all p wall e (rest image past).entries (at_of c) false l (ap (fits p) (size_is whole) ∙ f);
@@ -146,7 +146,7 @@ module _ (image : Image) (all : List Entry) (u : Course) where
   abbrev c : Option ℕ
   c = at_of u.walk.copy
 
-  pub stride_none : (rest image u.walk.cursor).entries ≡ [] → StrodeOn image all u Strode.Stop
+  pub stride_none : (rest image u.walk.cursor).entries ≡ [] → StrodeOn image all u None
   stride_none e =
       record {
         is = λ k. ap (λ (xs : List Entry). strode (suc k) all p u.wall xs c) e
@@ -186,8 +186,8 @@ module _ {image : Image} {all : List Entry} {goal : Stand} {left : ℕ} {u : Cou
       sym (strode_none all u.walk.place u.wall (rest image u.walk.cursor).entries (at_of u.walk.copy))
       ∙ ap (λ (k : ℕ). stand_left image k all u) (sym z) ∙ w.same
 
-  pub striding_stop : (k : ℕ) → left ≡ suc k → StrodeOn image all u Strode.Stop → stand u.walk.place u.wall ≡ goal
+  pub striding_stop : (k : ℕ) → left ≡ suc k → StrodeOn image all u None → stand u.walk.place u.wall ≡ goal
   striding_stop k z o = sym (o.is k) ∙ ap (λ (i : ℕ). stand_left image i all u) (sym z) ∙ w.same
 
-  pub striding_more : (k : ℕ) → left ≡ suc k → (v : Course) → StrodeOn image all u (Strode.On v) → Striding image all goal k v
+  pub striding_more : (k : ℕ) → left ≡ suc k → (v : Course) → StrodeOn image all u (Some v) → Striding image all goal k v
   striding_more k z v o = record { same = sym (o.is k) ∙ ap (λ (i : ℕ). stand_left image i all u) (sym z) ∙ w.same; known = o.known }

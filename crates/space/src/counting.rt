@@ -1,6 +1,6 @@
 // What the bytes of the image that a call leaves are good for (02, K3), counted in the first reading: from the live bytes, the place that
 // is read then, and the wall, where the wrap marker stands; without one the wall is the image's end. No call reads its chain again for it.
-ghost use Rattle.std.specs.Prelude.{◌≡◌, true, false, ◌+◌, ◌-◌, ◌≤◌, ◌^◌, length};
+ghost use Rattle.std.specs.Prelude.{◌≡◌, true, false, ◌+◌, ◌-◌, ◌≤◌, ◌^◌, length, Ok};
 ghost use Rattle.spec.specs.Basics.{keep, first_such};
 ghost use Rattle.spec.specs.Record.{size_of};
 ghost use Rattle.spec.specs.Files.{has_name};
@@ -15,40 +15,31 @@ ghost use Rattle.planning.specs.Space.{marker_at};
 ghost use Rattle.planning.specs.PutCounts.{replaced_bytes};
 ghost use Rattle.planning.specs.Walls.{first_wall, put_wall, led_wall, mended_wall, wall_of, space_filled};
 ghost use Rattle.chain.specs.FileLaws.{is_file};
-ghost use Rattle.reading.specs.declared.Read.{Read};
 ghost use Rattle.chain.specs.Seek.{found_in, FoundWhole};
 ghost use Rattle.reading.specs.Read.{reading_of, Surveyed, Quiet, FileTold};
 ghost use Rattle.space.specs.Space.{Small, Countable, Counted};
 
 use crate::Count;
+use chain::Spot;
 use chain::live::live_bytes;
-use chain::{Found, Spot};
 use planner::mount::mended_place;
 use planner::place::come_round;
 use planner::superseded::leads;
 use reading::Survey;
 use reading::image::first_cursor;
 use record::{size, up_8};
-use spec::{Place, Placed, Space, floor};
-
-// The bytes from a up to b; none if b lies before a.
-fn gap(a: usize, b: usize) -> usize
-    ensures { result ≡ b - a }
-{
-    if b <= a {
-        return 0;
-    }
-    b - a
-}
+use spec::{Place, Space, floor};
 
 fn free_bytes(p: Place) -> usize
     requires { Small p }
     ensures { (result ≡ free_bytes p) × (result ≤ 2 ^ 25) }
 {
+    let low = floor(p.head);
     if p.turned {
-        return gap(p.tail, floor(p.head));
+        low.saturating_sub(p.tail)
+    } else {
+        p.length.saturating_sub(p.tail) + low
     }
-    gap(p.tail, p.length) + floor(p.head)
 }
 
 fn lost_bytes(p: Place, wall: usize) -> usize
@@ -57,7 +48,7 @@ fn lost_bytes(p: Place, wall: usize) -> usize
 {
     let below = p.head - floor(p.head);
     if wall < p.length {
-        return below + gap(wall + 8, p.length);
+        return below + p.length.saturating_sub(wall + 8);
     }
     below
 }
@@ -70,10 +61,10 @@ pub fn filled(live: usize, p: Place, wall: usize) -> Space
     let free = free_bytes(p);
     let lost = lost_bytes(p, wall);
     Space {
-        live: live,
-        dead: gap(live + free + lost, p.length),
-        free: free,
-        lost: lost,
+        live,
+        dead: p.length.saturating_sub(live + free + lost),
+        free,
+        lost,
     }
 }
 
@@ -82,30 +73,21 @@ fn first_wall(p: Place, upper: usize) -> usize
     requires { (p.head ≤ 2 ^ 24) × (upper ≤ 2 ^ 26) }
     ensures { result ≡ first_wall p upper }
 {
-    if p.turned {
-        return p.head + upper;
-    }
-    p.length
+    if p.turned { p.head + upper } else { p.length }
 }
 
 // The wall when the head goes on to y.
 pub fn led_wall(length: usize, y: usize, wall: usize) -> usize
     ensures { result ≡ led_wall length y wall }
 {
-    if y == 0 {
-        return length;
-    }
-    wall
+    if y == 0 { length } else { wall }
 }
 
 // The wall after a record that goes behind a wrap marker at the tail, or not.
 pub fn put_wall(marker: bool, tail: usize, wall: usize) -> usize
     ensures { result ≡ (elim marker [ true ↦ tail | false ↦ wall ]) }
 {
-    if marker {
-        return tail;
-    }
-    wall
+    if marker { tail } else { wall }
 }
 
 // The wall of what was read. Behind the turn the records end at the tail; all others stand before it.
@@ -113,21 +95,18 @@ fn wall_of(image: &[u8], s: Survey) -> usize
     requires { Countable image.now s }
     ensures { result ≡ wall_of (reading_of image.now s) }
 {
-    let p = s.place;
-    let t = s.tally;
-    let c = t.sums;
-    first_wall(p, gap(p.tail, c.files + c.others))
+    let sums = s.tally.sums;
+    let upper = (sums.files + sums.others).saturating_sub(s.place.tail);
+    first_wall(s.place, upper)
 }
 
 // The live bytes of what was read, where no file is superseded, and its wall.
 pub fn count(image: &[u8], s: Survey) -> Count
-    requires { Countable image.now s × Quiet image.now (Read.Good s) }
+    requires { Countable image.now s × Quiet image.now (Ok s) }
     ensures { Counted image.now s result.live result.wall }
 {
-    let t = s.tally;
-    let c = t.sums;
     Count {
-        live: c.files,
+        live: s.tally.sums.files,
         wall: wall_of(image, s),
     }
 }
@@ -140,9 +119,8 @@ fn count_any(image: &[u8], s: Survey, idle: bool) -> Count
     if idle {
         return count(image, s);
     }
-    let p = s.place;
     Count {
-        live: live_bytes(image, first_cursor(image, p.head)),
+        live: live_bytes(image, first_cursor(image, s.place.head)),
         wall: wall_of(image, s),
     }
 }
@@ -152,10 +130,8 @@ fn mended_wall(image: &[u8], s: Survey, wall: usize) -> usize
     requires { Surveyed image.now s }
     ensures { result ≡ mended_wall (length image.now) (reading_of image.now s).entries wall }
 {
-    let t = s.tally;
-    let y = t.second;
     if leads(image, s) {
-        return led_wall(image.len(), y.at, wall);
+        return led_wall(image.len(), s.tally.second.at, wall);
     }
     wall
 }
@@ -181,41 +157,33 @@ fn spot_size(e: Spot) -> usize
 }
 
 // The size of the file that a put of its name replaces, if there is one.
-fn replaced(image: &[u8], f: Found) -> usize
+fn replaced(image: &[u8], f: Option<Spot>) -> usize
     requires { FoundWhole image.now f × InRange (length image.now) }
     ensures { result ≡ replaced_bytes (found_in image.now f) }
 {
-    let Found::At(e) = f else {
-        return 0;
-    };
-    spot_size(e)
+    match f {
+        Some(e) => spot_size(e),
+        None => 0,
+    }
 }
 
 // Of the image that a put of this name and of d data bytes leaves, where there is room; f is the file of the name.
-pub fn put_space(image: &[u8], s: Survey, f: Found, name: &[u8], d: usize) -> Space
+pub fn put_space(image: &[u8], s: Survey, f: Option<Spot>, name: &[u8], d: usize) -> Space
     requires { Countable image.now s × PlaceSound s.place × (length name.now ≤ 64)
-        × (fits s.place (size_of (length name.now) d) ≡ true) × Quiet image.now (Read.Good s) × FileTold image.now
+        × (fits s.place (size_of (length name.now) d) ≡ true) × Quiet image.now (Ok s) × FileTold image.now
         name.now s f }
     ensures { let v = reading_of image.now s in let z = size_of (length name.now) d in
         result ≡ space_filled ((live_bytes v.entries + z)
         - replaced_bytes (first_such (has_name name.now) (keep is_file v.entries))) (copied_place v.place z)
         (put_wall v.place z (wall_of v)) }
 {
-    let place = s.place;
     let c = count(image, s);
     let old = replaced(image, f);
     let z = size(name.len(), d);
-    let Placed::At {
-        marker,
-        place: next,
-        ..
-    } = place.after(z)
-    else {
-        return filled(0, place, place.length);
-    };
+    let next = s.place.after(z).unwrap();
     filled(
-        gap(old, c.live + z),
-        come_round(next),
-        put_wall(marker, place.tail, c.wall),
+        (c.live + z).saturating_sub(old),
+        come_round(next.place),
+        put_wall(next.marker, s.place.tail, c.wall),
     )
 }

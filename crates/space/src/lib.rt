@@ -20,10 +20,3 @@ pub struct Course {
     pub walk: Walk,
     pub wall: usize,
 }
-
-// A move that is only walked: there is none, or the sweep goes on there.
-#[derive(Clone, Copy)]
-pub enum Strode {
-    Stop,
-    On(Course),
-}

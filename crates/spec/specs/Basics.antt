@@ -1,24 +1,16 @@
 -- Tests on lists, and a result that may be a refusal. Nothing here is of document 01 itself.
-use Rattle.spec.specs.declared.NameFault.{NameFault}
-use Rattle.spec.specs.declared.Refusal.{Refusal}
+use Rattle.spec.specs.Refusals.{RefusalNumbers}
+pub use Rattle.spec.specs.Refusals.{no_fault, numbered}
 use Rattle.std.specs.Prelude.{ℕ, zero, suc, Bool, true, false, List, [], ◌∷◌, ◌++◌, take, drop, eqb}
 use Rattle.spec.specs.Prelude.{Option, none, some}
 
 -- a value, or a refusal with all that it gives back
 pub data Answer (A : Type 0) : Type 0 where
-  refuse : Refusal → Answer A
+  refuse : RefusalNumbers → Answer A
   give : A → Answer A
 
--- nothing is wrong with the name
-abbrev pub no_fault : NameFault
-no_fault = record { reason = 0; place = 0 }
-
--- the refusal that gives back no more than its number
-abbrev pub numbered : ℕ → Refusal
-numbered n = record { number = n; name = no_fault }
-
 -- go on if the test passes, else refuse
-abbrev pub checked : {A : Type 0} → Bool → Refusal → Answer A → Answer A
+abbrev pub checked : {A : Type 0} → Bool → RefusalNumbers → Answer A → Answer A
 checked true x a = a
 checked false x a = refuse x
 

@@ -1,6 +1,6 @@
 -- "Numbers given back", the table's rows 22, 5, 6 and 16: what a call asks of the image, and of a name, before anything else.
 use Rattle.std.specs.Prelude.{List, ℕ, length}
-use Rattle.spec.specs.declared.Refusal.{Refusal}
+use Rattle.spec.specs.Refusals.{RefusalNumbers}
 use Rattle.spec.specs.Step.{Image}
 use Rattle.spec.specs.Basics.{Answer, give, numbered, checked, onward}
 use Rattle.spec.specs.Geometry.{good_length}
@@ -30,7 +30,7 @@ unfoldable pub admitted : Image → Answer Reading
 admitted image = if_good_length image (settled_reading image)
 
 -- K5: "Put, get and remove pass both on beside 22, in place of zeros"
-abbrev pub misnamed : List ℕ → Refusal
+abbrev pub misnamed : List ℕ → RefusalNumbers
 misnamed name = record { number = 22; name = name_fault name }
 
 -- put, get and remove: 22 "N bad, then name bad", then 5, 6 and 16; the name's fault is "0 where N is bad"

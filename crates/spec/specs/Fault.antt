@@ -1,7 +1,7 @@
 -- K13: "the first broken rule in reading order with its address (the later of two)". Reading order is the chain's, then the free run's as
 -- 01 writes it, [T, N) before [0, floor(h)). "The rules, at one address in this order: head (address 0), unfinished .., header .., name ..,
 -- end, mark .., free".
-use Rattle.std.specs.Prelude.{ℕ, ◌+◌, min, Bool, true, false, ◌&&◌, ◌||◌, not, List, [], ◌∷◌, ◌++◌, take, drop, ltb, eqb}
+use Rattle.std.specs.Prelude.{ℕ, Option, Some, None, ◌+◌, min, Bool, true, false, ◌&&◌, ◌||◌, not, List, [], ◌∷◌, ◌++◌, take, drop, ltb, eqb}
 use Rattle.spec.specs.declared.Kind.{Kind}
 use Rattle.spec.specs.declared.Ending.{Ending}
 use Rattle.spec.specs.declared.Place.{Place}
@@ -16,6 +16,10 @@ use Rattle.spec.specs.Next.{kind}
 use Rattle.spec.specs.Chain.{Reading}
 use Rattle.spec.specs.Files.{named, has_named}
 use Rattle.spec.specs.Reading.{limit, head_clean, whole, marked, second_ok, name_legal}
+
+-- this rule is broken at this address
+abbrev pub broken : Rule → ℕ → Option Fault
+broken rule a = Some (record { rule = rule; at = a })
 
 -- ---- a record e that was read, behind those of `before`; all are the records that were read
 
@@ -38,24 +42,24 @@ mark_wrong all (x ∷ []) e = not (second_ok all x e)
 mark_wrong all (x ∷ (y ∷ es)) e = marked e
 
 -- its header is good and it ends where it may, or it was not read
-unfoldable pub record_fault : Ending → List Entry → List Entry → Entry → Fault
+unfoldable pub record_fault : Ending → List Entry → List Entry → Entry → Option Fault
 record_fault x all before e =
     elim (unfinished_wrong x e) [
-      | true ↦ Fault.At Rule.Unfinished e.at
+      | true ↦ broken Rule.Unfinished e.at
       | false ↦
           elim (name_wrong all before e) [
-            | true ↦ Fault.At Rule.Name e.at
-            | false ↦ elim (mark_wrong all before e) [ true ↦ Fault.At Rule.Mark e.at | false ↦ Fault.Nothing ]
+            | true ↦ broken Rule.Name e.at
+            | false ↦ elim (mark_wrong all before e) [ true ↦ broken Rule.Mark e.at | false ↦ None ]
           ]
     ]
 
 -- the first of the records es, one after another
-unfoldable pub chain_fault : Ending → List Entry → List Entry → List Entry → Fault
-chain_fault x all before [] = Fault.Nothing
+unfoldable pub chain_fault : Ending → List Entry → List Entry → List Entry → Option Fault
+chain_fault x all before [] = None
 chain_fault x all before (e ∷ es) =
     elim (record_fault x all before e) [
-      | Fault.Nothing ↦ chain_fault x all (before ++ e ∷ []) es
-      | Fault.At rule a ↦ Fault.At rule a
+      | None ↦ chain_fault x all (before ++ e ∷ []) es
+      | Some f ↦ Some f
     ]
 
 -- ---- the place at which the chain breaks off
@@ -155,24 +159,24 @@ stop_rule image r (e ∷ es) = elim (name_wrong (r.entries ++ e ∷ es) r.entrie
 -- ---- the free run
 
 -- "free (first byte not FF)", of the bytes s from address a on
-unfoldable pub dirt : ℕ → List ℕ → Fault
-dirt a [] = Fault.Nothing
-dirt a (b ∷ s) = elim (eqb b 0xFF) [ true ↦ dirt (a + 1) s | false ↦ Fault.At Rule.Free a ]
+unfoldable pub dirt : ℕ → List ℕ → Option Fault
+dirt a [] = None
+dirt a (b ∷ s) = elim (eqb b 0xFF) [ true ↦ dirt (a + 1) s | false ↦ broken Rule.Free a ]
 
 -- of the bytes from a up to b
-abbrev pub dirt_part : ℕ → ℕ → Image → Fault
+abbrev pub dirt_part : ℕ → ℕ → Image → Option Fault
 dirt_part a b image = dirt a (part a b image)
 
 -- "[T, N) and [0, floor(h)), after it [T, floor(h))"
-unfoldable pub run_fault : Image → Place → Fault
+unfoldable pub run_fault : Image → Place → Option Fault
 run_fault image p =
     elim (dirt_part p.tail (limit p) image) [
-      | Fault.Nothing ↦ elim p.turned [ true ↦ Fault.Nothing | false ↦ dirt_part 0 (floor p.head) image ]
-      | Fault.At rule a ↦ Fault.At rule a
+      | None ↦ elim p.turned [ true ↦ None | false ↦ dirt_part 0 (floor p.head) image ]
+      | Some f ↦ Some f
     ]
 
 -- "but if the head is CLEAN, only T's own sector (from T) must" be FF
-unfoldable pub free_fault : Image → Reading → Fault
+unfoldable pub free_fault : Image → Reading → Option Fault
 free_fault image r =
     elim (head_clean r.entries) [
       | true ↦ dirt_part r.place.tail (min (floor r.place.tail + 4096) (limit r.place)) image
@@ -182,17 +186,17 @@ free_fault image r =
 -- ---- all of it
 
 -- behind the records: where the chain breaks off, or in the free run
-unfoldable pub end_fault : Image → Reading → Fault
+unfoldable pub end_fault : Image → Reading → Option Fault
 end_fault image r =
     elim (whole r.ending) [
       | true ↦ free_fault image r
-      | false ↦ Fault.At (stop_rule image r (cut_off image r)) r.place.tail
+      | false ↦ broken (stop_rule image r (cut_off image r)) r.place.tail
     ]
 
 -- the first broken rule of what is read from a head on
-unfoldable pub first_fault : Image → Reading → Fault
+unfoldable pub first_fault : Image → Reading → Option Fault
 first_fault image r =
     elim (chain_fault r.ending (r.entries ++ cut_off image r) [] r.entries) [
-      | Fault.Nothing ↦ end_fault image r
-      | Fault.At rule a ↦ Fault.At rule a
+      | None ↦ end_fault image r
+      | Some f ↦ Some f
     ]

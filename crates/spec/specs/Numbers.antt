@@ -1,7 +1,6 @@
 -- "Numbers given back": what each call answers, in numbers with names. What a call does not speak of is zero.
 use Rattle.std.specs.Prelude.{ℕ, Bool, ◌||◌, List, take, drop, eqb}
-use Rattle.spec.specs.declared.NameFault.{NameFault}
-use Rattle.spec.specs.declared.Refusal.{Refusal}
+use Rattle.spec.specs.Refusals.{FaultNumbers, RefusalNumbers}
 use Rattle.spec.specs.declared.Report.{Report}
 use Rattle.spec.specs.declared.Extent.{Extent}
 use Rattle.spec.specs.declared.Space.{Space}
@@ -12,7 +11,7 @@ use Rattle.spec.specs.Space.{no_space}
 pub record Numbers : Type 0 where
   pub answer : ℕ
   -- put, get and remove, beside 22: K5's reason and place
-  pub name : NameFault
+  pub name : FaultNumbers
   -- mount: "h, T, the count of live files (of the image it leaves)"
   pub report : Report
   -- sweep: "finished moves"
@@ -93,7 +92,7 @@ of_list answer extent size =
     record { answer = answer; name = no_fault; report = no_report; moves = 0; extent = extent; size = size; space = no_space; steps = 0 }
 
 -- a refusal: "zeros, image same"; of a name that is refused its fault "in place of zeros"
-abbrev pub refusal : Refusal → Numbers
+abbrev pub refusal : RefusalNumbers → Numbers
 refusal x =
     record {
       answer = x.number;

@@ -1,6 +1,6 @@
 -- "Geometry and record", second part: the header, the magic, the name, the size.
 use Rattle.std.specs.Prelude.{ℕ, zero, suc, ◌+◌, ◌*◌, ◌/◌, ◌%◌, Bool, true, false, ◌&&◌, ◌||◌, not, List, [], ◌∷◌, length, take, drop, get_or, leb, ltb, eqb}
-use Rattle.spec.specs.declared.NameFault.{NameFault}
+use Rattle.spec.specs.Refusals.{FaultNumbers}
 use Rattle.spec.specs.Geometry.{up8}
 use Rattle.spec.specs.Bytes.{is_wrap, is_start, is_clean, is_high, ends_name, is_printable, is_space, is_slash}
 
@@ -63,12 +63,12 @@ unfoldable pub first_bad : ℕ → ℕ → List ℕ → ℕ
 first_bad k i [] = k
 first_bad k i (b ∷ s) = elim (may_stand k i b) [ true ↦ first_bad k (i + 1) s | false ↦ i ]
 
-abbrev fault : ℕ → ℕ → NameFault
+abbrev fault : ℕ → ℕ → FaultNumbers
 fault reason place = record { reason = reason; place = place }
 
 -- K5: the name check says "what is wrong: empty, too long, bad byte with the first one's place (from 0; else 0), or final slash, tested in
 -- that order (1 to 4 ..)"; 0 if nothing is
-unfoldable pub name_fault : List ℕ → NameFault
+unfoldable pub name_fault : List ℕ → FaultNumbers
 name_fault n =
     let k = length n in
     let bad = first_bad k 0 n in

@@ -1,9 +1,8 @@
 -- K13: "Check an image against 01's reading and report the first broken rule .., or settled, or needing recovery with 01's number of the
 -- repair that comes first."
-use Rattle.std.specs.Prelude.{ℕ, zero, suc, Bool, true, false, ◌||◌, List, [], ◌∷◌, length}
+use Rattle.std.specs.Prelude.{ℕ, Some, None, zero, suc, Bool, true, false, ◌||◌, List, [], ◌∷◌, length}
 use Rattle.spec.specs.declared.Ending.{Ending}
 use Rattle.spec.specs.declared.Rule.{Rule}
-use Rattle.spec.specs.declared.Fault.{Fault}
 use Rattle.spec.specs.declared.Verdict.{Verdict}
 use Rattle.spec.specs.Step.{Image}
 use Rattle.spec.specs.Basics.{Answer, refuse, give, numbered, checked, any}
@@ -56,8 +55,8 @@ repair_verdict (suc k) = Verdict.Recovery (suc k)
 unfoldable pub verdict_of : Image → Reading → Verdict
 verdict_of image r =
     elim (first_fault image r) [
-      | Fault.Nothing ↦ repair_verdict (first_repair r)
-      | Fault.At rule a ↦ Verdict.Broken rule a
+      | None ↦ repair_verdict (first_repair r)
+      | Some f ↦ Verdict.Broken f.rule f.at
     ]
 
 -- "head (address 0)"

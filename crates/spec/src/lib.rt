@@ -2,14 +2,16 @@
 // Nothing here reads or writes an image; the layers above are proved against what stands here.
 #![tactic(auto)]
 
-ghost use Rattle.std.specs.Prelude.{◌≡◌, ◌≤◌, eqb};
+ghost use Rattle.std.specs.Prelude.{◌≡◌, ◌≤◌};
 ghost use Rattle.spec.specs.Geometry.{floor};
 ghost use Rattle.spec.specs.Reading.{limit};
 ghost use Rattle.spec.specs.Place.{fits_at_tail};
 ghost use Rattle.spec.specs.Placed.{placed, with_tail};
+ghost use Rattle.spec.specs.declared.Refusal.{Refusal};
+ghost use Rattle.spec.specs.Refusals.{fault_numbers, fault_told, refusal_numbers};
 
 // What the first four bytes say of what stands there.
-#[derive(Clone, Copy)]
+#[derive(Clone, Copy, Debug, PartialEq, Eq)]
 pub enum Kind {
     Record,
     Reserved,
@@ -22,7 +24,7 @@ pub enum Kind {
 
 // What stands at the front of a part: a record with n name bytes and d data bytes, a wrap marker, a torn one, eight FF bytes,
 // nothing at all, or what breaks a rule.
-#[derive(Clone, Copy)]
+#[derive(Clone, Copy, Debug, PartialEq, Eq)]
 pub enum Next {
     Record { n: usize, d: usize },
     Wrap,
@@ -33,7 +35,7 @@ pub enum Next {
 }
 
 // How a chain ends: at its tail, with a torn wrap at an address, or by a broken rule.
-#[derive(Clone, Copy)]
+#[derive(Clone, Copy, Debug, PartialEq, Eq)]
 pub enum Ending {
     Tail,
     TornWrap { at: usize },
@@ -41,7 +43,7 @@ pub enum Ending {
 }
 
 // Where the next record may go: head, tail, whether the chain has turned, the image's length.
-#[derive(Clone, Copy)]
+#[derive(Clone, Copy, Debug, PartialEq, Eq)]
 pub struct Place {
     pub head: usize,
     pub tail: usize,
@@ -49,15 +51,12 @@ pub struct Place {
     pub length: usize,
 }
 
-// A size placed: its address, whether a wrap marker goes to the tail before it, and the place after it. Or it doesn't fit.
-#[derive(Clone, Copy)]
-pub enum Placed {
-    At {
-        at: usize,
-        marker: bool,
-        place: Place,
-    },
-    Full,
+// Where a size goes that fits: its address, whether a wrap marker goes to the tail before it, and the place after it.
+#[derive(Clone, Copy, Debug, PartialEq, Eq)]
+pub struct Placement {
+    pub at: usize,
+    pub marker: bool,
+    pub place: Place,
 }
 
 impl Place {
@@ -66,44 +65,41 @@ impl Place {
         ensures { result ≡ limit self }
     {
         if self.turned {
-            return floor(self.head);
+            floor(self.head)
+        } else {
+            self.length
         }
-        self.length
     }
 
     // Whether the size fits at the tail. Any size may be asked for: nothing here wraps.
+    #[tactic(auto, unfolding(crate::specs::Place::fits_at_tail))]
     fn fits_at_tail(self, size: usize) -> bool
         ensures { result ≡ fits_at_tail self size }
     {
         let end = self.limit();
-        if end < self.tail {
-            return false;
-        }
-        size <= end - self.tail
+        self.tail <= end && size <= end - self.tail
     }
 
-    // At the tail if it fits there; before the turn also at 0, up to the head's sector.
-    pub fn after(self, size: usize) -> Placed
+    // At the tail if it fits there; before the turn also at 0, up to the head's sector; else it doesn't fit.
+    #[tactic(auto, unfolding(crate::specs::Place::fits_at_tail))]
+    pub fn after(self, size: usize) -> Option<Placement>
         ensures { result ≡ placed self size }
     {
         if self.fits_at_tail(size) {
-            return Placed::At {
+            return Some(Placement {
                 at: self.tail,
                 marker: false,
                 place: self.with_tail(self.tail + size, self.turned),
-            };
+            });
         }
-        if self.turned {
-            return Placed::Full;
+        if self.turned || floor(self.head) < size {
+            return None;
         }
-        if size <= floor(self.head) {
-            return Placed::At {
-                at: 0,
-                marker: self.tail < self.length,
-                place: self.with_tail(size, true),
-            };
-        }
-        Placed::Full
+        Some(Placement {
+            at: 0,
+            marker: self.tail < self.length,
+            place: self.with_tail(size, true),
+        })
     }
 
     // The same place with another tail, turned or not.
@@ -111,36 +107,103 @@ impl Place {
         ensures { result ≡ with_tail self tail turned }
     {
         Place {
-            head: self.head,
-            tail: tail,
-            turned: turned,
-            length: self.length,
+            tail,
+            turned,
+            ..self
         }
     }
 }
 
-// What the name check says: 0, or why a name is refused (1 empty, 2 too long, 3 a bad byte, 4 a final slash), and the bad byte's place.
-#[derive(Clone, Copy)]
-pub struct NameFault {
-    pub reason: u32,
-    pub place: usize,
+// What is wrong with a file's name, in the order in which it is tested: nothing stands in it, it is too long, it has a byte that may not
+// stand there, the first of them at this place, or it ends in a slash.
+#[derive(Clone, Copy, Debug, PartialEq, Eq)]
+pub enum NameFault {
+    Empty,
+    TooLong,
+    BadByte { place: usize },
+    FinalSlash,
 }
 
-// Nothing is wrong with the name.
-pub const NO_FAULT: NameFault = NameFault {
-    reason: 0,
-    place: 0,
-};
+impl NameFault {
+    // K5's reason, 1 to 4.
+    pub fn reason(self) -> u32
+        ensures { result ≡ (fault_numbers self).reason }
+    {
+        match self {
+            NameFault::Empty => 1,
+            NameFault::TooLong => 2,
+            NameFault::BadByte { .. } => 3,
+            NameFault::FinalSlash => 4,
+        }
+    }
 
-// What a refusal gives back: document 01's number; and what is wrong with the name, where that is the reason.
-#[derive(Clone, Copy)]
-pub struct Refusal {
-    pub number: u32,
-    pub name: NameFault,
+    // The bad byte's place; 0 where that is not what is wrong.
+    pub fn place(self) -> usize
+        ensures { result ≡ (fault_numbers self).place }
+    {
+        match self {
+            NameFault::BadByte { place } => place,
+            _ => 0,
+        }
+    }
+}
+
+// Why a call is refused.
+#[derive(Clone, Copy, Debug, PartialEq, Eq)]
+pub enum Refusal {
+    // there is no file of that name or with that index
+    NoFile,
+    // the chain breaks a rule
+    Broken,
+    // no head is found
+    Headless,
+    // mount has something to do first
+    Unsettled,
+    // the image's length is none that an image may have
+    BadLength,
+    // this is wrong with the name
+    BadName(NameFault),
+    // the flash has no room for it
+    NoRoom,
+}
+
+impl Refusal {
+    // Document 01's number.
+    pub fn number(self) -> u32
+        ensures { result ≡ (refusal_numbers self).number }
+    {
+        match self {
+            Refusal::NoFile => 2,
+            Refusal::Broken => 5,
+            Refusal::Headless => 6,
+            Refusal::Unsettled => 16,
+            Refusal::BadLength => 22,
+            Refusal::BadName(_) => 22,
+            Refusal::NoRoom => 28,
+        }
+    }
+
+    // What is wrong with the name, where that is why.
+    pub fn fault(self) -> Option<NameFault>
+        ensures { fault_told result ≡ (refusal_numbers self).name }
+    {
+        match self {
+            Refusal::BadName(fault) => Some(fault),
+            _ => None,
+        }
+    }
+}
+
+impl From<NameFault> for Refusal {
+    ghost from_gives = { λ f x. x ≡ Refusal.BadName f };
+
+    fn from(fault: NameFault) -> Refusal {
+        Refusal::BadName(fault)
+    }
 }
 
 // What mount reports of the image it leaves: head, tail, the number of live files.
-#[derive(Clone, Copy)]
+#[derive(Clone, Copy, Debug, PartialEq, Eq)]
 pub struct Report {
     pub head: usize,
     pub tail: usize,
@@ -148,7 +211,7 @@ pub struct Report {
 }
 
 // What the bytes of an image are good for, as mount, put and sweep tell it of the image that they leave.
-#[derive(Clone, Copy)]
+#[derive(Clone, Copy, Debug, PartialEq, Eq)]
 pub struct Space {
     pub live: usize,
     pub dead: usize,
@@ -159,7 +222,7 @@ pub struct Space {
 // The rules of the reading, in the order in which they are tested at one address: no head is found; an unfinished record or marker is not
 // the last thing, or is not as it may be; magic, status or reserved byte; the name; the record's end; a CLEAN, START or marker out of
 // place; a byte of the free run.
-#[derive(Clone, Copy)]
+#[derive(Clone, Copy, Debug, PartialEq, Eq)]
 pub enum Rule {
     Head,
     Unfinished,
@@ -170,15 +233,16 @@ pub enum Rule {
     Free,
 }
 
-// A broken rule with its address, or none.
-#[derive(Clone, Copy)]
-pub enum Fault {
-    Nothing,
-    At { rule: Rule, at: usize },
+// A broken rule with its address.
+#[derive(Clone, Copy, Debug, PartialEq, Eq)]
+pub struct Fault {
+    pub rule: Rule,
+    pub at: usize,
 }
 
-// What the check of an image says: mount has nothing to do, or what it does begins with the repair of this number, or it refuses.
-#[derive(Clone, Copy)]
+// What the check of an image says: mount has nothing to do, or what it does begins with the repair of this number, or it refuses. K13
+// answers 01's number of the repair, and its theorem `agree` speaks of it, so it is a number here too.
+#[derive(Clone, Copy, Debug, PartialEq, Eq)]
 pub enum Verdict {
     Settled,
     Recovery { number: u32 },
@@ -186,14 +250,14 @@ pub enum Verdict {
 }
 
 // A stretch of the image.
-#[derive(Clone, Copy)]
+#[derive(Clone, Copy, Debug, PartialEq, Eq)]
 pub struct Extent {
     pub offset: usize,
     pub length: usize,
 }
 
 // A record's status byte.
-#[derive(Clone, Copy)]
+#[derive(Clone, Copy, Debug, PartialEq, Eq)]
 pub struct Status {
     pub byte: u8,
 }
@@ -218,14 +282,7 @@ impl Status {
     pub fn from_byte(byte: u8) -> Status
         ensures { result.byte ≡ byte }
     {
-        Status { byte: byte }
-    }
-
-    // Whether it is the other status.
-    pub fn is(self, other: Status) -> bool
-        ensures { result ≡ eqb self.byte other.byte }
-    {
-        self.byte == other.byte
+        Status { byte }
     }
 }
 

@@ -5,18 +5,17 @@ use Rattle.std.specs.Prelude.{◌≡◌, refl, Bool, length, get_or}
 use Rattle.std.proofs.Math.Path.{sym, ap, ap₂, subst}
 use Rattle.std.proofs.Math.Bool.{true, false}
 use mathlib.Core.List.{List, [], ◌∷◌}
+use Rattle.std.specs.Option.{is_some}
 use Rattle.spec.specs.declared.Place.{Place}
-use Rattle.spec.specs.declared.Placed.{Placed}
-use Rattle.spec.specs.declared.Placed.TheVariants as placed_as
 use Rattle.spec.specs.Step.{Image}
 use Rattle.spec.specs.Record.{size_of, size, Entry, name_of, content_of}
 use Rattle.spec.specs.Chain.{Reading, reading_from}
 use Rattle.spec.specs.Files.{live}
 use Rattle.spec.specs.Place.{fits}
-use Rattle.spec.specs.Placed.{placed, PlaceSound}
+use Rattle.spec.specs.Placed.{Placed, placed, PlaceSound}
 use Rattle.spec.specs.Sweep.{no_room, stuck}
 use Rattle.flash.specs.declared.Meter.{Meter}
-use Rattle.flash.specs.Did.{Did, did_none}
+use Rattle.flash.specs.Did.{Did}
 use Rattle.flash.specs.Meters.{CanCount, AskedMost}
 use Rattle.record.specs.Within.{NameLength}
 use Rattle.chain.specs.declared.Cursor.{Cursor}
@@ -26,7 +25,7 @@ use Rattle.chain.specs.Cursor.{advance}
 use Rattle.chain.specs.Rest.{Run, entry_of, rest}
 use Rattle.chain.specs.Fold.{Whole, name_length_is, content_length_is, NotRecord, rest_done}
 use Rattle.reading.specs.Read.{first_cursor}
-use Rattle.writing.specs.Placing.{placed_parts, placed_full}
+use Rattle.writing.specs.Placing.{placed_fits}
 use Rattle.writing.specs.Put.{Ready}
 use Rattle.moving.specs.Copied.{entry_at}
 use Rattle.moving.specs.Copy.{copy_of, HeadEnds, copy_few, copy_keeps_low}
@@ -109,27 +108,27 @@ module _ {s : Image} {p : Place} (w : PlaceOf s p) where
       e : b ≡ live (rest s (first_cursor s p.head)).entries (entry_of s x)
       e = f ∙ ap (λ (v : Cursor). live (rest s v).entries (entry_of s x)) q
 
-      pub plan_full : {z : ℕ} {a : Placed} → b ≡ true → z ≡ size_of x.n x.d → a ≡ placed p z → a ≡ placed_as.Full
+      pub plan_full : {z : ℕ} {a : Placed} → b ≡ true → z ≡ size_of x.n x.d → a ≡ placed p z → is_some a ≡ false
           → NoMove s p.head true
       plan_full l g i j =
           let r : Reading = reading_from s p.head in
           let no : fits r.place (size (entry_of s x)) ≡ false = fitting false
-          (placed_full p (size_of x.n x.d) (ap (placed p) (sym g) ∙ sym i ∙ j)) in
+          (sym (placed_fits p (size_of x.n x.d)) ∙ ap is_some (ap (placed p) (sym g) ∙ sym i) ∙ j) in
           record {
             stop = stuck_live r (entry_of s x) (rest s c).entries false first (living b e ∙ l) no;
             room = ap (no_room r) first ∙ room_live r (entry_of s x) (rest s c).entries false (living b e ∙ l) no;
           }
 
-      pub plan_copy : {y : ℕ} {v : Placed} {a : ℕ} {i : Bool} {o : Place} → b ≡ true → y ≡ size_of x.n x.d → v ≡ placed p y
-          → v ≡ placed_as.At a i o → Copies s p x.n x.d
+      pub plan_copy : {y : ℕ} {v : Placed} → b ≡ true → y ≡ size_of x.n x.d → v ≡ placed p y
+          → is_some v ≡ true → Copies s p x.n x.d
       unfolding copying
-      plan_copy {y} {v} {a} {i} {o} l g j k =
+      plan_copy {y} {v} l g j k =
           let r : Reading = reading_from s p.head in
           let z : ℕ = size_of x.n x.d in
           let at : x.at ≡ p.head = head_at s p.head w.led t in
           let stand : Standing (length s) p.head (p.head + z) p = subst (Standing (length s) p.head (p.head + z)) (sym w.same)
           (stands_past s p.head w.led t) in
-          let taken : fits p z ≡ true = (placed_parts p z a i o (ap (placed p) (sym g) ∙ sym j ∙ k)).0 in
+          let taken : fits p z ≡ true = sym (placed_fits p z) ∙ ap is_some (ap (placed p) (sym g) ∙ sym j) ∙ k in
           record {
             on = stuck_live r (entry_of s x) (rest s c).entries true first (living b e ∙ l) (fitting true taken);
             steps =
@@ -206,6 +205,3 @@ module _ {s : Image} {p : Place} (w : PlaceOf s p) where
             copy_keeps_low p (entry_of s x) refl (rw z c.ends) (rw z c.taken) f,
           ),
         )
-
-  pub not_copied : {m : Meter} → copying s p.head ≡ [] → Copied s p m s m
-  not_copied {m} e = (rw e (did_none s m), (omega arith, refl))

@@ -1,21 +1,18 @@
 -- Moves one after another, as the sweep makes them.
 use Rattle.std.specs.Prelude.{ℕ, suc, ◌+◌, ◌*◌, ◌≤◌, ◌^◌, ◌≡◌, true, false, [], ◌∷◌}
-use Rattle.std.proofs.Common.{arith, add-zero, zero-add, sym, ap, ap₂, subst, ◌∙◌}
+use Rattle.std.proofs.Common.{arith, add-zero, ap, ap₂, ◌∙◌}
 use Rattle.spec.specs.declared.Place.{Place}
 use Rattle.spec.specs.Step.{Image}
-use Rattle.spec.specs.Chain.{Reading, reading_from}
+use Rattle.spec.specs.Chain.{reading_from}
 use Rattle.spec.specs.Sweep.{stuck, moves}
 use Rattle.flash.specs.declared.Meter.{Meter}
 use Rattle.flash.specs.Meters.{AskedMost, Enough, UsedUp}
-use Rattle.reading.specs.declared.Survey.{Survey}
-use Rattle.reading.specs.Survey.{Seen}
-use Rattle.moving.specs.declared.NewHead.{NewHead}
 use Rattle.sweeping.specs.declared.MoveEnd.{MoveEnd}
 use Rattle.flash.specs.Began.{Began}
 use Rattle.sweeping.specs.Moves.{Moves, moves_none, moves_cut, moves_more}
 use Rattle.laws.specs.Sweep.{moves_stuck, moves_next}
 use Rattle.sweeping.specs.Planned.{PlaceOf}
-use Rattle.sweeping.specs.WholeMove.{whole_move, Left, MoveMade}
+use Rattle.sweeping.specs.WholeMove.{whole_move, Left}
 
 -- a move that was cut
 pub record MoveCut (s : Image) (h : ℕ) (m : Meter) (t : Image) (q : Meter) : Type 0 where
@@ -37,25 +34,6 @@ MoveEnded s h m t MoveEnd.Stuck = (stuck (reading_from s h) ≡ true) × (t ≡ 
 MoveEnded s h m t (MoveEnd.Cut q) = MoveCut s h m t q
 MoveEnded s h m t (MoveEnd.Done p q) = MoveDone s h m t p q
 
--- the place that a survey saw of what a finished move left
-pub done_seen : {s t : Image} {h : ℕ} {m : Meter} {r : NewHead} {v : Survey} → stuck (reading_from s h) ≡ false → MoveMade s h m t r
-    → Enough r.meter → Seen t r.head v
-    → MoveDone s h m t v.place r.meter
-done_seen {s} {t} {h} {m} {r} {v} on w l seen =
-    let left : Left s h t v.place.head = subst (Left s h t) (sym seen.head) (w.left l) in
-    record {
-      on = on;
-      begun = w.begun;
-      within = l;
-      left = left;
-      headed =
-          record {
-            led = left.led;
-            same = ap (λ (x : Reading). x.place) seen.same ∙ ap (λ (i : ℕ). (reading_from t i).place) (sym seen.head);
-          };
-      few = w.few;
-    }
-
 -- ---- the loop: whatever makes the moves that are left makes them all
 
 pub record Sweeping (s : Image) (m : Meter) (k h : ℕ) (t : Image) (q : Meter) (left : ℕ) (p : Place) (n : ℕ) : Type 0 where
@@ -63,10 +41,6 @@ pub record Sweeping (s : Image) (m : Meter) (k h : ℕ) (t : Image) (q : Meter) 
       → Moves s m (moves k s (reading_from s h)) u (n + i) r
   pub headed : PlaceOf t p
   pub few : q.asked + left * 2 ^ 26 ≤ 2 ^ 30
-
-pub sweeping_start : {s : Image} {m : Meter} {k : ℕ} (p : Place) → PlaceOf s p → k ≤ 5 → m.asked ≤ 2 ^ 16
-    → Sweeping s m k p.head s m k p 0
-sweeping_start p w l f = record { onward = λ u i r v. rw zero-add v; headed = w; few = omega arith }
 
 module _ {s : Image} {m : Meter} {k h : ℕ} {t : Image} {q : Meter} {left : ℕ} {p : Place} {n : ℕ} (w : Sweeping s m k h t q left p n) where
   none_left : moves left t (reading_from t p.head) ≡ [] → Moves s m (moves k s (reading_from s h)) t n q

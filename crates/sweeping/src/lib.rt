@@ -8,7 +8,8 @@ use flash::Meter;
 use spec::Place;
 
 // What the next move does with the head's record: there is no further move, for want of room or not; the record is
-// dead and stays behind; or it is copied, with its n name bytes and d data bytes.
+// dead and stays behind; or it is copied, with its n name bytes and d data bytes. Stop is one case with a flag: a sweep asks only whether
+// it stops, and `no_room` alone asks why.
 #[derive(Clone, Copy)]
 pub enum Plan {
     Stop { full: bool },

@@ -19,7 +19,7 @@ use moving::copy::copy_head;
 use moving::{NewHead, close, to_clean};
 use reading::image::first_cursor;
 use record::size;
-use spec::{CLEAN, Place, Placed};
+use spec::{CLEAN, Place, Placement};
 
 // A live head moves if its copy fits, a dead one if a record stands behind it.
 pub fn plan(image: &[u8], place: Place) -> Plan
@@ -35,9 +35,9 @@ pub fn plan(image: &[u8], place: Place) -> Plan
         return Plan::Stop { full: false };
     };
     if is_live(image, start, x) {
-        let Placed::At { .. } = place.after(size(x.n, x.d)) else {
+        if place.after(size(x.n, x.d)).is_none() {
             return Plan::Stop { full: true };
-        };
+        }
         return Plan::Copy { n: x.n, d: x.d };
     }
     let Item::Record { .. } = advance(image, past) else {
@@ -51,8 +51,7 @@ pub fn no_room(image: &[u8], place: Place) -> bool
     requires { PlaceOf image.now place }
     ensures { let v = reading_from image.now place.head in result ≡ no_room v v.entries }
 {
-    let p = plan(image, place);
-    match p {
+    match plan(image, place) {
         Plan::Stop { full } => full,
         _ => false,
     }
@@ -84,16 +83,10 @@ fn hand_over(image: &mut [u8], head: usize, m: Meter) -> NewHead
         next: past,
     } = advance(image, first_cursor(image, head))
     else {
-        return NewHead {
-            head: head,
-            meter: m,
-        };
+        return NewHead { head, meter: m };
     };
     let Item::Record { spot: y, .. } = advance(image, past) else {
-        return NewHead {
-            head: head,
-            meter: m,
-        };
+        return NewHead { head, meter: m };
     };
     let a = to_clean(image, y, m);
     let b = close(image, x, y, CLEAN, a);

@@ -10,6 +10,7 @@ ghost use Rattle.sweeping.specs.Sweeping.{MoveEnded};
 use crate::one_move::{move_head, plan};
 use crate::{MoveEnd, Plan, Swept};
 use flash::Meter;
+use moving::NewHead;
 use reading::image::survey;
 use spec::Place;
 
@@ -23,16 +24,13 @@ fn next_move(image: &mut [u8], place: Place, m: Meter) -> MoveEnd
     if let Plan::Stop { .. } = p {
         return MoveEnd::Stuck;
     }
-    let r = move_head(image, place, p, m);
-    let q = r.meter;
-    if q.allowance < q.asked {
-        return MoveEnd::Cut { meter: q };
+    let NewHead { head, meter } = move_head(image, place, p, m);
+    if meter.allowance < meter.asked {
+        return MoveEnd::Cut { meter };
     }
-    let s = survey(image, r.head);
-    let next = s.place;
     MoveEnd::Done {
-        place: next,
-        meter: q,
+        place: survey(image, head).place,
+        meter,
     }
 }
 
@@ -42,10 +40,7 @@ const MOST: usize = 5;
 pub fn at_most(n: usize) -> usize
     ensures { result ≡ min 5 n }
 {
-    if n < MOST {
-        return n;
-    }
-    MOST
+    n.min(MOST)
 }
 
 // The sweep of an image with this many records. Only finished moves are counted.
@@ -55,29 +50,21 @@ pub fn sweep(image: &mut [u8], place: Place, records: usize, m: Meter) -> Swept
     ensures { let s = image.old in
         Moves s m (moves (min 5 records) s (reading_from s place.head)) image.new result.moves result.meter }
 {
-    let mut left = at_most(records);
+    let most = at_most(records);
     let mut p = place;
     let mut q = m;
-    let mut n = 0;
-    while 0 < left {
-        let t = next_move(image, p, q);
-        match t {
-            MoveEnd::Stuck => {
-                return Swept { moves: n, meter: q };
-            }
-            MoveEnd::Cut { meter: r } => {
-                return Swept { moves: n, meter: r };
-            }
-            MoveEnd::Done {
-                place: next,
-                meter: r,
-            } => {
-                p = next;
-                q = r;
+    for n in 0..most {
+        match next_move(image, p, q) {
+            MoveEnd::Stuck => return Swept { moves: n, meter: q },
+            MoveEnd::Cut { meter } => return Swept { moves: n, meter },
+            MoveEnd::Done { place, meter } => {
+                p = place;
+                q = meter;
             }
         }
-        n += 1;
-        left -= 1;
     }
-    Swept { moves: n, meter: q }
+    Swept {
+        moves: most,
+        meter: q,
+    }
 }

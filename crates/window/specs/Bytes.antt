@@ -2,10 +2,9 @@
 use Rattle.std.specs.Prelude.{ℕ, zero, suc, ◌+◌, ◌≤◌, ◌<◌, ◌≡◌, refl, List, [], ◌∷◌, ◌++◌, length, take, drop, get_or}
 use Rattle.std.proofs.Common.{arith, ap, ◌∙◌, drop_of_length-le, length-drop, drop-cons}
 use Rattle.spec.specs.Step.{Step, program, bytes_at}
-use Rattle.spec.specs.Planner.{Slices}
 use Rattle.laws.specs.Steps.{length_bytes, length_first}
 use Rattle.window.specs.declared.Window.{Window}
-use Rattle.window.specs.Handed.{Leads, handed_before, leads_all, leads_more}
+use Rattle.window.specs.Handed.{Leads, past, handed_before, leads_all, leads_more}
 
 -- the bytes from the one with the number i on
 abbrev pub left : ℕ → List ℕ → ℕ → List Step
@@ -30,11 +29,10 @@ pub left_none : (a : ℕ) (w : List ℕ) (i : ℕ) → length w ≤ i → left a
 left_none a w i h = ap (bytes_at (a + i)) (drop_of_length-le w {i = i} h)
 
 -- the first i lie before the window
-pub leads_skip : (s : Slices) (w q : Window) (a : ℕ) (b : List ℕ) (i : ℕ) → i ≤ length b → (0 < i → w.passed + i ≤ w.first)
-    → q.passed ≡ w.passed + i → q.first ≡ w.first → Leads s w (bytes_at a b) s q (left a b i)
-leads_skip s w q a b i h k c e =
-    let n = length_first a i b h in
-    leads_more (leads_all s w (bytes_at a b)) (split a b i) (handed_before s w q (bytes_at a (take i b)) (rw n k) (rw n c) e)
+pub leads_skip : (w : Window) (a : ℕ) (b : List ℕ) (i : ℕ) → i ≤ length b → (0 < i → w.passed + i ≤ w.first)
+    → Leads w (bytes_at a b) (past w i) (left a b i)
+leads_skip w a b i h k =
+    leads_more (leads_all w (bytes_at a b)) (split a b i) (handed_before w (bytes_at a (take i b)) i (length_first a i b h) k)
 
 pub left_length : (a : ℕ) (w : List ℕ) (i : ℕ) → i ≤ length w → i + length (left a w i) ≡ length w
 left_length a w i h = omega (arith, length_bytes (a + i) (drop i w), length-drop i w)

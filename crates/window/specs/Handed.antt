@@ -1,7 +1,7 @@
 -- What an emitter did: a list of steps went into the slices, as far as it lies in the window, and was counted.
-use Rattle.std.specs.Prelude.{ℕ, suc, ◌+◌, ◌-◌, ◌≤◌, ◌<◌, ◌^◌, ◌≡◌, refl, Bool}
+use Rattle.std.specs.Prelude.{ℕ, suc, ◌+◌, ◌-◌, ◌≤◌, ◌<◌, ◌^◌, ◌≡◌, refl}
 use Rattle.std.specs.Prelude.{true, false, List, [], ◌∷◌, ◌++◌, length, set, leb, ltb}
-use Rattle.std.proofs.Common.{arith, sym, ap, ◌∙◌, length-append, le-leb, leb-true, leb-false, lt-ltb, le-ltb}
+use Rattle.std.proofs.Common.{arith, sym, ap, ◌∙◌, length-append, le-leb, lt-ltb, le-ltb}
 use Rattle.std.proofs.lemmas.Bool.{lt-leb}
 use Rattle.spec.specs.Step.{Step}
 use Rattle.spec.specs.Planner.{kind_of, address_of, byte_of, Slices, shortest}
@@ -9,6 +9,22 @@ use Rattle.window.specs.declared.Window.{Window}
 
 abbrev pub slices : List ℕ → List ℕ → List ℕ → Slices
 slices ks xs bs = record { kinds = ks; addresses = xs; bytes = bs }
+
+-- what the slices of a window hold
+abbrev pub held : Window → Slices
+held w = slices w.kinds.now w.addresses.now w.bytes.now
+
+-- they are the slices that were lent to it, so that their owner sees what they hold in the end
+pub record Lent (w r : Window) : Type 0 where
+  pub kinds : r.kinds.ghost_name ≡ w.kinds.ghost_name
+  pub addresses : r.addresses.ghost_name ≡ w.addresses.ghost_name
+  pub bytes : r.bytes.ghost_name ≡ w.bytes.ghost_name
+
+pub lent_still : (w : Window) → Lent w w
+lent_still w = record { kinds = refl; addresses = refl; bytes = refl }
+
+lent_both : {w r q : Window} → Lent w r → Lent r q → Lent w q
+lent_both d e = record { kinds = e.kinds ∙ d.kinds; addresses = e.addresses ∙ d.addresses; bytes = e.bytes ∙ d.bytes }
 
 -- k steps more can be counted
 abbrev pub Counts : Window → ℕ → Type 0
@@ -36,6 +52,13 @@ write_slot i x s = slices (set s.kinds i x.kind) (set s.addresses i x.address) (
 unfoldable pub hand_one : ℕ → ℕ → Shown → Slices → Slices
 hand_one f p x s = elim (leb f p) [ true ↦ elim (ltb (p - f) (shortest s)) [ true ↦ write_slot (p - f) x s | false ↦ s ] | false ↦ s ]
 
+-- from the window w, a step gave the window r
+pub record HandedOne (w : Window) (x : Shown) (r : Window) : Type 0 where
+  pub slots : held r ≡ hand_one w.first w.passed x (held w)
+  pub count : r.passed ≡ w.passed + 1
+  pub same : r.first ≡ w.first
+  pub lent : Lent w r
+
 -- ---- a list of steps
 
 -- the first of them has the number p
@@ -43,16 +66,17 @@ abbrev pub hand_all : ℕ → ℕ → List Step → Slices → Slices
 hand_all f p [] s = s
 hand_all f p (x ∷ ss) s = hand_all f (p + 1) ss (hand_one f p (shown_of x) s)
 
--- from the slices s and the window w, the steps ss gave the slices t and the window r
-pub record Handed (s : Slices) (w : Window) (ss : List Step) (t : Slices) (r : Window) : Type 0 where
-  pub slots : t ≡ hand_all w.first w.passed ss s
+-- from the window w, the steps ss gave the window r
+pub record Handed (w : Window) (ss : List Step) (r : Window) : Type 0 where
+  pub slots : held r ≡ hand_all w.first w.passed ss (held w)
   pub count : r.passed ≡ w.passed + length ss
   pub same : r.first ≡ w.first
+  pub lent : Lent w r
 
 -- ---- phases
 
-pub handed_none : (s : Slices) (w : Window) → Handed s w [] s w
-handed_none s w = record { slots = refl; count = omega arith; same = refl }
+pub handed_none : (w : Window) → Handed w [] w
+handed_none w = record { slots = refl; count = omega arith; same = refl; lent = lent_still w }
 
 hand_append : (f p : ℕ) (a b : List Step) (s : Slices) → hand_all f p (a ++ b) s ≡ hand_all f (p + length a) b (hand_all f p a s)
 hand_append f p [] b s = ap (λ (i : ℕ). hand_all f i b s) (omega arith)
@@ -62,14 +86,15 @@ hand_append f p (x ∷ a) b s =
     hand_append f (p + 1) a b t ∙ ap (λ (i : ℕ). hand_all f i b (hand_all f (p + 1) a t)) e
 
 -- one phase after another
-pub handed_both : {s t u : Slices} {w r q : Window} {a b : List Step} → Handed s w a t r → Handed t r b u q → Handed s w (a ++ b) u q
-handed_both {s} {t} {u} {w} {r} {q} {a} {b} d e =
+pub handed_both : {w r q : Window} {a b : List Step} → Handed w a r → Handed r b q → Handed w (a ++ b) q
+handed_both {w} {r} {q} {a} {b} d e =
     record {
       slots =
           e.slots
-          ∙ rw (d.same, d.count, d.slots) (sym (hand_append w.first w.passed a b s));
+          ∙ rw (d.same, d.count, d.slots) (sym (hand_append w.first w.passed a b (held w)));
       count = omega (arith, d.count, e.count, length-append a b);
       same = e.same ∙ d.same;
+      lent = lent_both d.lent e.lent;
     }
 
 -- ---- steps outside the window
@@ -99,39 +124,42 @@ all_behind f p [] s h = refl
 all_behind f p (x ∷ ss) s h =
     ap (hand_all f (p + 1) ss) (one_behind f p (shown_of x) s h) ∙ all_behind f (p + 1) ss s (omega arith)
 
--- steps that got no slot
-pub handed_before : (s : Slices) (w r : Window) (ss : List Step) → (0 < length ss → w.passed + length ss ≤ w.first)
-    → r.passed ≡ w.passed + length ss → r.first ≡ w.first → Handed s w ss s r
-handed_before s w r [] h c e = record { slots = refl; count = c; same = e }
-handed_before s w r (x ∷ ss) h c e =
-    record { slots = sym (all_before w.first w.passed (x ∷ ss) s (h (omega arith))); count = c; same = e }
+-- so many steps passed that got no slot
+abbrev pub past : Window → ℕ → Window
+past w n = record w { passed = w.passed + n }
 
-pub handed_behind : (s : Slices) (w r : Window) (ss : List Step) → w.first + shortest s ≤ w.passed
-    → r.passed ≡ w.passed + length ss → r.first ≡ w.first → Handed s w ss s r
-handed_behind s w r ss h c e = record { slots = sym (all_behind w.first w.passed ss s h); count = c; same = e }
+pub lent_past : (w : Window) (n : ℕ) → Lent w (past w n)
+lent_past w n = record { kinds = refl; addresses = refl; bytes = refl }
+
+pub handed_before : (w : Window) (ss : List Step) (n : ℕ) → length ss ≡ n → (0 < n → w.passed + n ≤ w.first) → Handed w ss (past w n)
+handed_before w [] n e h = record { slots = refl; count = omega (arith, e); same = refl; lent = lent_past w n }
+handed_before w (x ∷ ss) n e h =
+    record {
+      slots = sym (all_before w.first w.passed (x ∷ ss) (held w) (omega (arith, e, h (omega (arith, e)))));
+      count = omega (arith, e);
+      same = refl;
+      lent = lent_past w n;
+    }
+
+pub handed_behind : (w : Window) (ss : List Step) (n : ℕ) → length ss ≡ n → w.first + shortest (held w) ≤ w.passed → Handed w ss (past w n)
+handed_behind w ss n e h =
+    record { slots = sym (all_behind w.first w.passed ss (held w) h); count = omega (arith, e); same = refl; lent = lent_past w n }
 
 -- ---- the form of a loop: whatever hands out the steps that are left hands out all
 
--- from t and q on the steps b are left of the steps a from s and w on
-abbrev pub Leads : Slices → Window → List Step → Slices → Window → List Step → Type 0
-Leads s w a t q b = (u : Slices) (r : Window) → Handed t q b u r → Handed s w a u r
+-- from t on the steps b are left of the steps a from w on
+abbrev pub Leads : Window → List Step → Window → List Step → Type 0
+Leads w a t b = (r : Window) → Handed t b r → Handed w a r
 
-module _ {s t : Slices} {w q : Window} {a b : List Step} (l : Leads s w a t q b) where
+module _ {w t : Window} {a b : List Step} (l : Leads w a t b) where
   -- some of them are handed out
-  pub leads_more : {x c : List Step} {u : Slices} {r : Window} → b ≡ x ++ c → Handed t q x u r → Leads s w a u r c
-  leads_more e d v p f = l v p (rw e (handed_both d f))
+  pub leads_more : {x c : List Step} {u : Window} → b ≡ x ++ c → Handed t x u → Leads w a u c
+  leads_more e d r f = l r (rw e (handed_both d f))
 
   -- none is left
-  pub leads_end : b ≡ [] → Handed s w a t q
-  leads_end e = l t q (rw e (handed_none t q))
+  pub leads_end : b ≡ [] → Handed w a t
+  leads_end e = l t (rw e (handed_none t))
 
 -- at the start all are left
-pub leads_all : (s : Slices) (w : Window) (a : List Step) → Leads s w a s w a
-leads_all s w a u r h = h
-
--- so many slots lie behind, told without a sum
-pub over_is : (f slots p : ℕ) → f ≤ p → leb slots (p - f) ≡ leb (f + slots) p
-over_is f slots p h = go (leb slots (p - f)) refl where
-  go : (t : Bool) → leb slots (p - f) ≡ t → t ≡ leb (f + slots) p
-  go true e = sym (le-leb (f + slots) p (omega (arith, leb-true slots (p - f) e)))
-  go false e = sym (lt-leb (f + slots) p (omega (arith, leb-false slots (p - f) e)))
+pub leads_all : (w : Window) (a : List Step) → Leads w a w a
+leads_all w a r h = h

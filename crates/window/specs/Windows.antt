@@ -1,12 +1,14 @@
 -- A whole step list handed out from the first step on: the slices hold its window, as the definition says.
 use Rattle.std.specs.Prelude.{ℕ, zero, suc, ◌+◌, ◌-◌, ◌≤◌, min, ◌≡◌, refl, List, [], ◌∷◌, ◌++◌, map, length, take, drop}
+use Rattle.std.specs.Prelude.{Bool, true, false, leb, ltb}
 use Rattle.std.proofs.Common.{arith, sym, ap, ◌∙◌, length-set, length-take, length-drop}
 use Rattle.std.proofs.lemmas.List.{length-map}
 use Rattle.std.proofs.lemmas.List.Edits.{sets, sets-eq}
 use Rattle.std.proofs.Math.Seq.{take-nil}
 use Rattle.spec.specs.Step.{Step}
 use Rattle.spec.specs.Planner.{kind_of, address_of, byte_of, Slices, shortest, window, filled, filled_with}
-use Rattle.window.specs.Handed.{slices, Shown, shown_of, write_slot, hand_all, one_before, one_inside, all_behind}
+use Rattle.window.specs.declared.Window.{Window}
+use Rattle.window.specs.Handed.{slices, held, Shown, shown_of, write_slot, hand_one, hand_all, Handed, one_before, one_inside, all_behind}
 
 -- these steps, one after another from the slot i on
 abbrev into : ℕ → List Step → Slices → Slices
@@ -58,3 +60,19 @@ window_handed f ss s =
 
 pub window_length : (f m : ℕ) (ss : List Step) → length (window f m ss) ≡ min m (length ss - f)
 window_length f m ss = length-take m (drop f ss) ∙ ap (min m) (length-drop f ss)
+
+-- no slice gets longer or shorter
+one_keeps : (f p : ℕ) (x : Shown) (s : Slices) → shortest (hand_one f p x s) ≡ shortest s
+unfolding hand_one
+one_keeps f p x s = go (leb f p) (ltb (p - f) (shortest s)) refl refl where
+  go : (t u : Bool) → leb f p ≡ t → ltb (p - f) (shortest s) ≡ u → shortest (hand_one f p x s) ≡ shortest s
+  go false u e d = rw (hand_one, e)
+  go true false e d = rw (hand_one, e, d)
+  go true true e d = rw (hand_one, e, d) (slot_keeps (p - f) x s)
+
+all_keeps : (f p : ℕ) (ss : List Step) (s : Slices) → shortest (hand_all f p ss s) ≡ shortest s
+all_keeps f p [] s = refl
+all_keeps f p (x ∷ ss) s = all_keeps f (p + 1) ss (hand_one f p (shown_of x) s) ∙ one_keeps f p (shown_of x) s
+
+pub handed_slots : {w r : Window} {ss : List Step} → Handed w ss r → shortest (held r) ≡ shortest (held w)
+handed_slots {w} {r} {ss} h = ap shortest h.slots ∙ all_keeps w.first w.passed ss (held w)

@@ -8,226 +8,116 @@ pub mod file;
 ghost use Rattle.std.specs.Prelude.{◌≡◌, [], ◌∷◌, map, ◌+◌, ◌-◌, ◌<◌, ◌≤◌, ◌^◌, min, length, leb};
 ghost use Rattle.spec.specs.Step.{Step, bytes_at};
 ghost use Rattle.spec.specs.Geometry.{sectors};
-ghost use Rattle.window.specs.Handed.{slices, shown, hand_one, Handed, Counts};
+ghost use Rattle.spec.specs.Planner.{shortest};
+ghost use Rattle.window.specs.Handed.{held, shown, HandedOne, Handed, Counts};
 
 use spec::SECTOR;
 
-// The first step that is wanted, and the steps that were passed so far, handed out or not.
-#[derive(Clone, Copy)]
-pub struct Window {
+// The kinds of a step, as C has them.
+pub const PROGRAM: u32 = 1;
+
+pub const ERASE: u32 = 2;
+
+// A window on a list of steps: the lent slices, the first step that is wanted in them, and the steps that were passed so far,
+// handed out or not.
+#[derive(Drop)]
+pub struct Window<'a> {
+    pub kinds: &'a mut [u32],
+    pub addresses: &'a mut [u32],
+    pub bytes: &'a mut [u32],
     pub first: usize,
     pub passed: usize,
 }
 
-impl Window {
-    // No step is passed yet.
-    pub fn from(first: usize) -> Window
-        ensures { (result.first ≡ first) × (result.passed ≡ 0) }
+impl Window<'_> {
+    // The length of the shortest slice.
+    fn slots(&self) -> usize
+        ensures { result ≡ shortest (held self.now) }
     {
-        Window {
-            first: first,
-            passed: 0,
-        }
+        self.kinds
+            .len()
+            .min(self.addresses.len().min(self.bytes.len()))
     }
 
-    // How many of the steps passed were handed out, into so many slots.
-    pub fn handed(self, slots: usize) -> usize
-        ensures { result ≡ min slots (self.passed - self.first) }
+    // How many of the steps passed were handed out.
+    pub fn handed(&self) -> usize
+        ensures { result ≡ min (shortest (held self.now)) (self.now.passed - self.now.first) }
     {
-        if self.passed <= self.first {
-            return 0;
-        }
-        least(slots, self.passed - self.first)
+        self.slots().min(self.passed.saturating_sub(self.first))
     }
 
-    // So many steps are passed.
-    fn past(self, n: usize) -> Window
-        requires { Counts self n }
-        ensures { (result.passed ≡ self.passed + n) × (result.first ≡ self.first) }
+    // Whether the next step lies behind the window.
+    fn is_over(&self) -> bool
+        ensures { result ≡ leb (self.now.first + shortest (held self.now)) self.now.passed }
     {
-        Window {
-            first: self.first,
-            passed: self.passed + n,
+        self.first <= self.passed && self.slots() <= self.passed - self.first
+    }
+
+    // The step is passed; it goes into the slot with its number, counted from the window's first step, if there is one.
+    fn hand(&mut self, kind: u32, address: u32, byte: u32)
+        requires { Counts self.old 1 }
+        ensures { HandedOne self.old (shown kind address byte) self.new }
+    {
+        let slot = self.passed.checked_sub(self.first);
+        self.passed += 1;
+        if let Some(i) = slot
+            && i < self.slots()
+        {
+            self.kinds[i] = kind;
+            self.addresses[i] = address;
+            self.bytes[i] = byte;
         }
     }
-}
 
-fn least(a: usize, b: usize) -> usize
-    ensures { result ≡ min a b }
-{
-    if a <= b {
-        return a;
+    // One byte programmed.
+    pub fn program(&mut self, at: usize, byte: u8)
+        requires { (at < 2 ^ 32) × Counts self.old 1 }
+        ensures { Handed self.old (Step.program at byte ∷ []) self.new }
+    {
+        self.hand(PROGRAM, at as u32, u32::from(byte));
     }
-    b
-}
 
-// The length of the shortest slice.
-pub fn shortest(kinds: usize, addresses: usize, bytes: usize) -> usize
-    ensures { result ≡ min kinds (min addresses bytes) }
-{
-    least(kinds, least(addresses, bytes))
-}
-
-// The step with the number of those that were passed goes into its slot, if there is one for it.
-fn hand(
-    kinds: &mut [u32],
-    addresses: &mut [u32],
-    bytes: &mut [u32],
-    kind: u32,
-    address: u32,
-    byte: u32,
-    w: Window,
-)
-    ensures { slices kinds.new addresses.new bytes.new
-        ≡ hand_one w.first w.passed (shown kind address byte)
-        (slices kinds.old addresses.old bytes.old) }
-{
-    if w.passed < w.first {
-        return;
+    // One sector erased: its byte is FF.
+    pub fn erase(&mut self, at: usize)
+        requires { (at < 2 ^ 32) × Counts self.old 1 }
+        ensures { Handed self.old (Step.erase at ∷ []) self.new }
+    {
+        self.hand(ERASE, at as u32, 0xFF);
     }
-    let i = w.passed - w.first;
-    if i < shortest(kinds.len(), addresses.len(), bytes.len()) {
-        kinds[i] = kind;
-        addresses[i] = address;
-        bytes[i] = byte;
+
+    // 00 at this address, by way of another byte.
+    pub fn program_by(&mut self, at: usize, by: u8)
+        requires { (at < 2 ^ 32) × Counts self.old 2 }
+        ensures { Handed self.old (Step.program at by ∷ Step.program at 0 ∷ []) self.new }
+    {
+        self.program(at, by);
+        self.program(at, 0x00);
     }
-}
 
-// An address, which lies in an image or right behind it.
-fn narrow(x: usize) -> u32
-    requires { x < 2 ^ 32 }
-    ensures { result ≡ x }
-{
-    x as u32
-}
-
-fn wide(x: u8) -> u32
-    ensures { result ≡ x }
-{
-    x as u32
-}
-
-// One byte programmed.
-pub fn hand_program(
-    kinds: &mut [u32],
-    addresses: &mut [u32],
-    bytes: &mut [u32],
-    at: usize,
-    byte: u8,
-    w: Window,
-) -> Window
-    requires { (at < 2 ^ 32) × Counts w 1 }
-    ensures { Handed (slices kinds.old addresses.old bytes.old) w
-        (Step.program at byte ∷ [])
-        (slices kinds.new addresses.new bytes.new) result }
-{
-    hand(kinds, addresses, bytes, 1, narrow(at), wide(byte), w);
-    w.past(1)
-}
-
-// One sector erased: its byte is FF.
-pub fn hand_erase(
-    kinds: &mut [u32],
-    addresses: &mut [u32],
-    bytes: &mut [u32],
-    at: usize,
-    w: Window,
-) -> Window
-    requires { (at < 2 ^ 32) × Counts w 1 }
-    ensures { Handed (slices kinds.old addresses.old bytes.old) w
-        (Step.erase at ∷ [])
-        (slices kinds.new addresses.new bytes.new) result }
-{
-    hand(kinds, addresses, bytes, 2, narrow(at), 0xFF, w);
-    w.past(1)
-}
-
-// 00 at this address, by way of another byte.
-pub fn hand_two(
-    kinds: &mut [u32],
-    addresses: &mut [u32],
-    bytes: &mut [u32],
-    at: usize,
-    by: u8,
-    w: Window,
-) -> Window
-    requires { (at < 2 ^ 32) × Counts w 2 }
-    ensures { Handed (slices kinds.old addresses.old bytes.old) w
-        (Step.program at by ∷ Step.program at 0 ∷ [])
-        (slices kinds.new addresses.new bytes.new) result }
-{
-    let a = hand_program(kinds, addresses, bytes, at, by, w);
-    hand_program(kinds, addresses, bytes, at, 0x00, a)
-}
-
-// How many of the next n steps lie before the window.
-fn skipped(w: Window, n: usize) -> usize
-    ensures { (result ≤ n) × (0 < result → w.passed + result ≤ w.first) }
-{
-    if w.first <= w.passed {
-        return 0;
-    }
-    least(n, w.first - w.passed)
-}
-
-// Whether a window with so many slots lies behind.
-fn is_over(w: Window, slots: usize) -> bool
-    ensures { result ≡ leb (w.first + slots) w.passed }
-{
-    if w.passed < w.first {
-        return false;
-    }
-    slots <= w.passed - w.first
-}
-
-// These bytes programmed one after another, from this address on. Those before the window are skipped, those behind it only counted.
-pub fn hand_bytes(
-    kinds: &mut [u32],
-    addresses: &mut [u32],
-    bytes: &mut [u32],
-    at: usize,
-    source: &[u8],
-    w: Window,
-) -> Window
-    requires { (at + length source.now < 2 ^ 32) × Counts w (length source.now) }
-    ensures { Handed (slices kinds.old addresses.old bytes.old) w
-        (bytes_at at source.now)
-        (slices kinds.new addresses.new bytes.new) result }
-{
-    let n = source.len();
-    let slots = shortest(kinds.len(), addresses.len(), bytes.len());
-    let mut i = skipped(w, n);
-    let mut q = w.past(i);
-    while i < n {
-        if is_over(q, slots) {
-            return w.past(n);
+    // These bytes programmed one after another, from this address on. Those before the window are skipped, those behind it only counted.
+    pub fn program_bytes(&mut self, at: usize, source: &[u8])
+        requires { (at + length source.now < 2 ^ 32) × Counts self.old (length source.now) }
+        ensures { Handed self.old (bytes_at at source.now) self.new }
+    {
+        let skipped = source.len().min(self.first.saturating_sub(self.passed));
+        self.passed += skipped;
+        for i in skipped..source.len() {
+            if self.is_over() {
+                self.passed += source.len() - i;
+                return;
+            }
+            self.program(at + i, source[i]);
         }
-        q = hand_program(kinds, addresses, bytes, at + i, source[i], q);
-        i += 1;
     }
-    q
-}
 
-// The sectors from the one at `from` on erased, ascending, as far as they end at `to` at most.
-pub fn hand_erases(
-    kinds: &mut [u32],
-    addresses: &mut [u32],
-    bytes: &mut [u32],
-    from: usize,
-    to: usize,
-    w: Window,
-) -> Window
-    requires { (from ≤ 2 ^ 24) × (to ≤ 2 ^ 24) × Counts w to }
-    ensures handed { Handed (slices kinds.old addresses.old bytes.old) w
-        (map Step.erase (sectors from to))
-        (slices kinds.new addresses.new bytes.new) result }
-    ensures passed_bound { result.passed ≤ w.passed + to }
-{
-    let mut q = w;
-    let mut a = from;
-    while a + SECTOR <= to {
-        q = hand_erase(kinds, addresses, bytes, a, q);
-        a += SECTOR;
+    // The sectors from the one at `from` on erased, ascending, as far as they end at `to` at most.
+    pub fn erase_sectors(&mut self, from: usize, to: usize)
+        requires { (from ≤ 2 ^ 24) × (to ≤ 2 ^ 24) × Counts self.old to }
+        ensures handed { Handed self.old (map Step.erase (sectors from to)) self.new }
+        ensures passed_bound { self.new.passed ≤ self.old.passed + to }
+    {
+        for a in (from..to.saturating_sub(SECTOR - 1)).step_by(SECTOR) {
+            self.erase(a);
+        }
     }
-    q
 }

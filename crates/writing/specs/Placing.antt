@@ -1,33 +1,42 @@
 -- Laws on placing: what fits lies inside the image.
-use Rattle.std.specs.Prelude.{ℕ, ◌+◌, ◌≤◌, ◌<◌, ◌≡◌, refl, Bool, true, false, ◌&&◌, ◌||◌, not, leb}
-use Rattle.std.proofs.Common.{arith, leb-true, ltb-true}
+use Rattle.std.specs.Prelude.{ℕ, ◌+◌, ◌≤◌, ◌<◌, ◌≡◌, refl, None, Bool, true, false, ◌&&◌, ◌||◌, not, leb}
+use Rattle.std.proofs.Common.{arith, sym, ap, ◌∙◌, leb-true, ltb-true}
+use Rattle.std.specs.Option.{is_some}
 use Rattle.spec.specs.declared.Place.{Place}
-use Rattle.spec.specs.declared.Placed.TheVariants.{At, Full}
+use Rattle.spec.specs.declared.Placement.{Placement}
 use Rattle.spec.specs.Geometry.{floor}
 use Rattle.spec.specs.Reading.{limit}
 use Rattle.spec.specs.Place.{fits_at_tail, fits, address, with_marker, place_after}
-use Rattle.spec.specs.Placed.{placed, PlaceSound}
+use Rattle.spec.specs.Placed.{Placed, placed, placed_at, PlaceSound}
 
 -- ---- the three parts of an answer
 
-fits_of : (t : Bool) (a : ℕ) (k : Bool) (q : Place) (x : ℕ) (l : Bool) (r : Place) → elim t [ true ↦ At a k q | false ↦ Full ] ≡ At x l r
+abbrev given : Bool → ℕ → Bool → Place → Placed
+given t a k q = elim t [ true ↦ placed_at a k q | false ↦ None ]
+
+fits_of : (t : Bool) (a : ℕ) (k : Bool) (q : Place) (x : ℕ) (l : Bool) (r : Place) → given t a k q ≡ placed_at x l r
     → (t ≡ true)
     × (a ≡ x) × (k ≡ l) × (q ≡ r)
-fits_of true a k q x l r e = (refl, cc, cc, cc)
+fits_of true a k q x l r e =
+    let v : record { at = a; marker = k; place = q } ≡ record { at = x; marker = l; place = r } = cc in
+    (refl, ap (λ (z : Placement). z.at) v, ap (λ (z : Placement). z.marker) v, ap (λ (z : Placement). z.place) v)
 fits_of false a k q x l r e = let z : ◌≡◌ {A = ℕ} 0 1 = cc in absurd (omega arith)
 
-pub placed_parts : (p : Place) (s a : ℕ) (k : Bool) (q : Place) → placed p s ≡ At a k q → (fits p s ≡ true) × (address p s ≡ a)
+pub placed_parts : (p : Place) (s a : ℕ) (k : Bool) (q : Place) → placed p s ≡ placed_at a k q → (fits p s ≡ true) × (address p s ≡ a)
     × (with_marker p s ≡ k) × (place_after p s ≡ q)
 unfolding placed
 placed_parts p s a k q e = fits_of (fits p s) (address p s) (with_marker p s) (place_after p s) a k q e
 
-full_of : (t : Bool) (a : ℕ) (k : Bool) (q : Place) → elim t [ true ↦ At a k q | false ↦ Full ] ≡ Full → t ≡ false
-full_of true a k q e = let z : ◌≡◌ {A = ℕ} 0 1 = cc in absurd (omega arith)
-full_of false a k q e = refl
-
-pub placed_full : (p : Place) (s : ℕ) → placed p s ≡ Full → fits p s ≡ false
+-- a place is given to what fits
+pub placed_fits : (p : Place) (s : ℕ) → is_some (placed p s) ≡ fits p s
 unfolding placed
-placed_full p s e = full_of (fits p s) (address p s) (with_marker p s) (place_after p s) e
+placed_fits p s = go (fits p s) where
+  go : (t : Bool) → is_some (given t (address p s) (with_marker p s) (place_after p s)) ≡ t
+  go true = refl
+  go false = refl
+
+pub placed_full : (p : Place) (s : ℕ) → placed p s ≡ None → fits p s ≡ false
+placed_full p s e = sym (placed_fits p s) ∙ ap is_some e
 
 -- ---- where a size that fits lies
 

@@ -13,19 +13,20 @@ ghost use Rattle.writing.specs.Old.{old_entry, Lies};
 ghost use Rattle.writing.specs.Put.{marks, Ready};
 
 use build::{set_status, write_marker, write_record};
+// Image and meter go as two arguments, not as one struct: put lends the image from the record's start as a part (docs/DECISIONS.md).
 use flash::Meter;
 use record::size;
-use spec::{Place, Placed, Status};
+use spec::{Place, Placement, Status};
 
-// The file that a put replaces: its address and its status, or none.
+// The file that a put replaces: its address and its status.
 #[derive(Clone, Copy)]
-pub enum Old {
-    None,
-    At { at: usize, status: Status },
+pub struct OldFile {
+    pub at: usize,
+    pub status: Status,
 }
 
 // What goes before the new record: the old file's status FC to F8, if it is FC; then the marker, if one is needed.
-pub fn prepare(image: &mut [u8], old: Old, tail: usize, marker: bool, m: Meter) -> Meter
+pub fn prepare(image: &mut [u8], old: Option<OldFile>, tail: usize, marker: bool, m: Meter) -> Meter
     requires lies { Lies old (length image.old) }
     requires tail_in_bounds { marker ≡ true → tail + 2 < length image.old }
     requires can_count { CanCount m 4 }
@@ -33,33 +34,33 @@ pub fn prepare(image: &mut [u8], old: Old, tail: usize, marker: bool, m: Meter) 
 {
     let a = migrate(image, old, m);
     if marker {
-        return write_marker(image, tail, a);
+        write_marker(image, tail, a)
+    } else {
+        a
     }
-    a
 }
 
 // FC to F8: the old file stays readable until it is deleted.
-fn migrate(image: &mut [u8], old: Old, m: Meter) -> Meter
+fn migrate(image: &mut [u8], old: Option<OldFile>, m: Meter) -> Meter
     requires lies { Lies old (length image.old) }
     requires can_count { CanCount m 1 }
     ensures { Did image.old m (migrate_steps (old_entry old)) image.new result }
 {
-    let Old::At { at, status } = old else {
-        return m;
-    };
-    if status.byte == Status::COMMITTED.byte {
-        return set_status(image, at, Status::MIGRATING, m);
+    match old {
+        Some(OldFile { at, status }) if status == Status::COMMITTED => {
+            set_status(image, at, Status::MIGRATING, m)
+        }
+        _ => m,
     }
-    m
 }
 
 // The old file's status 00.
-pub fn delete(image: &mut [u8], old: Old, m: Meter) -> Meter
+pub fn delete(image: &mut [u8], old: Option<OldFile>, m: Meter) -> Meter
     requires lies { Lies old (length image.old) }
     requires can_count { CanCount m 1 }
     ensures { Did image.old m (delete_steps (old_entry old)) image.new result }
 {
-    let Old::At { at, .. } = old else {
+    let Some(OldFile { at, .. }) = old else {
         return m;
     };
     set_status(image, at, Status::DELETED, m)
@@ -69,7 +70,7 @@ pub fn delete(image: &mut [u8], old: Old, m: Meter) -> Meter
 pub fn write_file(
     image: &mut [u8],
     place: Place,
-    old: Old,
+    old: Option<OldFile>,
     name: &[u8],
     content: &[u8],
     m: Meter,
@@ -79,7 +80,7 @@ pub fn write_file(
     ensures { let steps = put_steps place (old_entry old) name.now content.now in
         Did image.old m steps image.new result }
 {
-    let Placed::At { at, marker, .. } = place.after(size(name.len(), content.len())) else {
+    let Some(Placement { at, marker, .. }) = place.after(size(name.len(), content.len())) else {
         return m;
     };
     let a = prepare(image, old, place.tail, marker, m);

@@ -105,11 +105,11 @@ fn the_library_has_this_table() {
         "folded((w % HASH_LIMIT + h) * 0x1656_67B1 + w / HASH_LIMIT * 0x27D4_EB2F)",
         "y / HASH_LIMIT + y % HASH_LIMIT",
         "let z = h * 0xC2B2_AE3D;",
-        "let bits = three_bits(z);",
-        "let first = z / 0x80_0000_0000_0000;",
-        "let second = z / 0x4000_0000_0000 % 512;",
-        "let third = z / 0x20_0000_0000 % 512;",
-        "bit(z / 0x8000_0000 % 64) | bit(z / 0x200_0000 % 64) | bit(z / 0x8_0000 % 64)",
+        "bits: three_bits(z),",
+        "first: (z / 0x80_0000_0000_0000) as usize,",
+        "second: (z / 0x4000_0000_0000 % 512) as usize,",
+        "third: (z / 0x20_0000_0000 % 512) as usize,",
+        "1 << (z / 0x8000_0000 % 64) | 1 << (z / 0x200_0000 % 64) | 1 << (z / 0x8_0000 % 64)",
     ] {
         assert!(both.contains(part), "no {part} in crates/filter/src");
     }

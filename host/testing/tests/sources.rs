@@ -47,13 +47,17 @@ fn functions(text: &str) -> Vec<Function> {
     found
 }
 
-/// An assignment to an element of a slice.
+/// An assignment to an element of a slice, with an operator or without, or a method of a slice that writes its elements.
 fn stores(line: &str) -> bool {
     let code = line.split("//").next().unwrap_or("");
-    code.match_indices(']').any(|(i, _)| {
+    let operators = ["|=", "&=", "^=", "+=", "-=", "*=", "/=", "%=", "<<=", ">>="];
+    let writers = [".fill(", ".copy_from_slice(", ".copy_within(", ".swap(", ".reverse(", ".rotate_", ".sort", "_mut("];
+    let assigned = code.match_indices(']').any(|(i, _)| {
         let behind = code[i + 1..].trim_start();
-        behind.starts_with('=') && !behind.starts_with("==")
-    })
+        let plain = behind.starts_with('=') && !behind.starts_with("==") && !behind.starts_with("=>");
+        plain || operators.iter().any(|o| behind.starts_with(o))
+    });
+    assigned || writers.iter().any(|w| code.contains(w))
 }
 
 #[test]
@@ -93,4 +97,10 @@ fn the_source_is_taken_apart() {
     assert_eq!(found.iter().map(|f| (f.name.as_str(), f.is_public)).collect::<Vec<_>>(), [("a", true), ("b", false)]);
     assert!(found[0].head.contains("requires") && found[0].body.lines().any(stores));
     assert!(!found[1].body.lines().any(stores));
+    for store in ["x[a..b].fill(0xFF);", "x[i] |= b;", "x[i] <<= 1;", "x[..4].copy_from_slice(y);", "for b in x.iter_mut() {"] {
+        assert!(stores(store), "{store}");
+    }
+    for look in ["if x[i] <= b {", "[.., last] => last,", "x[i] != b", "// x[i] = b;"] {
+        assert!(!stores(look), "{look}");
+    }
 }

@@ -13,8 +13,7 @@ use Rattle.spec.specs.Answers.{format}
 use Rattle.spec.specs.declared.Report.{Report}
 use Rattle.spec.specs.declared.Extent.{Extent}
 use Rattle.spec.specs.declared.Space.{Space}
-use Rattle.spec.specs.declared.NameFault.{NameFault}
-use Rattle.spec.specs.declared.Refusal.{Refusal}
+use Rattle.spec.specs.Refusals.{FaultNumbers}
 use Rattle.spec.specs.History.{Request, put, remove, sweep, mount, get, list, Call, outcome, replay}
 use Rattle.spec.specs.History.{steps_done, steps_of, File, Ledger, ledger}
 use Rattle.spec.specs.Step.{Step, program, erase, apply}
@@ -54,7 +53,7 @@ abbrev pub extent : ℕ → ℕ → Extent
 extent offset length = record { offset = offset; length = length }
 
 -- the numbers where a name is refused
-abbrev pub name_says : ℕ → ℕ → NameFault
+abbrev pub name_says : ℕ → ℕ → FaultNumbers
 name_says reason place = record { reason = reason; place = place }
 
 abbrev pub refused_name : ℕ → ℕ → ℕ → Numbers

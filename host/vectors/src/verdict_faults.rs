@@ -6,8 +6,8 @@ pub const VERDICT_FAULTS: &[Fault] = &[
         "a bad name told as a mark",
         &["broken name"],
         "Fault.antt",
-        "elim (name_wrong all before e) [\n            | true ↦ Fault.At Rule.Name e.at",
-        "elim (name_wrong all before e) [\n            | true ↦ Fault.At Rule.Mark e.at",
+        "elim (name_wrong all before e) [\n            | true ↦ broken Rule.Name e.at",
+        "elim (name_wrong all before e) [\n            | true ↦ broken Rule.Mark e.at",
     ),
     fault(
         "the earlier of two names",
@@ -34,8 +34,8 @@ pub const VERDICT_FAULTS: &[Fault] = &[
         "the free run's first byte told as 0",
         &["broken free"],
         "Fault.antt",
-        "dirt a (b ∷ s) = elim (eqb b 0xFF) [ true ↦ dirt (a + 1) s | false ↦ Fault.At Rule.Free a ]",
-        "dirt a (b ∷ s) = elim (eqb b 0xFF) [ true ↦ dirt (a + 1) s | false ↦ Fault.At Rule.Free 0 ]",
+        "dirt a (b ∷ s) = elim (eqb b 0xFF) [ true ↦ dirt (a + 1) s | false ↦ broken Rule.Free a ]",
+        "dirt a (b ∷ s) = elim (eqb b 0xFF) [ true ↦ dirt (a + 1) s | false ↦ broken Rule.Free 0 ]",
     ),
     fault(
         "repair 2 told as repair 3",

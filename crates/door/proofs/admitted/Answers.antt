@@ -1,18 +1,13 @@
 -- A bad length is 22; else what was read stands, with the facts that go with it.
-use mathlib.Core.Path.{sym, ◌∙◌}
-use native.Mathlib.Omega.{arith}
-use lib.ListN.{length}
+use Rattle.std.proofs.Common.{sym, ◌∙◌, Err}
+use Rattle.spec.specs.declared.Refusal.{Refusal}
 use Rattle.laws.specs.Flag.{flag}
-use Rattle.spec.specs.Basics.{numbered}
-use Rattle.laws.specs.Length.{good}
 use Rattle.laws.specs.Door.{admitted_good, admitted_bad}
-use Rattle.reading.specs.declared.Read.{Read}
-use Rattle.door.specs.Door.{admits}
+use Rattle.door.specs.Door.{admits, workable}
 use Rattle.door.proofs.admitted.Goals as goal
 
 pub read_settled-requires : goal.read_settled-requires
-read_settled-requires c = let g = good (length c.args.image.now)
-    (flag c.good_length.ensures c.if-good_length.true) in omega (arith, g.two, g.most)
+read_settled-requires c = workable c.args.image.now (flag c.good_length.ensures c.if-good_length.true)
 
 pub returns-then-good_length : goal.returns-then-good_length
 returns-then-good_length c =
@@ -24,4 +19,4 @@ pub returns : goal.returns
 returns c =
     let s = c.args.image.now in
     let e = sym (admitted_bad s (flag c.good_length.ensures c.if-good_length.false)) in
-    (e, admits s (Read.Refused (numbered 22)) e tt tt)
+    (e, admits s (Err Refusal.BadLength) e tt tt)

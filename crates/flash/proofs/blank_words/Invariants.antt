@@ -7,7 +7,8 @@ use Rattle.flash.proofs.blank_words.Given as goal
 
 abbrev pub invariant-loop-at : goal.invariant-loop-at
 invariant-loop-at l =
-    (l.at ≤ length l.part) × (l.initial.at ≤ l.at) × (l.at % 8 ≡ 0) × (blank_run l.part ≡ l.at + blank_run (drop l.at l.part)) × (l.words * 8 + l.initial.at ≡ l.initial.words * 8 + l.at)
+    (l.at ≤ length l.part) × (l.initial.at ≤ l.at) × (l.at % 8 ≡ 0)
+    × (blank_run l.part ≡ l.at + blank_run (drop l.at l.part)) × (l.words * 8 + l.initial.at ≡ l.initial.words * 8 + l.at)
 
 abbrev pub decreases-loop-at : goal.decreases-loop-at
 decreases-loop-at l = length l.part - l.at

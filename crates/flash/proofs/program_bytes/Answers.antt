@@ -1,12 +1,7 @@
-use mathlib.Core.Path.{refl}
-use lib.Seq.{take_all}
-use Rattle.flash.specs.Did.{did_none, did_both}
+use Rattle.flash.specs.Did.{did_both}
 use Rattle.laws.specs.Steps.{bytes_more, length_first}
 use native.Mathlib.Omega.{arith}
 use Rattle.flash.proofs.program_bytes.Goals as goal
-
-pub loop-i-init : goal.loop-i-init
-loop-i-init c = (omega arith, refl, did_none c.args.image.now c.args.m)
 
 pub program-q-requires : goal.program-q-requires
 program-q-requires c =
@@ -18,11 +13,6 @@ loop-i-preserved c =
     let l = c.loop-i in
     let a = c.args in (
       omega arith,
-      omega arith,
       rw (bytes_more a.at a.bytes.now l.i (omega arith))
-          (did_both l.invariant.2 c.program-q.ensures),
+          (did_both l.invariant.1 c.program-q.ensures),
     )
-
-pub returns : goal.returns
-returns c = rw (take_all c.loop-i.i c.args.bytes.now (omega arith)) at
-    c.loop-i.invariant.2

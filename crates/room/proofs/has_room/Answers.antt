@@ -1,5 +1,5 @@
 -- Content longer than the image fits nowhere, and a record that has no place ends the rule; else it is decided behind the last file.
-use Rattle.spec.specs.declared.Placed.TheVariants.{At}
+use Rattle.std.specs.Prelude.{Some}
 use Rattle.chain.specs.declared.Cursor.{Cursor}
 use Rattle.room.specs.declared.Stowed.{Stowed}
 use Rattle.chain.specs.Rest.{rest}
@@ -27,13 +27,13 @@ stow_chain-stowed-requires c =
 
 pub has_last-requires : goal.has_last-requires
 has_last-requires c =
-    placed_address _ _ _ _ _ (sym c.after-first.ensures ∙ c.in-At.is)
+    placed_address _ _ _ (sym c.after-first.ensures ∙ c.in-Some.is)
 
 pub returns : goal.returns
 returns c =
     let a = c.args in
-    let first : Stowed = record { placed = At c.in-At.at c.in-At.marker c.in-At.place; largest = c.size-new.result } in
+    let first : Stowed = record { placed = Some c.in-Some.x; largest = c.size-new.result } in
     let from : Cursor → Stowed = λ (k : Cursor). stow_files a.s.place first (others a.name.now (rest a.image.now k).entries) in
     let walked = c.stow_chain-stowed.ensures ∙ ap from c.first_cursor.ensures in
-    room_found a.s.place _ _ _ c.requires.0.quiet _ _ _ _ c.size-new.ensures (sym c.in-At.is ∙ c.after-first.ensures) walked
+    room_found a.s.place _ _ _ c.requires.0.quiet _ _ _ _ c.size-new.ensures (sym c.in-Some.is ∙ c.after-first.ensures) walked
     c.has_last.ensures

@@ -8,33 +8,30 @@ use Rattle.room.proofs.stow_far.Goals as goal
 pub loop-e-init : goal.loop-e-init
 loop-e-init c = (fold_start _ _ _ _ c.requires, omega arith)
 
-pub near-s-requires : goal.near-s-requires
-near-s-requires c = c.loop-e.invariant.0.sound
+pub near-requires : goal.near-requires
+near-requires c = c.loop-e.invariant.0.sound
 
-pub returns-in_default : goal.returns-in_default
-returns-in_default c = rw c.stowed_at.ensures c.loop-e.invariant
-
-pub returns-then-in_head_sector : goal.returns-then-in_head_sector
-returns-then-in_head_sector c = rw c.stowed_at-then-in_head_sector.ensures c.loop-e.invariant
+pub returns : goal.returns
+returns c = rw c.stowed_at.ensures c.loop-e.invariant
 
 pub size-requires : goal.size-requires
 size-requires c =
-    let w = rw c.in-Record.is at c.near-s.ensures in
+    let w = rw c.in-Some.is at c.near.ensures in
     (omega (arith, w.0.onward.name), w.0.onward.data_len)
 
 pub larger-largest-requires : goal.larger-largest-requires
 larger-largest-requires c =
-    (rw c.in-Record.is at c.near-s.ensures).0.whole
+    (rw c.in-Some.is at c.near.ensures).0.whole
 
 pub loop-e-smaller : goal.loop-e-smaller
 loop-e-smaller c =
-    (rw c.in-Record.is at c.near-s.ensures).0.onward.less
+    (rw c.in-Some.is at c.near.ensures).0.onward.less
 
 pub loop-e-preserved : goal.loop-e-preserved
 loop-e-preserved c =
     let a = c.args in
     let inv = c.loop-e.invariant in
-    let w = rw c.in-Record.is at c.near-s.ensures in
+    let w = rw c.in-Some.is at c.near.ensures in
     let far = flag c.in_head_sector.ensures c.if-in_head_sector.false in
     let m : Stowed = record { placed = a.first.placed; largest = c.loop-e.largest } in
     let e = stow_past a.place a.name.now a.image.now _ m _ _ w.0.whole c.size.ensures far c.larger-largest.ensures in

@@ -5,8 +5,8 @@ use Rattle.room.proofs.stow_file.Goals as goal
 
 pub returns-then-in_head_sector : goal.returns-then-in_head_sector
 returns-then-in_head_sector c =
-    size_placed _ _ _ _ c.max_of-largest.ensures _ c.stow-next.ensures
+    size_placed _ _ _ _ c.max-largest.ensures _ c.stow-next.ensures
     (flag c.in_head_sector.ensures c.if-in_head_sector.true)
 
 pub returns : goal.returns
-returns c = size_compared _ _ _ _ c.max_of-largest.ensures (flag c.in_head_sector.ensures c.if-in_head_sector.false)
+returns c = size_compared _ _ _ _ c.max-largest.ensures (flag c.in_head_sector.ensures c.if-in_head_sector.false)

@@ -1,33 +1,20 @@
--- By the status of the old file, if there is one.
-use borrow.Author.Tests.{eq-eqb, ne_eqb}
+-- A committed old file gets its step, another none.
+use Rattle.std.proofs.Common.{◌≡◌, true, false, sym, ◌∙◌}
 use Rattle.spec.specs.Bytes.{is_committed}
 use Rattle.spec.specs.Write.{migrate_steps}
 use Rattle.flash.specs.Did.{did_none}
-use Rattle.std.proofs.Common.{arith, ℕ, ◌≡◌, ◌≢◌, true, false}
 use Rattle.writing.proofs.migrate.Goals as goal
 
+pub returns-in-Some : goal.returns-in-Some
+unfolding is_committed
+returns-in-Some c =
+    let is = c.in-Some.is in
+    let e : is_committed c.in-Some.field-0.status.byte ≡ true = sym (rw is at c.eq.ensures) ∙ c.if-eq.true in
+    rw (is, e, migrate_steps) (rw is at c.set_status.ensures)
+
 pub returns-in_default : goal.returns-in_default
-returns-in_default c = let a = c.args in rw c.in_default.is (did_none a.image.now a.m)
-
-pub set_status-requires : goal.set_status-requires
-set_status-requires c =
-    let l = rw c.in-At.is at c.requires.lies in
-    omega arith
-
--- the test on the status byte, as the steps have it
-committed : (s : ℕ) → s ≡ 0xFC → is_committed s ≡ true
 unfolding is_committed
-committed s e = eq-eqb s 0xFC e
-
-not_committed : (s : ℕ) → s ≢ 0xFC → is_committed s ≡ false
-unfolding is_committed
-not_committed s n = ne_eqb s 0xFC n
-
-pub returns-then-status : goal.returns-then-status
-returns-then-status c =
-    rw (c.in-At.is, committed c.in-At.status.byte c.if-status.true, migrate_steps) c.set_status.ensures
-
-pub returns : goal.returns
-returns c =
-    let a = c.args in
-    rw (c.in-At.is, not_committed c.in-At.status.byte c.if-status.false, migrate_steps) (did_none a.image.now a.m)
+returns-in_default c =
+    let is = c.in-Some.is in
+    let e : is_committed c.in-Some.field-0.status.byte ≡ false = sym (rw is at c.eq.ensures) ∙ c.if-eq.false in
+    rw (is, e, migrate_steps) (did_none c.args.image.now c.args.m)

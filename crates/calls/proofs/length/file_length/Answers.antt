@@ -1,9 +1,8 @@
--- file_length: the walk's answer in the outcome's numbers.
+-- The walk's answer in the outcome's numbers.
 use Rattle.calls.specs.Length.{length_told}
 use Rattle.calls.proofs.length.file_length.Goals as goal
 
--- src/length.rt:60:1
 pub returns : goal.returns
 returns c =
     let a = c.args in
-    length_told a.image.now a.head a.name.now c.asked.result c.told.result c.asked.ensures c.told.ensures
+    length_told a.image.now a.head a.name.now c.asked.result c.asked.ensures

@@ -1,17 +1,9 @@
--- `lilota::mount::mount_repaired` meets its contract: what the repairs did is the defined plan, done or cut.
-use Prim.Native.Nat.{◌≤◌, ◌<◌}
-use native.Mathlib.Omega.{arith}
+-- What the repairs did is the defined plan, done or cut.
 use Rattle.calls.specs.Mount.{mount_cut, mount_done}
 use Rattle.calls.proofs.mount.mount_repaired.Goals as goal
 
-pub returns-then-m : goal.returns-then-m
-returns-then-m c =
-    let w = c.mend-w in
-    let used : w.result.meter.allowance < w.result.meter.asked = omega arith in
-    (mount_cut _ _ _ _ c.requires.0 _ w.ensures used, tt)
+pub returns-in-None : goal.returns-in-None
+returns-in-None c = mount_cut _ _ _ _ c.requires.0 _ c.mend-w.ensures c.in-None.is
 
-pub returns : goal.returns
-returns c =
-    let w = c.mend-w in
-    let within : w.result.meter.asked ≤ w.result.meter.allowance = omega arith in
-    (mount_done _ _ _ _ c.requires.0 _ w.ensures c.args.space c.requires.1 within, tt)
+pub returns-in-Some : goal.returns-in-Some
+returns-in-Some c = mount_done _ _ _ _ c.requires.0 _ c.mend-w.ensures c.in-Some.report c.args.space c.requires.1 c.in-Some.is

@@ -1,6 +1,5 @@
 -- The old file is the one that the definition replaces, so that write_file did the defined steps.
-use mathlib.Core.Path.{ap, ◌∙◌}
-use lib.ListN.{length}
+use Rattle.std.proofs.Common.{ap, ◌∙◌, length}
 use Rattle.writing.specs.Old.{old_of}
 use Rattle.calls.specs.Put.{old_named, ready}
 use Rattle.calls.proofs.put.replace.Goals as goal

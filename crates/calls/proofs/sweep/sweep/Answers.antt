@@ -1,33 +1,31 @@
 -- What the door refuses is refused; else the call goes on with what was read.
-use mathlib.Core.Path.{sym, ap, ◌∙◌}
+use Rattle.std.proofs.Common.{◌∙◌}
+use Rattle.std.proofs.lemmas.Result.{err_from_is_err_and}
 use Rattle.spec.specs.Answers.{sweep_of}
-use Rattle.reading.specs.Read.{answered, reading_of}
+use Rattle.reading.specs.Read.{reading_of}
 use Rattle.calls.specs.Carry.{shut, let_in}
 use Rattle.calls.specs.Calls.{sweep_is}
 use Rattle.calls.proofs.sweep.sweep.Goals as goal
 
+pub returns-in_err-s : goal.returns-in_err-s
+returns-in_err-s c =
+    let g = c.args in
+    let s = g.image.now in
+    let d = c.in_err-s.ensures in
+    let p = err_from_is_err_and c.from_residual.result c.from_residual.ensures.1 in
+    rw (p.1, p.2) (shut s g.allowance _ (sweep_of s) d.0 ∙ sweep_is s g.allowance, d.1)
+
 pub sweep_from-requires : goal.sweep_from-requires
 sweep_from-requires c =
-    let read = c.admitted-x.ensures in
-    (rw c.in-Good.is at read.1, sym (ap (answered _) c.in-Good.is) ∙ read.0)
+    let d = c.in_ok-s.ensures in
+    (d.1, d.0)
 
-pub returns-in-Good : goal.returns-in-Good
-returns-in-Good c =
+pub returns : goal.returns
+returns c =
     let g = c.args in
     let s = g.image.now in (
       c.sweep_from.ensures.0
-          ∙ let_in s g.allowance (reading_of s c.in-Good.s) (sweep_of s)
-          (sym (ap (answered s) c.in-Good.is)
-          ∙ c.admitted-x.ensures.0)
+          ∙ let_in s g.allowance (reading_of s c.in_ok-s.s) (sweep_of s) c.in_ok-s.ensures.0
           ∙ sweep_is s g.allowance,
       c.sweep_from.ensures.1,
-    )
-
-pub returns-in-Refused : goal.returns-in-Refused
-returns-in-Refused c =
-    let g = c.args in
-    let s = g.image.now in (
-      shut s g.allowance _ (sweep_of s) (sym (ap (answered s) c.in-Refused.is)
-          ∙ c.admitted-x.ensures.0) ∙ sweep_is s g.allowance,
-      rw c.in-Refused.is at c.admitted-x.ensures.1,
     )

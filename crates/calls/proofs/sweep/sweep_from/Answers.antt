@@ -1,14 +1,13 @@
 -- No room for the first move is 28; else moves and steps are read off what the sweep counted.
-use mathlib.Core.Path.{refl, sym, ◌∙◌}
-use mathlib.Core.Bool.{true, false}
+use Rattle.std.proofs.Common.{refl, sym, ◌∙◌, arith, true, false}
 use Rattle.laws.specs.Flag.{flag}
-use Rattle.spec.specs.Basics.{numbered}
-use Rattle.calls.specs.Numbers.{no_room}
+use Rattle.spec.specs.declared.Refusal.{Refusal}
+use Rattle.spec.specs.Refusals.{numbered}
+use Rattle.calls.specs.Numbers.{refusal_told}
 use Rattle.calls.specs.Carry.{refused}
 use Rattle.calls.specs.Space.{countable_admitted, sweep_told}
 use Rattle.calls.specs.Walkable.{walkable}
 use Rattle.calls.specs.Sweep.{swept_done, swept_cut, sweep_room, headed}
-use native.Mathlib.Omega.{arith}
 use Rattle.calls.proofs.sweep.sweep_from.Goals as goal
 
 pub no_room-requires : goal.no_room-requires
@@ -20,7 +19,7 @@ returns-then-no_room c =
       refused a.image.now a.allowance (numbered 28)
           ∙ sweep_room a.image.now a.allowance a.s true _ c.requires.0.accepted
           (sym (flag c.no_room.ensures c.if-no_room.true)) refl,
-      no_room,
+      refusal_told Refusal.NoRoom,
     )
 
 pub sweep_space-space-requires : goal.sweep_space-space-requires

@@ -7,6 +7,6 @@ pub returns-then-named : goal.returns-then-named
 unfolding superseded
 returns-then-named c = rw (superseded, flag c.named.ensures c.if-named.true, c.has_named.ensures)
 
-pub returns : goal.returns
+pub returns-else-named : goal.returns-else-named
 unfolding superseded
-returns c = rw (superseded, flag c.named.ensures c.if-named.false)
+returns-else-named c = rw (superseded, flag c.named.ensures c.if-named.false) c.if-named.false

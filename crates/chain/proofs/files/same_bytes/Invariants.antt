@@ -1,12 +1,8 @@
 -- same_bytes: the slices are the same if they are from here on.
 use mathlib.Core.Path.{◌≡◌}
-use Prim.Native.Nat.{◌-◌, ◌≤◌}
-use lib.ListN.{length, drop}
+use lib.ListN.{drop}
 use Rattle.spec.specs.Basics.{same}
 use Rattle.chain.proofs.files.same_bytes.Given as goal
 
 abbrev pub invariant-loop-i : goal.invariant-loop-i
-invariant-loop-i l = (l.i ≤ length l.x) × (same l.x l.y ≡ same (drop l.i l.x) (drop l.i l.y))
-
-abbrev pub decreases-loop-i : goal.decreases-loop-i
-decreases-loop-i l = length l.x - l.i
+invariant-loop-i l = same l.x l.y ≡ same (drop l.i l.x) (drop l.i l.y)

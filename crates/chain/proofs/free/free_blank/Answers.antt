@@ -1,4 +1,5 @@
 -- free_blank: one stretch after the turn, two before it.
+use mathlib.Core.Path.{◌∙◌}
 use Rattle.laws.specs.Flag.{flag}
 use Rattle.chain.specs.FreeLaws.{free_turned, free_first, free_both}
 use native.Mathlib.Omega.{arith}
@@ -27,8 +28,8 @@ returns-then-blank_beside c =
     free_both a.image.now a.p c.floor-low.result c.floor-low.ensures.0 _ c.if-p.false
     (flag c.blank_beside-2.ensures c.if-blank_beside.true) c.blank_beside-then-blank_beside.ensures
 
-pub returns : goal.returns
-returns c =
+pub returns-else-blank_beside : goal.returns-else-blank_beside
+returns-else-blank_beside c =
     let a = c.args in
-    free_first a.image.now a.p c.floor-low.result c.floor-low.ensures.0 c.if-p.false
+    c.if-blank_beside.false ∙ free_first a.image.now a.p c.floor-low.result c.floor-low.ensures.0 c.if-p.false
     (flag c.blank_beside-2.ensures c.if-blank_beside.false)

@@ -12,5 +12,6 @@ returns-then-is_clean c = rw (
   c.byte-then-is_clean.ensures,
 )
 
-pub returns : goal.returns
-returns c = rw (← c.byte.ensures, flag c.is_clean.ensures c.if-is_clean.false)
+pub returns-else-is_clean : goal.returns-else-is_clean
+unfolding is_high
+returns-else-is_clean c = rw (← c.byte.ensures, flag c.is_clean.ensures c.if-is_clean.false) c.if-is_clean.false

@@ -40,11 +40,11 @@ returns c =
     let w = c.walk-from.ensures in
     let b = c.blank_from-run.ensures in
     let n = run_of_stretch s c.blank_from-run.result from b.0 b.1 in (
-      c.chosen-h.ensures.0
+      c.chosen.ensures.0
           ∙ ap (chosen s)
           (c.search-found.ensures.0 ∙ ap (λ (k : ℕ). sought s (from + k)) c.up_8.ensures
           ∙ sought_past s from _ w.1 n (omega arith) ∙ ap (sought s) w.0)
           ∙ rw (flag c.magic.ensures c.if-magic.false, flag c.magic-2.ensures c.if-magic-2.false, head),
-      c.chosen-h.ensures.1,
+      c.chosen.ensures.1,
       b.0,
     )

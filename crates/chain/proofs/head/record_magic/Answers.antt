@@ -12,5 +12,6 @@ returns-then-is_record c = rw (
   c.byte-then-is_record.ensures,
 )
 
-pub returns : goal.returns
-returns c = rw (← c.byte.ensures, flag c.is_record.ensures c.if-is_record.false)
+pub returns-else-is_record : goal.returns-else-is_record
+unfolding is_high
+returns-else-is_record c = rw (← c.byte.ensures, flag c.is_record.ensures c.if-is_record.false) c.if-is_record.false

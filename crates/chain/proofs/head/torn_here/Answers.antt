@@ -14,6 +14,6 @@ returns-then-byte c =
     )
     c.is_torn.ensures
 
-pub returns : goal.returns
+pub returns-else-byte : goal.returns-else-byte
 unfolding is_erased
-returns c = rw (ne_eqb _ _ (unflag c.byte.ensures c.if-byte.false))
+returns-else-byte c = rw (ne_eqb _ _ (unflag c.byte.ensures c.if-byte.false)) (ne_eqb _ _ c.if-byte.false)

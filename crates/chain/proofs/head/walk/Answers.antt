@@ -23,30 +23,30 @@ returns-then-torn_here c = (
   omega arith,
 )
 
-pub walk_next-x-requires : goal.walk_next-x-requires
-walk_next-x-requires c = omega arith
+pub walk_next-requires : goal.walk_next-requires
+walk_next-requires c = omega arith
 
 pub returns-in_default : goal.returns-in_default
 returns-in_default c =
-    let x = c.walk_next-x.result in (
+    let x = c.walk_next.result in (
       walked_stop _ _ c.walk_plain-at.ensures.0 x (flag c.torn_here.ensures c.if-torn_here.false)
-          c.walk_next-x.ensures.0 (other_next x c.in_default.not-Record),
+          c.walk_next.ensures.0 (other_next x c.in_default.not-Record),
       omega arith,
     )
 
 pub size-at-requires : goal.size-at-requires
-size-at-requires c = let w = rw c.in-Record.is at c.walk_next-x.ensures.1 in omega arith
+size-at-requires c = let w = rw c.in-Record.is at c.walk_next.ensures.1 in omega arith
 
 pub overflow_add-at : goal.overflow_add-at
-overflow_add-at c = let w = rw c.in-Record.is at c.walk_next-x.ensures.1 in omega arith
+overflow_add-at c = let w = rw c.in-Record.is at c.walk_next.ensures.1 in omega arith
 
 pub loop-at-smaller : goal.loop-at-smaller
-loop-at-smaller c = let w = rw c.in-Record.is at c.walk_next-x.ensures.1 in omega arith
+loop-at-smaller c = let w = rw c.in-Record.is at c.walk_next.ensures.1 in omega arith
 
 pub loop-at-preserved : goal.loop-at-preserved
 loop-at-preserved c =
-    let w = rw c.in-Record.is at c.walk_next-x.ensures.1 in
+    let w = rw c.in-Record.is at c.walk_next.ensures.1 in
     rw c.size-at.ensures
-    (walked_step _ _ c.walk_plain-at.ensures.0 c.walk_next-x.result (flag c.torn_here.ensures c.if-torn_here.false)
-    c.walk_next-x.ensures.0
+    (walked_step _ _ c.walk_plain-at.ensures.0 c.walk_next.result (flag c.torn_here.ensures c.if-torn_here.false)
+    c.walk_next.ensures.0
     c.in-Record.n c.in-Record.d c.in-Record.is (omega arith))

@@ -15,25 +15,25 @@ loop-n-init c = (c.requires.0, omega arith)
 pub slice_bounds-plain_of-count : goal.slice_bounds-plain_of-count
 slice_bounds-plain_of-count c = omega (arith, c.loop-n.invariant.0.inside)
 
-pub returns-in_default : goal.returns-in_default
-returns-in_default c = c.loop-n.invariant
+pub returns : goal.returns
+returns c = c.loop-n.invariant
 
 pub size-at-requires : goal.size-at-requires
 size-at-requires c =
-    let w = rw c.in-Record.is at c.plain_of-x.ensures in
+    let w = rw c.in-Record.is at c.plain_of.ensures in
     (omega (arith, w.1.0), w.1.2)
 
 pub overflow_add-at : goal.overflow_add-at
 overflow_add-at c =
     let p = c.loop-n.invariant in
-    let w = rw c.in-Record.is at c.plain_of-x.ensures in
+    let w = rw c.in-Record.is at c.plain_of.ensures in
     let l = length_part c.args.image.now c.loop-n.at in
     omega (arith, c.size-at.ensures, w.1.1, l, p.0.inside, c.requires.1)
 
 pub loop-n-smaller : goal.loop-n-smaller
 loop-n-smaller c =
     let p = c.loop-n.invariant in
-    let w = rw c.in-Record.is at c.plain_of-x.ensures in
+    let w = rw c.in-Record.is at c.plain_of.ensures in
     let l = length_part c.args.image.now c.loop-n.at in
     omega (arith, c.size-at.ensures, w.1.1, l, p.0.inside)
 
@@ -44,7 +44,7 @@ loop-n-preserved c =
     let at = c.loop-n.at in
     let n = c.in-Record.n in
     let d = c.in-Record.d in
-    let w = rw c.in-Record.is at c.plain_of-x.ensures in (
+    let w = rw c.in-Record.is at c.plain_of.ensures in (
       rw c.size-at.ensures
           (walked_plain s at n d p.0 (subst (λ (t : List ℕ). PlainFront t (Next.Record n d)) (part_to_end s at) w)),
       omega (arith, p.1),

@@ -11,11 +11,7 @@ returns-then-byte c = rw (eq-eqb _ _ (flag c.byte.ensures c.if-byte.true))
 pub returns-then-record_magic : goal.returns-then-record_magic
 unfolding is_erased
 returns-then-record_magic c =
-    rw (
-      ne_eqb _ _ (unflag c.byte.ensures c.if-byte.false),
-      flag c.record_magic.ensures
-          c.if-record_magic.true,
-    )
+    rw (ne_eqb _ _ (unflag c.byte.ensures c.if-byte.false), flag c.record_magic.ensures c.if-record_magic.true) c.if-record_magic.true
 
 pub returns-then-at-eq0 : goal.returns-then-at-eq0
 unfolding is_erased
@@ -27,9 +23,9 @@ returns-then-at-eq0 c =
       c.clean_magic.ensures,
     )
 
-pub returns : goal.returns
+pub returns-else-at-eq0 : goal.returns-else-at-eq0
 unfolding is_erased
-returns c =
+returns-else-at-eq0 c =
     rw (
       ne_eqb _ _ (unflag c.byte.ensures c.if-byte.false),
       flag c.record_magic.ensures

@@ -19,30 +19,30 @@ returns-then-o-eq0 c =
     let e = entry_of a.image.now a.e in
     earlier_out e (earlier_beyond e c.loop-e.invariant c.skip_other_names-o.ensures) c.if-o-eq0.true
 
-pub advance-s-requires : goal.advance-s-requires
-advance-s-requires c = c.skip_other_names-o.ensures.gone.sound
+pub advance-requires : goal.advance-requires
+advance-requires c = c.skip_other_names-o.ensures.gone.sound
 
 pub returns-in_default : goal.returns-in_default
 returns-in_default c =
     let a = c.args in
     let e = entry_of a.image.now a.e in
-    let adv = c.advance-s in
+    let adv = c.advance in
     earlier_over e (earlier_beyond e c.loop-e.invariant c.skip_other_names-o.ensures) adv.result adv.ensures.0
     (other_step adv.result c.in_default.not-Record)
 
 pub earlier_with-f-requires : goal.earlier_with-f-requires
 earlier_with-f-requires c =
-    (c.requires.1, (passes c.advance-s.ensures c.in-Record.is).whole)
+    (c.requires.1, (passes c.advance.ensures c.in-Record.is).whole)
 
 pub loop-e-smaller : goal.loop-e-smaller
 loop-e-smaller c =
-    omega (arith, (passes c.advance-s.ensures c.in-Record.is).onward.less, c.skip_other_names-o.ensures.gone.few)
+    omega (arith, (passes c.advance.ensures c.in-Record.is).onward.less, c.skip_other_names-o.ensures.gone.few)
 
 pub loop-e-preserved : goal.loop-e-preserved
 loop-e-preserved c =
     let a = c.args in
     let e = entry_of a.image.now a.e in
-    let t = passes c.advance-s.ensures c.in-Record.is in
+    let t = passes c.advance.ensures c.in-Record.is in
     let o = c.skip_other_names-o in
     rw c.earlier_with-f.ensures
     (earlier_next e (earlier_beyond e c.loop-e.invariant o.ensures) t (o.result.left - 1) (omega (arith, c.if-o-eq0.false)))

@@ -2,4 +2,4 @@
 use Rattle.chain.proofs.names.earlier_with.Goals as goal
 
 pub returns : goal.returns
-returns c = rw (c.earlier_or-committed.ensures, c.earlier_or-migrating.ensures)
+returns c = rw (c.earlier_or.ensures, c.earlier_or-2.ensures)

@@ -4,5 +4,5 @@ use Rattle.chain.proofs.scan.fine_with.Goals as goal
 pub returns-then-fine : goal.returns-then-fine
 returns-then-fine c = rw c.if-fine.true c.name_fine.ensures
 
-pub returns : goal.returns
-returns c = rw c.if-fine.false
+pub returns-else-fine : goal.returns-else-fine
+returns-else-fine c = rw c.if-fine.false

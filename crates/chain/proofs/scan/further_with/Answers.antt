@@ -8,5 +8,5 @@ returns-then-further c = rw c.if-further.true
 pub returns-then-records-gt1 : goal.returns-then-records-gt1
 returns-then-records-gt1 c = rw (c.if-further.false, lt-ltb 1 _ c.if-records-gt1.true) c.marked.ensures
 
-pub returns : goal.returns
-returns c = rw (c.if-further.false, le-ltb 1 _ c.if-records-gt1.false)
+pub returns-else-records-gt1 : goal.returns-else-records-gt1
+returns-else-records-gt1 c = rw (c.if-further.false, le-ltb 1 _ c.if-records-gt1.false)

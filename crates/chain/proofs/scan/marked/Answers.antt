@@ -7,6 +7,6 @@ pub returns-then-low-eq-START : goal.returns-then-low-eq-START
 unfolding is_start
 returns-then-low-eq-START c = rw (← c.low_of-low.ensures, eq-eqb _ 0 c.if-low-eq-START.true)
 
-pub returns : goal.returns
+pub returns-else-low-eq-START : goal.returns-else-low-eq-START
 unfolding is_start
-returns c = rw (← c.low_of-low.ensures, ne_eqb _ 0 c.if-low-eq-START.false) c.is_clean.ensures
+returns-else-low-eq-START c = rw (← c.low_of-low.ensures, ne_eqb _ 0 c.if-low-eq-START.false) c.is_clean.ensures

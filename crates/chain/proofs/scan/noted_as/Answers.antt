@@ -12,8 +12,8 @@ pub returns : goal.returns
 returns c =
     let p = c.requires in
     let a = c.args in
-    let sums = c.sums_with-sums.ensures ∙ ap₂ (sums_with a.t.sums) c.size.ensures p.5 in
-    noted_is a.t a.e c.count_with-files.result c.sums_with-sums.result c.spot_if-one.result c.spot_if-two.result
-    a.fine c.further_with-further.result a.pending p.0
-    (c.count_with-files.ensures ∙ ap (count_with a.t.files) p.5) sums
-    c.spot_if-one.ensures c.spot_if-two.ensures p.6 c.further_with-further.ensures p.2
+    let sums = c.sums_with.ensures ∙ ap₂ (sums_with a.t.sums) c.size.ensures p.5 in
+    noted_is a.t a.e c.count_with.result c.sums_with.result c.spot_if.result c.spot_if-2.result
+    a.fine c.further_with.result a.pending p.0
+    (c.count_with.ensures ∙ ap (count_with a.t.files) p.5) sums
+    c.spot_if.ensures c.spot_if-2.ensures p.6 c.further_with.ensures p.2

@@ -3,4 +3,4 @@ use Rattle.chain.proofs.scan.noted_plain.Goals as goal
 
 pub returns : goal.returns
 returns c =
-    rw (c.count_with-files.ensures, c.sums_with-sums.ensures, c.size.ensures)
+    rw (c.count_with.ensures, c.sums_with.ensures, c.size.ensures)

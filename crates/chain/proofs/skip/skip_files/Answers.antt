@@ -15,28 +15,28 @@ pub returns-in_default : goal.returns-in_default
 returns-in_default c = c.loop-e.invariant
 
 pub is_file-requires : goal.is_file-requires
-is_file-requires c = (rw c.in-Record.is at c.near-s.ensures).0.whole
+is_file-requires c = (rw c.in-Some.is at c.near-s.ensures).0.whole
 
 pub returns-then-more-eq0 : goal.returns-then-more-eq0
 returns-then-more-eq0 c = c.loop-e.invariant
 
 pub loop-e-smaller-else-more-eq0 : goal.loop-e-smaller-else-more-eq0
 loop-e-smaller-else-more-eq0 c =
-    (rw c.in-Record.is at c.near-s.ensures).0.onward.less
+    (rw c.in-Some.is at c.near-s.ensures).0.onward.less
 
 pub loop-e-preserved-else-more-eq0 : goal.loop-e-preserved-else-more-eq0
 loop-e-preserved-else-more-eq0 c =
     let inv = c.loop-e.invariant in
-    let w = rw c.in-Record.is at c.near-s.ensures in
+    let w = rw c.in-Some.is at c.near-s.ensures in
     let f = flag c.is_file.ensures c.if-is_file.true in
     (nth_onward is_file inv.0 w.0 f c.if-more-eq0.false, omega (arith, inv.1, w.0.onward.less))
 
 pub loop-e-smaller : goal.loop-e-smaller
 loop-e-smaller c =
-    (rw c.in-Record.is at c.near-s.ensures).0.onward.less
+    (rw c.in-Some.is at c.near-s.ensures).0.onward.less
 
 pub loop-e-preserved : goal.loop-e-preserved
 loop-e-preserved c =
     let inv = c.loop-e.invariant in
-    let w = rw c.in-Record.is at c.near-s.ensures in
+    let w = rw c.in-Some.is at c.near-s.ensures in
     (nth_skip is_file inv.0 w.0 (flag c.is_file.ensures c.if-is_file.false), omega (arith, inv.1, w.0.onward.less))

@@ -2,7 +2,6 @@
 use mathlib.Core.Path.{subst}
 use mathlib.Core.List.{List}
 use Prim.Native.Nat.{ℕ}
-use Rattle.chain.specs.FileLaws.{name_part}
 use Rattle.chain.specs.Skip.{SkipsOthers}
 use Rattle.chain.proofs.skip.skip_other_names.Goals as goal
 
@@ -11,4 +10,4 @@ returns c =
     let a = c.args in
     let r = c.skip_others.result in
     subst (λ (name : List ℕ). SkipsOthers a.image.now a.start name a.most r.cursor r.left)
-    (name_part a.image.now a.e.at a.e.n) c.skip_others.ensures
+    c.name.ensures c.skip_others.ensures

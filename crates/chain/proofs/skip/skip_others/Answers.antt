@@ -13,19 +13,19 @@ pub returns-in_default : goal.returns-in_default
 returns-in_default c = c.loop-left.invariant
 
 pub is_file_named-requires : goal.is_file_named-requires
-is_file_named-requires c = (rw c.in-Record.is at c.near-s.ensures).0.whole
+is_file_named-requires c = (rw c.in-Some.is at c.near-s.ensures).0.whole
 
 pub returns-then-is_file_named : goal.returns-then-is_file_named
 returns-then-is_file_named c = c.loop-left.invariant
 
 pub loop-left-smaller : goal.loop-left-smaller
 loop-left-smaller c =
-    (rw c.in-Record.is at c.near-s.ensures).0.onward.less
+    (rw c.in-Some.is at c.near-s.ensures).0.onward.less
 
 pub loop-left-preserved : goal.loop-left-preserved
 loop-left-preserved c =
     let loop = c.loop-left in
-    skips_more loop.invariant (rw c.in-Record.is at c.near-s.ensures).0 (flag c.is_file_named.ensures c.if-is_file_named.false)
+    skips_more loop.invariant (rw c.in-Some.is at c.near-s.ensures).0 (flag c.is_file_named.ensures c.if-is_file_named.false)
     (omega arith)
 
 pub returns : goal.returns

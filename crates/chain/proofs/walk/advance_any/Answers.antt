@@ -3,21 +3,21 @@
 use Rattle.chain.specs.CursorLaws.{sound_turn, advanced_on, advanced_here}
 use Rattle.chain.proofs.walk.advance_any.Goals as goal
 
-pub look-y-requires : goal.look-y-requires
-look-y-requires c = rw c.turn-t.ensures (sound_turn _ _ c.requires)
+pub look-requires : goal.look-requires
+look-requires c = rw c.turn-t.ensures (sound_turn _ _ c.requires)
 
 pub settle-requires : goal.settle-requires
 settle-requires c = (
   rw c.turn-t.ensures
       (sound_turn _ _ c.requires),
-  c.look-y.ensures.1,
+  c.look.ensures.1,
 )
 
 pub returns-then-goes_on : goal.returns-then-goes_on
 returns-then-goes_on c =
     advanced_on _ _ c.look-x.result c.goes_on.result c.requires c.look-x.ensures.0 c.goes_on.ensures c.turn-t.result
-    c.look-y.result c.settle.result c.if-goes_on.true c.turn-t.ensures
-    c.look-y.ensures.0 c.settle.ensures c.look-y.ensures.1
+    c.look.result c.settle.result c.if-goes_on.true c.turn-t.ensures
+    c.look.ensures.0 c.settle.ensures c.look.ensures.1
 
 pub returns : goal.returns
 returns c =

@@ -2,4 +2,4 @@
 use Rattle.chain.proofs.walk.record_at.Goals as goal
 
 pub returns : goal.returns
-returns c = rw (c.size-s.ensures, c.unfinished-pending.ensures)
+returns c = rw (c.size.ensures, c.unfinished.ensures)

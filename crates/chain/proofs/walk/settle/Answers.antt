@@ -9,17 +9,5 @@ record_at-requires c =
 pub returns-in-Record : goal.returns-in-Record
 returns-in-Record c = rw c.in-Record.is c.record_at.ensures
 
-pub returns-in-Wrap : goal.returns-in-Wrap
-returns-in-Wrap c = rw c.in-Wrap.is
-
 pub returns-in-TornWrap : goal.returns-in-TornWrap
 returns-in-TornWrap c = rw c.in-TornWrap.is c.torn_end.ensures
-
-pub returns-in-Clear : goal.returns-in-Clear
-returns-in-Clear c = rw c.in-Clear.is
-
-pub returns-in-Over : goal.returns-in-Over
-returns-in-Over c = rw c.in-Over.is
-
-pub returns-in-Bad : goal.returns-in-Bad
-returns-in-Bad c = rw c.in-Bad.is

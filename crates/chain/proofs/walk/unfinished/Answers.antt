@@ -4,10 +4,10 @@ use Rattle.spec.specs.Bytes.{is_erased, is_reserved, is_unfinished}
 use lib.Seq.{get_or-drop}
 use Rattle.chain.proofs.walk.unfinished.Goals as goal
 
-pub returns-then-image-a : goal.returns-then-image-a
+pub returns-then-status : goal.returns-then-status
 unfolding is_unfinished is_erased is_reserved
-returns-then-image-a c = rw (get_or-drop, eq-eqb _ 0xFF c.if-image-a.true)
+returns-then-status c = rw (get_or-drop, eq-eqb _ 0xFF c.if-status.true)
 
-pub returns : goal.returns
+pub returns-else-status : goal.returns-else-status
 unfolding is_unfinished is_erased is_reserved
-returns c = rw (get_or-drop, ne_eqb _ 0xFF c.if-image-a.false)
+returns-else-status c = rw (get_or-drop, ne_eqb _ 0xFF c.if-status.false)

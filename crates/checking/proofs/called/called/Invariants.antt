@@ -5,8 +5,8 @@ use Rattle.checking.specs.Called.{is_called}
 use Rattle.chain.specs.Cursor.{left}
 use Rattle.checking.proofs.called.called.Given as goal
 
-abbrev pub invariant-loop-e : goal.invariant-loop-e
-invariant-loop-e l = Folded (any_of (is_called l.status.byte l.name)) l.image l.initial.c tt l.c tt
+abbrev pub invariant-loop-spot : goal.invariant-loop-spot
+invariant-loop-spot l = Folded (any_of (is_called l.status.byte l.name)) l.image l.initial.c tt l.c tt
 
-abbrev pub decreases-loop-e : goal.decreases-loop-e
-decreases-loop-e l = left l.c
+abbrev pub decreases-loop-spot : goal.decreases-loop-spot
+decreases-loop-spot l = left l.c

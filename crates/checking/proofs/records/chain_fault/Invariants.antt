@@ -3,8 +3,8 @@ use Rattle.checking.specs.Records.{all_of}
 use Rattle.checking.specs.Following.{Going}
 use Rattle.checking.proofs.records.chain_fault.Given as goal
 
-abbrev pub invariant-loop-e : goal.invariant-loop-e
-invariant-loop-e l = Going l.image l.start l.ending (all_of l.image l.start l.cut) l.c l.count
+abbrev pub invariant-loop-spot : goal.invariant-loop-spot
+invariant-loop-spot l = Going l.image l.start l.ending (all_of l.image l.start l.cut) l.c l.count
 
-abbrev pub decreases-loop-e : goal.decreases-loop-e
-decreases-loop-e l = left l.c
+abbrev pub decreases-loop-spot : goal.decreases-loop-spot
+decreases-loop-spot l = left l.c

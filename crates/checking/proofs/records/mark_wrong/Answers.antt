@@ -1,12 +1,9 @@
-use Rattle.checking.specs.Following.{mark_first, mark_second, mark_further}
+use Rattle.checking.specs.Following.{mark_first, mark_further}
 use borrow.Author.Rules.{rules}
 use Rattle.checking.proofs.records.mark_wrong.Goals as goal
 
-pub returns-then-count-eq0 : goal.returns-then-count-eq0
-returns-then-count-eq0 c = search (mark_first, mark_second, mark_further, rules)
+pub returns-in-0 : goal.returns-in-0
+returns-in-0 c = mark_first _ _ _ _ c.requires.3 c.in-0.is
 
-pub returns-then-count-eq1 : goal.returns-then-count-eq1
-returns-then-count-eq1 c = search (mark_first, mark_second, mark_further, rules)
-
-pub returns : goal.returns
-returns c = search (mark_first, mark_second, mark_further, rules)
+pub returns-in_default : goal.returns-in_default
+returns-in_default c = search (mark_further, rules)

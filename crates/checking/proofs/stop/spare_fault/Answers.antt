@@ -1,15 +1,16 @@
 use Rattle.checking.specs.Stop.{spare_there, spare_last, spare_long, spare_past}
 use borrow.Author.Rules.{rules}
 use Rattle.checking.proofs.stop.spare_fault.Goals as goal
+use Rattle.checking.proofs.stop.spare_fault.Goals.{else-p-l-via-then-p-l+then-size-l+else-stands_behind}
+use Rattle.checking.proofs.stop.spare_fault.Goals.{else-p-l-via-then-p-l+else-size-l, else-p-l-via-else-p-l}
 
 pub returns-then-stands_behind : goal.returns-then-stands_behind
-returns-then-stands_behind c = search (spare_there, spare_last, spare_long, spare_past, rules)
+returns-then-stands_behind c = search (spare_there, rules)
 
-pub returns-else-stands_behind : goal.returns-else-stands_behind
-returns-else-stands_behind c = search (spare_there, spare_last, spare_long, spare_past, rules)
-
-pub returns-else-size-l : goal.returns-else-size-l
-returns-else-size-l c = search (spare_there, spare_last, spare_long, spare_past, rules)
-
-pub returns-else-p-l : goal.returns-else-p-l
-returns-else-p-l c = search (spare_there, spare_last, spare_long, spare_past, rules)
+pub returns : goal.returns
+returns c =
+    elim c.else-p-l.branch [
+      | else-p-l-via-then-p-l+then-size-l+else-stands_behind w ↦ search (spare_last, rules)
+      | else-p-l-via-then-p-l+else-size-l w ↦ search (spare_long, rules)
+      | else-p-l-via-else-p-l w ↦ search (spare_past, rules)
+    ]

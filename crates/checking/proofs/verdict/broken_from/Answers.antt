@@ -1,15 +1,10 @@
-use mathlib.Core.Path.{sym, ◌∙◌}
+use Rattle.std.proofs.Common.{sym, ◌∙◌}
 use Rattle.checking.specs.Last.{broken_there, broken_not}
-use borrow.Author.Rules.{rules}
 use Rattle.checking.proofs.verdict.broken_from.Goals as goal
 
-pub returns-in-Nothing : goal.returns-in-Nothing
-returns-in-Nothing c = let a = c.args in
-    broken_not a.image.now a.h c.survey-s.result c.survey-s.ensures.same _
-    c.requires.2 c.first_fault-f.ensures (search rules)
+pub unreachable-requires : goal.unreachable-requires
+unreachable-requires c =
+    broken_not _ _ c.survey.result c.survey.ensures.same c.requires.2 (sym c.in_default.is ∙ c.first_fault.ensures)
 
-pub returns-in-At : goal.returns-in-At
-returns-in-At c = let a = c.args in
-    broken_there a.image.now a.h c.survey-s.result
-    c.survey-s.ensures.same _ _
-    (sym c.in-At.is ∙ c.first_fault-f.ensures)
+pub returns : goal.returns
+returns c = broken_there _ _ c.survey.result c.survey.ensures.same _ (sym c.in-Some.is ∙ c.first_fault.ensures)

@@ -1,17 +1,10 @@
-use Rattle.checking.specs.Last.{stop_cut, stop_none}
+use Rattle.spec.specs.Fault.{stop_rule}
+use Rattle.checking.specs.Last.{stop_cut}
 use Rattle.checking.proofs.verdict.stop_rule.Goals as goal
 
-pub cut_name-requires : goal.cut_name-requires
-cut_name-requires c = (
-  rw c.first_cursor-start.ensures
-      c.requires.0.tallied.sound,
-  (c.requires.1.name c.if-cut.true).1,
-)
+pub returns-in-Some : goal.returns-in-Some
+returns-in-Some c = rw c.in-Some.is (stop_cut _ c.args.s _ _ _ c.first_cursor.ensures c.cut_name.ensures)
 
-pub returns-then-cut : goal.returns-then-cut
-returns-then-cut c = let a = c.args in
-    stop_cut a.image.now a.s a.cut _ _ c.if-cut.true c.first_cursor-start.ensures c.cut_name.ensures
-
-pub returns : goal.returns
-returns c = let a = c.args in
-    stop_none a.image.now a.s a.cut _ c.if-cut.false c.shape_fault.ensures
+pub returns-in-None : goal.returns-in-None
+unfolding stop_rule
+returns-in-None c = rw c.in-None.is c.shape_fault.ensures

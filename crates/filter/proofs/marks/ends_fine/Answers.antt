@@ -1,15 +1,26 @@
--- ends_fine: the tests in their order.
+-- ends_fine: the tests in their order; the definitions go to the last byte, which the code reads at once.
+use mathlib.Core.Path.{ap}
+use mathlib.Core.Bool.{not}
 use native.Mathlib.Omega.{arith}
-use Rattle.filter.specs.Marks.{fine_none, fine_space, fine_more}
+use borrow.Author.Tests.{eq-eqb, ne_eqb}
+use Rattle.laws.specs.Spaces.{space_last}
+use Rattle.record.specs.NameLaws.{slash_last}
+use Rattle.record.specs.Flags.{and_first, and_second}
+use Rattle.filter.specs.Marks.{fine_space, fine_more}
 use Rattle.filter.proofs.marks.ends_fine.Goals as goal
 
-pub returns-then-name-eq0 : goal.returns-then-name-eq0
-returns-then-name-eq0 c = fine_none c.args.name.now c.if-name-eq0.true
+pub returns-in-empty-2 : goal.returns-in-empty-2
+returns-in-empty-2 c = fine_space c.args.name.now (omega arith) (omega arith)
 
-pub returns-then-name-eq32 : goal.returns-then-name-eq32
-returns-then-name-eq32 c = fine_space c.args.name.now (omega arith) c.if-name-eq32.true
+pub returns-then-last-ne32 : goal.returns-then-last-ne32
+returns-then-last-ne32 c =
+    let n = c.args.name.now in
+    let h = c.in-len1-up.len_at_least in
+    fine_more n _ (omega arith) (λ e. omega arith)
+    (and_second (ap not (space_last n h)) (ap not (ne_eqb _ _ c.if-last-ne32.true)) (ap not (slash_last n h)))
 
-pub returns : goal.returns
-returns c =
-    fine_more c.args.name.now c.last_fine.result (omega arith) c.if-name-eq32.false
-    c.last_fine.ensures
+pub returns-else-last-ne32 : goal.returns-else-last-ne32
+returns-else-last-ne32 c =
+    let n = c.args.name.now in
+    let h = c.in-len1-up.len_at_least in
+    fine_more n _ (omega arith) (λ e. omega arith) (and_first (ap not (space_last n h)) _ (ap not (eq-eqb _ _ c.if-last-ne32.false)))

@@ -21,6 +21,6 @@ returns c =
     let f = c.filled.ensures ∙ ap (λ (x : ℕ). filled x k) low in (
       c.mixed.ensures.0 ∙ ap (mixed 0) (low ∙ ap number t),
       c.mixed.ensures.1,
-      c.all_readable-readable.ensures ∙ ap (λ (x : ℕ). all is_readable (digits 8 x)) f ∙ low_readable k w.result (omega arith)
+      c.all_readable.ensures ∙ ap (λ (x : ℕ). all is_readable (digits 8 x)) f ∙ low_readable k w.result (omega arith)
           ∙ ap (all is_readable) t,
     )

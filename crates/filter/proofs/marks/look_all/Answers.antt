@@ -1,43 +1,32 @@
-use Prim.Native.Nat.{◌%◌}
-use mathlib.Core.Path.{refl}
+use Prim.Native.Nat.{◌+◌, ◌*◌, ◌/◌, ◌%◌, ℕ}
+use mathlib.Core.List.{List, []}
+use mathlib.Core.Path.{◌≡◌, ap, subst, ◌∙◌}
+use lib.ListN.{length, take, get_or}
 use native.Mathlib.Omega.{arith}
-use Rattle.filter.specs.Marks.{looked_first, looked_inside, looked_next, looked_all}
+use Rattle.std.specs.Int.{from_le_bytes, w64}
+use Rattle.filter.specs.Hash.{chunk_number}
+use Rattle.filter.specs.Marks.{LookedAt, size, looked_first, looked_next}
 use Rattle.filter.proofs.marks.look_all.Goals as goal
 
-pub look-x-requires : goal.look-x-requires
-look-x-requires c = (omega arith, omega arith)
-
-pub loop-i-init : goal.loop-i-init
-loop-i-init c =
+pub loop-word-init : goal.loop-word-init
+loop-word-init c =
     let a = c.args in
-    looked_first a.part.now a.n (omega arith) (a.n % 8) c.look-x.result refl c.look-x.ensures
+    let e : length c.as_rchunks.result.0.now ≡ length (take a.n a.part.now) % 8 + 0 = omega (arith, c.as_rchunks.ensures.front_len) in
+    subst (λ (i : ℕ). LookedAt (take a.n a.part.now) i c.look-x.result) e
+    (looked_first a.part.now a.n (omega arith) _ c.look-x.result (omega (arith, e, size a.part.now a.n (omega arith))) c.look-x.ensures)
 
-pub look_on-x-requires : goal.look_on-x-requires
-look_on-x-requires c =
-    let l = c.loop-i in
+pub loop-word-preserved : goal.loop-word-preserved
+loop-word-preserved c =
     let a = c.args in
-    (omega (arith, looked_inside a.part.now a.n (omega arith) l.i l.x l.invariant (omega arith)), l.invariant.hashed.small)
-
-pub overflow_add-i : goal.overflow_add-i
-overflow_add-i c =
-    let l = c.loop-i in
-    let a = c.args in
-    omega (arith, looked_inside a.part.now a.n (omega arith) l.i l.x l.invariant (omega arith))
-
-pub loop-i-smaller : goal.loop-i-smaller
-loop-i-smaller c =
-    let l = c.loop-i in
-    let a = c.args in
-    omega (arith, looked_inside a.part.now a.n (omega arith) l.i l.x l.invariant (omega arith))
-
-pub loop-i-preserved : goal.loop-i-preserved
-loop-i-preserved c =
-    let l = c.loop-i in
-    let a = c.args in
-    looked_next a.part.now a.n (omega arith) l.i l.x c.look_on-x.result l.invariant (omega arith) c.look_on-x.ensures
-
-pub returns : goal.returns
-returns c =
-    let l = c.loop-i in
-    let a = c.args in
-    looked_all a.part.now a.n (omega arith) l.i l.x l.invariant (omega arith)
+    let l = c.loop-word in
+    let s = take a.n a.part.now in
+    let k = length s % 8 in
+    let j = l.word-index in
+    let long = size a.part.now a.n (omega arith) in
+    let words = c.as_rchunks.ensures in
+    let word = ap (λ (ws : List (List ℕ)). from_le_bytes w64 (get_or ws j [])) words.back
+    ∙ chunk_number s k (length s / 8) j (omega (arith, words.back_len)) (omega arith) in
+    let e : k + j * 8 + 8 ≡ k + (j + 1) * 8 = omega arith in
+    subst (λ (i : ℕ). LookedAt s i c.with-x.result) e
+    (looked_next a.part.now a.n (omega arith) (λ i. omega (arith, c.type_inv.part i)) (k + j * 8) c.from_le_bytes.result l.x c.with-x.result
+    l.invariant (omega (arith, words.back_len, long)) (c.from_le_bytes.ensures ∙ word) c.with-x.ensures)

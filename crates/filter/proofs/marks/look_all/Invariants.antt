@@ -1,11 +1,8 @@
--- look_all: what was seen of the words before i, and of those from there on.
-use Prim.Native.Nat.{◌-◌}
-use lib.ListN.{take}
+-- look_all: what was seen of the bytes before the word, and of those from there on.
+use Prim.Native.Nat.{◌+◌, ◌*◌, ◌%◌}
+use lib.ListN.{length, take}
 use Rattle.filter.specs.Marks.{LookedAt}
 use Rattle.filter.proofs.marks.look_all.Given as goal
 
-abbrev pub invariant-loop-i : goal.invariant-loop-i
-invariant-loop-i l = LookedAt (take l.n l.part) l.i l.x
-
-abbrev pub decreases-loop-i : goal.decreases-loop-i
-decreases-loop-i l = l.n - l.i
+abbrev pub invariant-loop-word : goal.invariant-loop-word
+invariant-loop-word l = let s = take l.n l.part in LookedAt s (length s % 8 + l.word-index * 8) l.x

@@ -1,12 +1,8 @@
 -- marks: all bytes can be read, and the ends are fine; the hash is that of all words.
-use mathlib.Core.Path.{sym, ◌∙◌}
 use lib.ListN.{take}
 use native.Mathlib.Omega.{arith}
 use Rattle.filter.specs.Marks.{size, told_readable, told_hash, name_ok_by}
 use Rattle.filter.proofs.marks.marks.Goals as goal
-
-pub slice_bounds-ends_fine-end : goal.slice_bounds-ends_fine-end
-slice_bounds-ends_fine-end c = sym (size c.args.part.now c.args.n (omega arith))
 
 pub returns : goal.returns
 returns c =
@@ -17,8 +13,7 @@ returns c =
     let ends = c.ends_fine in
     record {
       fine =
-          c.both-fine.ensures
-          ∙ name_ok_by s x.result.readable ends.result (omega (arith, size a.part.now a.n (omega arith)))
+          name_ok_by s x.result.readable ends.result (omega (arith, size a.part.now a.n (omega arith)))
           (told_readable a.part.now a.n (omega arith) x.result x.ensures) ends.ensures;
       hash = h;
       small = omega arith;

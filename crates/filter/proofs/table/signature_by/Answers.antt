@@ -5,4 +5,4 @@ use Rattle.filter.proofs.table.signature_by.Goals as goal
 
 pub returns : goal.returns
 unfolding signature_by
-returns c = (rw c.three_bits-bits.ensures, record { first = omega arith; second = omega arith; third = omega arith })
+returns c = (rw c.three_bits.ensures, record { first = omega arith; second = omega arith; third = omega arith })

@@ -2,11 +2,10 @@ use Prim.Native.Nat.{ℕ}
 use mathlib.Core.Path.{sym, ap₂, ◌∙◌}
 use mathlib.Core.Bool.{Bool}
 use Rattle.chain.specs.Fold.{content_length_is}
-use Rattle.headers.specs.declared.Size.{Size}
+use Rattle.headers.specs.Answers.{Size}
 use Rattle.headers.specs.Sizes.{first_of}
 use Rattle.headers.proofs.first.noted.Goals as goal
 
--- src/first.rt:68:1
 pub returns : goal.returns
 returns c =
     let a = c.args in

@@ -5,7 +5,6 @@ use Rattle.record.specs.Within.{Within}
 use Rattle.headers.specs.Fore.{fore_look_is}
 use Rattle.headers.proofs.front.look.Goals as goal
 
--- src/front.rt:31:1
 pub returns : goal.returns
 returns c =
     let p = c.requires in

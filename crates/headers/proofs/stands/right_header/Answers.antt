@@ -3,7 +3,6 @@ use mathlib.Core.Path.{ap, ◌∙◌}
 use Rattle.laws.specs.Flag.{flag}
 use Rattle.headers.proofs.stands.right_header.Goals as goal
 
--- src/stands.rt:33:9
 pub returns-then-right_mark : goal.returns-then-right_mark
 returns-then-right_mark c =
     let a = c.args in
@@ -12,7 +11,7 @@ returns-then-right_mark c =
       c.unfinished.ensures,
     )
 
--- src/stands.rt:26:1
-pub returns : goal.returns
-returns c = let a = c.args in
-    rw (flag (c.right_mark.ensures ∙ ap (right_mark a.first) c.low_of.ensures) c.if-right_mark.false)
+pub returns-else-right_mark : goal.returns-else-right_mark
+returns-else-right_mark c =
+    let a = c.args in
+    rw (flag (c.right_mark.ensures ∙ ap (right_mark a.first) c.low_of.ensures) c.if-right_mark.false) c.if-right_mark.false

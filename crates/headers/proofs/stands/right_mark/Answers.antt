@@ -1,11 +1,9 @@
 use Rattle.spec.specs.Bytes.{is_start}
 use Rattle.headers.proofs.stands.right_mark.Goals as goal
 
--- src/stands.rt:20:9
 pub returns-then-first : goal.returns-then-first
 unfolding is_start
 returns-then-first c = rw c.if-first.true
 
--- src/stands.rt:16:1
 pub returns : goal.returns
 returns c = rw c.if-first.false c.is_record.ensures

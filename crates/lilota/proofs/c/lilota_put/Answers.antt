@@ -1,8 +1,9 @@
 -- The numbers of put's answer, through pointers.
+use Rattle.spec.specs.Numbers.{outcome_of}
 use Rattle.calls.specs.Numbers.{stored_given}
 use Rattle.lilota.proofs.c.lilota_put.Goals as goal
 
 pub returns : goal.returns
 returns c =
-    stored_given c.put-w.result _ _ _ _ _ _ c.answer.ensures c.fault-f.ensures c.space-y.ensures c.steps.ensures
-    c.put-w.ensures.0
+    rw (c.tell_fault.ensures, c.tell_space.ensures)
+    (stored_given (λ m. outcome_of m c.put.new.image) _ _ c.from-n.ensures c.put.ensures.0)

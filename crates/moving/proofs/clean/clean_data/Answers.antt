@@ -1,11 +1,7 @@
 -- X's data by its address and length.
-use native.Mathlib.Omega.{arith}
 use Rattle.moving.specs.Clean.{cleaned_is}
 use Rattle.moving.proofs.clean.clean_data.Goals as goal
 
-pub returns : goal.returns
-returns c =
-    record {
-      fact = rw (cleaned_is c.args.image.now c.args.x c.requires.whole c.up_8.ensures) c.clean_bytes.ensures.fact;
-      asked_most = omega arith;
-    }
+pub returns-clause-fact : goal.returns-clause-fact
+returns-clause-fact c =
+    rw (cleaned_is c.args.image.now c.args.x c.requires.whole c.up_8.ensures) c.clean_bytes.ensures.fact

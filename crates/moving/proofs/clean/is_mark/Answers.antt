@@ -8,8 +8,3 @@ pub returns-then-is_low : goal.returns-then-is_low
 unfolding is_high
 returns-then-is_low c =
     ap (λ t. t && is_high c.args.c) (sym c.if-is_low.true ∙ c.is_low.ensures)
-
-pub returns-else-is_low : goal.returns-else-is_low
-unfolding is_high
-returns-else-is_low c =
-    c.if-is_low.false ∙ ap (λ t. t && is_high c.args.c) (sym c.if-is_low.false ∙ c.is_low.ensures)

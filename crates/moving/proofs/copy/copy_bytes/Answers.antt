@@ -1,15 +1,11 @@
 use Rattle.moving.specs.Untouched.{length_part}
 use Rattle.moving.specs.Copied.{copy_more}
-use mathlib.Core.Path.{◌≡◌, refl}
+use mathlib.Core.Path.{◌≡◌}
 use lib.ListN.{length, take, drop}
-use lib.Seq.{take_all, length-take-le}
+use lib.Seq.{length-take-le}
 use Rattle.laws.specs.Steps.{length_bytes}
-use Rattle.flash.specs.Did.{did_none}
 use native.Mathlib.Omega.{arith}
 use Rattle.moving.proofs.copy.copy_bytes.Goals as goal
-
-pub loop-i-init : goal.loop-i-init
-loop-i-init c = (omega arith, refl, did_none c.args.image.now c.args.m)
 
 pub program-q-requires : goal.program-q-requires
 program-q-requires c =
@@ -24,16 +20,5 @@ loop-i-preserved c =
     let a = c.args in (
       omega arith,
       omega arith,
-      copy_more a.from a.to a.n
-          c.loop-i.i
-          c.requires.n_in_bounds.2 (omega arith) (omega arith)
-          c.loop-i.invariant.2
-          c.program-q.ensures,
+      copy_more a.from a.to a.n c.loop-i.i c.requires.n_in_bounds.2 (omega arith) (omega arith) c.loop-i.invariant.2 c.program-q.ensures,
     )
-
-pub returns : goal.returns
-returns c =
-    let a = c.args in
-    let w = take a.n (drop a.from a.image.now) in
-    rw (take_all c.loop-i.i w (omega (arith, length_part a.from a.n a.image.now (omega arith)))) at
-    c.loop-i.invariant.2

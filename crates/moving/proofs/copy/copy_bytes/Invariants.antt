@@ -1,5 +1,5 @@
 -- The invariant: the steps of the first i bytes are done; the next byte to read is still as it was at entry.
-use Prim.Native.Nat.{◌-◌, ◌≤◌}
+use Prim.Native.Nat.{◌≤◌}
 use mathlib.Core.Path.{◌≡◌}
 use lib.ListN.{length, take, drop}
 use Rattle.spec.specs.Step.{bytes_at}
@@ -10,6 +10,3 @@ abbrev pub invariant-loop-i : goal.invariant-loop-i
 invariant-loop-i l =
     (l.i ≤ l.n) × (length l.image ≡ length l.initial.image)
     × Did l.initial.image l.initial.q (bytes_at l.to (take l.i (take l.n (drop l.from l.initial.image)))) l.image l.q
-
-abbrev pub decreases-loop-i : goal.decreases-loop-i
-decreases-loop-i l = l.n - l.i

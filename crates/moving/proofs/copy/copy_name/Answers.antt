@@ -8,15 +8,11 @@ use Rattle.flash.specs.Did.{did_both}
 use native.Mathlib.Omega.{arith}
 use Rattle.moving.proofs.copy.copy_name.Goals as goal
 
-pub write_end-requires : goal.write_end-requires
-write_end-requires c =
+pub write_end-requires-clause-can_count : goal.write_end-requires-clause-can_count
+write_end-requires-clause-can_count c =
     let a = c.args in
-    omega (
-      arith,
-      length_bytes (a.to + 8) (take a.n (drop (a.from + 8) a.image.now)),
-      length_part (a.from + 8) a.n a.image.now
-          (omega arith),
-    )
+    let w = take a.n (drop (a.from + 8) a.image.now) in
+    omega (arith, length_bytes (a.to + 8) w, length_part (a.from + 8) a.n a.image.now (omega arith))
 
 pub returns : goal.returns
 returns c =

@@ -1,26 +1,23 @@
 -- By its status.
-use native.Mathlib.Omega.{arith}
+use Rattle.std.proofs.Common.{sym, ◌∙◌, eqb-true}
+use Rattle.std.proofs.lemmas.Bool.{eqb-false}
 use Rattle.recovery.specs.Last.{void_torn, void_reserved, void_finished}
-use Rattle.window.specs.Handed.{slices, handed_none}
+use Rattle.window.specs.Handed.{handed_none}
 use Rattle.planner.proofs.last.hand_void.Goals as goal
 
-pub returns-then-status : goal.returns-then-status
-returns-then-status c =
-    let a = c.args in
-    let h = c.hand_torn.ensures in
-    record { handed = rw (void_torn a.image.now a.e c.if-status.true) h; passed_bound = omega (arith, h.count) }
+pub returns-then-eq-clause-handed : goal.returns-then-eq-clause-handed
+returns-then-eq-clause-handed c =
+    let status = sym c.from_byte-status.ensures ∙ eqb-true _ 0xFF (sym c.if-eq.ensures) in
+    rw (void_torn c.args.image.now c.args.e status) c.hand_torn.ensures
 
-pub returns-then-status-2 : goal.returns-then-status-2
-returns-then-status-2 c =
-    let a = c.args in
-    let h = c.hand_reserved.ensures in
-    record { handed = rw (void_reserved a.image.now a.e c.if-status-2.true) h.handed; passed_bound = omega (arith, h.passed_bound) }
+pub returns-then-eq-2-clause-handed : goal.returns-then-eq-2-clause-handed
+returns-then-eq-2-clause-handed c =
+    let status = sym c.from_byte-status.ensures ∙ eqb-true _ 0xFE (sym c.if-eq-2.ensures) in
+    rw (void_reserved c.args.image.now c.args.e status) c.hand_reserved.ensures.handed
 
-pub returns : goal.returns
-returns c =
-    let a = c.args in
-    let s = slices a.kinds.now a.addresses.now a.bytes.now in
-    record {
-      handed = rw (void_finished a.image.now a.e c.if-status.false c.if-status-2.false) (handed_none s a.w);
-      passed_bound = omega arith;
-    }
+pub returns-else-eq-2-clause-handed : goal.returns-else-eq-2-clause-handed
+returns-else-eq-2-clause-handed c =
+    let read = c.from_byte-status.ensures in
+    let torn = eqb-false _ 0xFF (sym c.if-eq.ensures) in
+    let reserved = eqb-false _ 0xFE (sym c.if-eq-2.ensures) in
+    rw (void_finished c.args.image.now c.args.e (λ h. torn (read ∙ h)) (λ h. reserved (read ∙ h))) (handed_none c.args.out.now)

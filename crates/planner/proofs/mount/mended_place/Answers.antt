@@ -1,5 +1,5 @@
 -- The second record is the head, or the first stays.
-use mathlib.Core.Path.{sym, ◌∙◌}
+use Rattle.std.proofs.Common.{sym, ◌∙◌}
 use Rattle.planner.specs.Mount.{place_led, place_stays}
 use Rattle.planner.proofs.mount.mended_place.Goals as goal
 

@@ -1,13 +1,19 @@
--- Y at 0, or not.
-use mathlib.Core.Path.{sym, ap, ◌∙◌}
-use Rattle.planning.specs.Planned.{come_round}
-use Rattle.planner.specs.Place.{led_zero, led_other}
+-- Turned, unless Y is at 0.
+use Rattle.std.proofs.Common.{sym, ap, ◌∙◌, Bool, ◌&&◌, not, eqb}
+use Rattle.spec.specs.declared.Place.{Place}
+use Rattle.planning.specs.Planned.{come_round, led_place}
+use Rattle.planner.specs.Place.{with_head}
+use Rattle.planner.proofs.place.led.Goals.{then-p, else-p}
 use Rattle.planner.proofs.place.led.Goals as goal
 
-pub returns-then-y-eq0 : goal.returns-then-y-eq0
-returns-then-y-eq0 c =
-    c.come_round.ensures ∙ ap come_round c.with_head.ensures ∙ sym (led_zero c.args.p c.args.y c.if-y-eq0.true)
-
 pub returns : goal.returns
+unfolding led_place
 returns c =
-    c.come_round-2.ensures ∙ ap come_round c.with_head-2.ensures ∙ sym (led_other c.args.p c.args.y c.if-y-eq0.false)
+    let p = c.args.p in
+    let y = c.args.y in
+    let led : Bool → Place = λ t. come_round (with_head p y t) in
+    let both : Bool → Bool = λ t. t && not (eqb y 0) in
+    elim c.if-p.branch [
+      | then-p w ↦ c.come_round.ensures ∙ ap led (w.come_round-is ∙ ap both (sym w.if-p.true))
+      | else-p w ↦ c.come_round.ensures ∙ ap led (w.come_round-is ∙ w.if-p.false ∙ ap both (sym w.if-p.false))
+    ]

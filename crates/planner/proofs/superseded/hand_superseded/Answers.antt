@@ -1,5 +1,5 @@
 -- The cursor at the head, and the one behind the records that repair 2 takes away.
-use mathlib.Core.Path.{ap}
+use Rattle.std.proofs.Common.{ap}
 use Rattle.chain.specs.Rest.{rest}
 use Rattle.planner.specs.Mount.{drops_handed}
 use Rattle.planner.proofs.superseded.hand_superseded.Goals as goal
@@ -16,5 +16,5 @@ hand_drops-requires c =
 pub returns : goal.returns
 returns c =
     let im = c.args.image.now in
-    let h = c.hand_drops.ensures in
-    drops_handed (ap (λ k. (rest im k).entries) c.first_cursor-start.ensures) c.behind_first-from.ensures.1 c.leads.ensures h
+    drops_handed (ap (λ k. (rest im k).entries) c.first_cursor-start.ensures) c.behind_first-from.ensures.1 c.leads.ensures
+    c.hand_drops.ensures

@@ -1,11 +1,9 @@
 -- Nothing at the cursor; a live record; or a dead one.
-use mathlib.Core.Path.{ap}
-use native.Mathlib.Omega.{arith}
+use Rattle.std.proofs.Common.{ap}
 use Rattle.laws.specs.Flag.{flag}
 use Rattle.chain.specs.Rest.{Run, rest}
 use Rattle.chain.specs.Fold.{passes, rest_done}
 use Rattle.chain.proofs.Others.{other_step}
-use Rattle.window.specs.Handed.{slices}
 use Rattle.planner.specs.Moves.{move_none, move_live, move_dead}
 use Rattle.planner.proofs.sweep.hand_move.Goals as goal
 
@@ -13,24 +11,8 @@ pub returns-in_default : goal.returns-in_default
 returns-in_default c =
     let a = c.args in
     let i = a.image.now in
-    let none = rest_done i a.v.cursor c.advance.result c.advance.ensures.0
-    (other_step c.advance.result c.in_default.not-Record) in
-    move_none i (rest i a.start).entries a.v c.requires.cursor_sound.1 (slices a.kinds.now a.addresses.now a.bytes.now) a.w
-    (ap (λ (r : Run). r.entries) none)
-
-pub is_live-requires : goal.is_live-requires
-is_live-requires c =
-    let t = passes c.advance.ensures c.in-Record.is in
-    (c.requires.cursor_sound.0, t.whole)
-
-pub hand_live-requires : goal.hand_live-requires
-hand_live-requires c =
-    let t = passes c.advance.ensures c.in-Record.is in
-    let k = c.requires.cursor_sound.1 in
-    record {
-      cursor_sound = (t.onward.sound, t.whole, k.copy, k.place);
-      name_length = (omega (arith, t.onward.name), t.onward.data_len, c.requires.passed_bound);
-    }
+    let none = rest_done i a.v.cursor c.advance.result c.advance.ensures.0 (other_step c.advance.result c.in_default.not-Record) in
+    move_none i (rest i a.start).entries a.v c.requires.cursor_sound.1 a.out.now (ap (λ (r : Run). r.entries) none)
 
 pub returns-then-is_live : goal.returns-then-is_live
 returns-then-is_live c =
@@ -38,14 +20,7 @@ returns-then-is_live c =
     let i = a.image.now in
     let t = passes c.advance.ensures c.in-Record.is in
     move_live i (rest i a.start).entries a.v c.requires.cursor_sound.1 c.in-Record.x c.in-Record.past
-    (ap (λ (r : Run). r.entries) t.split) _ _ a.w c.hand_live.result
-    (flag c.is_live.ensures c.if-is_live.true) c.hand_live.ensures
-
-pub hand_over-requires : goal.hand_over-requires
-hand_over-requires c =
-    let t = passes c.advance.ensures c.in-Record.is in
-    let k = c.requires.cursor_sound.1 in
-    record { cursor_sound = (t.onward.sound, t.whole, k.copy, k.place); passed_bound = omega (arith, c.requires.passed_bound) }
+    (ap (λ (r : Run). r.entries) t.split) a.out.now _ c.hand_live.result (flag c.is_live.ensures c.if-is_live.true) c.hand_live.ensures
 
 pub returns : goal.returns
 returns c =
@@ -53,5 +28,4 @@ returns c =
     let i = a.image.now in
     let t = passes c.advance.ensures c.in-Record.is in
     move_dead i (rest i a.start).entries a.v c.requires.cursor_sound.1 c.in-Record.x c.in-Record.past
-    (ap (λ (r : Run). r.entries) t.split) _ _ a.w c.hand_over.result
-    (flag c.is_live.ensures c.if-is_live.false) c.hand_over.ensures
+    (ap (λ (r : Run). r.entries) t.split) a.out.now _ c.hand_over.result (flag c.is_live.ensures c.if-is_live.false) c.hand_over.ensures

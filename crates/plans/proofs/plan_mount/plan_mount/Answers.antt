@@ -1,39 +1,40 @@
 -- What the door refuses is refused; else the call goes on with what was read.
-use mathlib.Core.Path.{refl, sym, ap, ◌∙◌}
+use Rattle.std.proofs.Common.{refl, ◌∙◌, rules}
+use Rattle.std.proofs.lemmas.Result.{err_from_is_err_and}
 use Rattle.spec.specs.Answers.{mount_of}
-use Rattle.reading.specs.Read.{judged_as, reading_of}
+use Rattle.reading.specs.Read.{reading_of}
 use Rattle.window.specs.Handed.{slices}
-use Rattle.plans.specs.Planned.{shut_out, let_out, mount_planned}
 use Rattle.calls.specs.Space.{legal_given}
+use Rattle.plans.specs.Planned.{lent_out, shut_out, let_out, mount_planned}
 use Rattle.plans.proofs.plan_mount.plan_mount.Goals as goal
+
+pub returns-in_err-j : goal.returns-in_err-j
+returns-in_err-j c =
+    let a = c.args in
+    let s = slices a.kinds.now a.addresses.now a.bytes.now in
+    let i = a.image.now in
+    let d = c.in_err-j.ensures in
+    let p = err_from_is_err_and c.from_residual.result c.from_residual.ensures.1 in
+    rw (p.1, p.2) (shut_out _ a.first s (mount_of i) d.0 ∙ mount_planned i a.first s, d.1, refl)
 
 pub plan_mount_from-requires : goal.plan_mount_from-requires
 plan_mount_from-requires c =
-    let read = c.accepted-x.ensures in
-    let a = rw c.in-Good.is at read.1 in
-    (a.0, legal_given c.args.image.now c.in-Good.j read.0 c.in-Good.is, a.1)
+    let d = c.in_ok-j.ensures in
+    (d.1.0, legal_given c.args.image.now c.in_ok-j.j d.0 refl, d.1.1, refl)
 
-pub returns-in-Good : goal.returns-in-Good
-returns-in-Good c =
+pub returns : goal.returns
+returns c =
     let a = c.args in
     let s = slices a.kinds.now a.addresses.now a.bytes.now in
     let i = a.image.now in
-    let done = c.plan_mount_from.ensures in (
-      done.0
-          ∙ let_out (reading_of i c.in-Good.j.survey) a.first s (mount_of i) (sym (ap (judged_as i) c.in-Good.is) ∙ c.accepted-x.ensures.0)
-          ∙ mount_planned i a.first s,
-      done.1,
-      refl,
-    )
-
-pub returns-in-Refused : goal.returns-in-Refused
-returns-in-Refused c =
-    let a = c.args in
-    let s = slices a.kinds.now a.addresses.now a.bytes.now in
-    let i = a.image.now in
-    let read = c.accepted-x.ensures in
-    rw c.refused_mount.ensures (
-      shut_out _ a.first s (mount_of i) (sym (ap (judged_as i) c.in-Refused.is) ∙ read.0) ∙ mount_planned i a.first s,
-      rw c.in-Refused.is at read.1,
+    let p = c.plan_mount_from in (
+      lent_out p.ensures.lent
+          (
+          p.ensures.told
+          ∙ let_out (reading_of i c.in_ok-j.j.survey) a.first s (mount_of i) c.in_ok-j.ensures.0
+          ∙ mount_planned i a.first s
+          )
+          (search rules) (search rules) (search rules),
+      tt,
       refl,
     )

@@ -1,44 +1,40 @@
 -- Nothing found is 2; else the one step.
-use mathlib.Core.Path.{sym, ap, ◌∙◌}
-use native.Mathlib.Omega.{arith}
-use Rattle.spec.specs.Basics.{numbered}
-use Rattle.spec.specs.Answers.{found, removing}
+use Rattle.std.proofs.Common.{sym, ap, ◌∙◌, arith, [], ◌∷◌}
+use Rattle.spec.specs.Refusals.{numbered}
 use Rattle.spec.specs.Write.{status_step}
-use mathlib.Core.List.{[], ◌∷◌}
+use Rattle.spec.specs.Answers.{found, removing}
 use Rattle.spec.specs.Planner.{hand_out}
-use Rattle.chain.specs.declared.Found.{Found}
+use Rattle.chain.specs.Answers.{Found}
 use Rattle.chain.specs.Rest.{entry_of}
 use Rattle.chain.specs.Seek.{found_in}
-use Rattle.window.specs.Handed.{slices}
-use Rattle.calls.specs.Numbers.{no_file}
+use Rattle.window.specs.Handed.{held, lent_still}
 use Rattle.plans.specs.Planned.{written_out, refused_out}
 use Rattle.plans.proofs.plan_remove.plan_remove_from.Goals as goal
 
 pub returns-in_default : goal.returns-in_default
 returns-in_default c =
-    let a = c.args in
-    let i = a.image.now in
-    let s = slices a.kinds.now a.addresses.now a.bytes.now in
-    rw c.refused_write.ensures (
-      refused_out (numbered 2) a.first s
-          ∙ ap (λ (f : Found). hand_out (found removing (found_in i f)) a.first s) (sym c.in_default.is),
-      no_file,
-    )
+    let i = c.args.image.now in
+    let w = c.args.out.now in record {
+      told =
+          refused_out (numbered 2) w.first (held w)
+          ∙ ap (λ (f : Found). hand_out (found removing (found_in i f)) w.first (held w)) (sym c.in_default.is);
+      lent = lent_still w;
+    }
 
-pub hand_status-w-requires : goal.hand_status-w-requires
-hand_status-w-requires c =
+pub status-requires : goal.status-requires
+status-requires c =
     let p = c.requires in
-    let w = rw c.in-At.is at p.0 in
-    record { at_bound = omega (arith, w.fits, p.1); counts = omega (arith, c.from.ensures.1) }
+    let w = rw c.in-Some.is at p.0 in
+    record { at_bound = omega (arith, w.fits, p.1); counts = omega (arith, p.2) }
 
 pub returns : goal.returns
 returns c =
-    let a = c.args in
-    let i = a.image.now in
-    let s = slices a.kinds.now a.addresses.now a.bytes.now in
-    rw (c.planned_write.ensures, c.shortest-slots.ensures) (
-      written_out (status_step (entry_of i c.in-At.e) 0x00 ∷ []) a.first c.from.ensures.0 c.from.ensures.1
-          c.hand_status-w.ensures
-          ∙ ap (λ (x : Found). hand_out (found removing (found_in i x)) a.first s) (sym c.in-At.is),
-      tt,
-    )
+    let i = c.args.image.now in
+    let w = c.args.out.now in record {
+      told =
+          rw c.handed.ensures (
+          written_out (status_step (entry_of i c.in-Some.e) 0x00 ∷ []) c.requires.2 c.status.ensures
+          ∙ ap (λ (f : Found). hand_out (found removing (found_in i f)) w.first (held w)) (sym c.in-Some.is)
+          );
+      lent = c.status.ensures.lent;
+    }

@@ -10,8 +10,8 @@ use Rattle.reading.proofs.gather.gather_named.Goals as goal
 pub signature_by-s-requires : goal.signature_by-s-requires
 signature_by-s-requires c = c.hash_of-h.ensures.1
 
-pub repeats_signed-m-requires : goal.repeats_signed-m-requires
-repeats_signed-m-requires c =
+pub repeats_signed-repeats-requires : goal.repeats_signed-repeats-requires
+repeats_signed-repeats-requires c =
     let p = c.requires in
     let s = c.signature_by-s in (
       p.0,
@@ -24,8 +24,8 @@ repeats_signed-m-requires c =
       },
     )
 
-pub noted_as-u-requires : goal.noted_as-u-requires
-noted_as-u-requires c =
+pub noted_as-requires : goal.noted_as-requires
+noted_as-requires c =
     let p = c.requires in
     let w = p.1.state.passing in
     let t = p.1.passes in (
@@ -35,13 +35,13 @@ noted_as-u-requires c =
       w.files,
       addable_size p.0 w t,
       sym p.2,
-      c.both.ensures ∙ ap (λ (ok : Bool). c.args.g.tally.fine && ok) c.name_fine-fine.ensures,
+      ap (λ (ok : Bool). c.args.g.tally.fine && ok) c.name_fine-fine.ensures,
     )
 
 pub returns : goal.returns
 returns c =
     let p = c.requires in
     let h = c.hash_of-h in (
-      gathering_named p.1 h.result p.2 h.ensures.0 c.noted_as-u.ensures c.repeats_signed-m.ensures c.seen_or-o.ensures,
+      gathering_named p.1 h.result p.2 h.ensures.0 c.noted_as.ensures c.repeats_signed-repeats.ensures c.seen_or-sight.ensures,
       refl,
     )

@@ -11,8 +11,8 @@ gather_named-requires c =
     let p = c.requires in
     (p.0, p.1, flag c.is_file.ensures c.if-is_file.true)
 
-pub noted_as-u-requires : goal.noted_as-u-requires
-noted_as-u-requires c =
+pub noted_as-requires : goal.noted_as-requires
+noted_as-requires c =
     let p = c.requires in
     let y = flag c.is_file.ensures c.if-is_file.false in
     let w = p.1.state.passing in
@@ -29,4 +29,4 @@ noted_as-u-requires c =
 pub returns : goal.returns
 returns c =
     let p = c.requires in
-    (gathering_other p.1 (flag c.is_file.ensures c.if-is_file.false) c.noted_as-u.ensures, refl)
+    (gathering_other p.1 (flag c.is_file.ensures c.if-is_file.false) c.noted_as.ensures, refl)

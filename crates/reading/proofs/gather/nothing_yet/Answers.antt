@@ -2,4 +2,4 @@
 use Rattle.reading.proofs.gather.nothing_yet.Goals as goal
 
 pub returns : goal.returns
-returns c = rw (c.none_yet-t.ensures, c.not_seen-f.ensures)
+returns c = rw (c.none_yet.ensures, c.not_seen.ensures)

@@ -16,7 +16,7 @@ returns c =
     let a = c.args in
     let e = c.gather-all.ensures in
     let q = c.first_cursor.ensures in (
-      rw c.survey_of-s.ensures
+      rw c.survey_of.ensures
           (seen a.image.now a.h c.requires.0 c.requires.1.1 c.gather-all.result.pass (rw q at e.0) e.1 e.2),
       e.3 ∙ ap (λ (k : Cursor). repeats_of (rest a.image.now k).entries) q,
       rw q at e.4,

@@ -1,17 +1,15 @@
 -- read_settled: a refusal stays; what was read is settled or refused, and a settled reading has nothing superseded.
-use mathlib.Core.Path.{refl, sym, ap, ◌∙◌}
-use Rattle.reading.specs.Read.{judged_as}
+use mathlib.Core.Path.{refl}
+use Rattle.std.proofs.lemmas.Result.{err_from_is_err_and}
 use Rattle.reading.specs.RuleLaws.{settled_none, settled_told}
 use Rattle.reading.proofs.image.read_settled.Goals as goal
 
-pub returns-in-Good : goal.returns-in-Good
-returns-in-Good c =
-    let s = c.args.image.now in
-    let well = rw c.in-Good.is at c.judge-x.ensures.1 in
-    rw c.if_settled.ensures
-    (settled_told s c.in-Good.j _ refl (sym (ap (judged_as s) c.in-Good.is) ∙ c.judge-x.ensures.0) well)
+pub returns : goal.returns
+returns c =
+    let e = c.in_ok-judge.ensures in
+    rw c.if_settled.ensures (settled_told c.args.image.now c.in_ok-judge.field-0 _ refl e.0 e.1)
 
-pub returns-in-Refused : goal.returns-in-Refused
-returns-in-Refused c =
-    let s = c.args.image.now in
-    (settled_none s c.in-Refused.x (sym (ap (judged_as s) c.in-Refused.is) ∙ c.judge-x.ensures.0), tt, tt)
+pub returns-in_err-judge : goal.returns-in_err-judge
+returns-in_err-judge c =
+    let p = err_from_is_err_and c.from_residual.result c.from_residual.ensures.1 in
+    rw (p.1, p.2) (settled_none c.args.image.now _ (c.in_err-judge.ensures).0, tt, tt)

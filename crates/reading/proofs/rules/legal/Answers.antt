@@ -1,5 +1,6 @@
 -- legal: the rules one after the other, each test of the code being one of them.
-use Rattle.laws.specs.Flag.{flag}
+use mathlib.Core.Path.{◌∙◌}
+use Rattle.laws.specs.Flag.{flag, flag_not}
 use Rattle.chain.specs.Rest.{rest}
 use Rattle.reading.specs.Read.{reading_of}
 use Rattle.chain.specs.Repeats.{single_by}
@@ -16,7 +17,7 @@ returns-then-n c =
     let p = c.requires.0 in
     let a = c.args in
     legal_single a.image.now (reading_of a.image.now a.s) (flag c.whole.ensures c.if-not-whole.false)
-    (flag (fine_is p.surveyed.tallied) c.if-t.true)
+    (flag_not (fine_is p.surveyed.tallied) c.if-not-s.false)
     (rw p.at_head at (single_by (rest a.image.now a.start).entries _ p.names c.if-n.true))
 
 pub marks_ok-requires : goal.marks_ok-requires
@@ -25,31 +26,30 @@ marks_ok-requires c =
     rw p.at_head p.surveyed.tallied
 
 pub head_clean-requires : goal.head_clean-requires
-head_clean-requires c =
-    let p = c.requires.0 in
-    rw p.at_head p.surveyed.tallied
+head_clean-requires c = c.requires.0.surveyed
 
 pub returns-then-marks_ok : goal.returns-then-marks_ok
 returns-then-marks_ok c =
     let p = c.requires.0 in
     let a = c.args in
     legal_free a.image.now (reading_of a.image.now a.s) (flag c.whole.ensures c.if-not-whole.false)
-    c.head_clean.result _ (flag (fine_is p.surveyed.tallied) c.if-t.true)
+    c.head_clean.result _ (flag_not (fine_is p.surveyed.tallied) c.if-not-s.false)
     (rw p.at_head at (single_by (rest a.image.now a.start).entries _ p.names c.if-n.false))
-    (flag (rw p.at_head at c.marks_ok.ensures) c.if-marks_ok.true) (rw p.at_head at c.head_clean.ensures)
+    (flag (rw p.at_head at c.marks_ok.ensures) c.if-marks_ok.true) c.head_clean.ensures
     c.free_ok.ensures
 
 pub returns-else-marks_ok : goal.returns-else-marks_ok
 returns-else-marks_ok c =
     let p = c.requires.0 in
     let a = c.args in
-    legal_marks a.image.now (reading_of a.image.now a.s) (flag c.whole.ensures c.if-not-whole.false)
-    (flag (fine_is p.surveyed.tallied) c.if-t.true)
+    c.if-marks_ok.false
+    ∙ legal_marks a.image.now (reading_of a.image.now a.s) (flag c.whole.ensures c.if-not-whole.false)
+    (flag_not (fine_is p.surveyed.tallied) c.if-not-s.false)
     (rw p.at_head at (single_by (rest a.image.now a.start).entries _ p.names c.if-n.false))
     (flag (rw p.at_head at c.marks_ok.ensures) c.if-marks_ok.false)
 
-pub returns-else-t : goal.returns-else-t
-returns-else-t c =
+pub returns-then-not-s : goal.returns-then-not-s
+returns-then-not-s c =
     let a = c.args in
     legal_names a.image.now (reading_of a.image.now a.s) (flag c.whole.ensures c.if-not-whole.false)
-    (flag (fine_is c.requires.0.surveyed.tallied) c.if-t.false)
+    (flag_not (fine_is c.requires.0.surveyed.tallied) c.if-not-s.true)

@@ -6,10 +6,10 @@ use Rattle.chain.specs.Cursor.{CursorSound, left}
 use Rattle.recovery.specs.Drop.{Dropping}
 use Rattle.recovery.proofs.superseded.drop_superseded.Given as goal
 
-abbrev pub invariant-loop-e : goal.invariant-loop-e
-invariant-loop-e l =
+abbrev pub invariant-loop-spot : goal.invariant-loop-spot
+invariant-loop-spot l =
     (length l.image ≡ length l.initial.image) × CursorSound l.image l.c × (l.q.asked + left l.c ≤ l.initial.q.asked + left l.start)
     × Dropping l.initial.image l.start l.initial.q l.image l.c l.q
 
-abbrev pub decreases-loop-e : goal.decreases-loop-e
-decreases-loop-e l = left l.c
+abbrev pub decreases-loop-spot : goal.decreases-loop-spot
+decreases-loop-spot l = left l.c

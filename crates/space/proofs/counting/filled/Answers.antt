@@ -4,5 +4,4 @@ use Rattle.space.proofs.counting.filled.Goals as goal
 
 pub returns : goal.returns
 returns c =
-    let a = c.args in
-    filled_as a.p a.wall c.free_bytes-free.ensures.0 c.lost_bytes-lost.ensures.0 c.gap.ensures
+    filled_as c.args.p c.args.wall c.free_bytes-free.ensures.0 c.lost_bytes-lost.ensures.0 c.saturating_sub.ensures

@@ -1,5 +1,5 @@
 -- The second record is the head, or the first stays.
-use mathlib.Core.Path.{sym, ◌∙◌}
+use Rattle.std.proofs.Common.{sym, ◌∙◌}
 use Rattle.space.specs.Space.{mended_led, mended_stays}
 use Rattle.space.proofs.counting.mended_wall.Goals as goal
 

@@ -1,6 +1,5 @@
 -- Nothing at the cursor; a live record; or a dead one.
-use mathlib.Core.Path.{ap}
-use native.Mathlib.Omega.{arith}
+use Rattle.std.proofs.Common.{ap}
 use Rattle.laws.specs.Flag.{flag}
 use Rattle.chain.specs.Rest.{Run, rest}
 use Rattle.chain.specs.Fold.{passes, rest_done}
@@ -12,34 +11,16 @@ pub returns-in_default : goal.returns-in_default
 returns-in_default c =
     let a = c.args in
     let i = a.image.now in
-    let none = rest_done i a.u.walk.cursor c.advance.result c.advance.ensures.0
-    (other_step c.advance.result c.in_default.not-Record) in
+    let none = rest_done i a.u.walk.cursor c.advance.result c.advance.ensures.0 (other_step c.advance.result c.in_default.not-Record) in
     stride_none i (rest i a.start).entries a.u (ap (λ (r : Run). r.entries) none)
-
-pub is_live-requires : goal.is_live-requires
-is_live-requires c =
-    (c.requires.0, (passes c.advance.ensures c.in-Record.is).whole)
-
-pub stride_live-requires : goal.stride_live-requires
-stride_live-requires c =
-    let t = passes c.advance.ensures c.in-Record.is in
-    let k = c.requires.1 in
-    record { cursor_sound = (t.onward.sound, t.whole, k.copy, k.place); n_bound = (omega (arith, t.onward.name), t.onward.data_len) }
 
 pub returns-then-is_live : goal.returns-then-is_live
 returns-then-is_live c =
     let a = c.args in
     let i = a.image.now in
     let t = passes c.advance.ensures c.in-Record.is in
-    stride_alive i (rest i a.start).entries a.u c.in-Record.x c.in-Record.past
-    (ap (λ (r : Run). r.entries) t.split)
+    stride_alive i (rest i a.start).entries a.u c.in-Record.x c.in-Record.past (ap (λ (r : Run). r.entries) t.split)
     c.stride_live.result (flag c.is_live.ensures c.if-is_live.true) c.stride_live.ensures
-
-pub stride_over-requires : goal.stride_over-requires
-stride_over-requires c =
-    let t = passes c.advance.ensures c.in-Record.is in
-    let k = c.requires.1 in
-    (t.onward.sound, k.copy, k.place)
 
 pub returns : goal.returns
 returns c =

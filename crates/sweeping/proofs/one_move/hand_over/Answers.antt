@@ -2,12 +2,9 @@
 use native.Mathlib.Omega.{arith}
 use mathlib.Core.Path.{refl}
 use Rattle.chain.proofs.Others.{other_step}
-use Rattle.reading.specs.Standing.{taken, start_sound}
+use Rattle.reading.specs.Standing.{taken}
 use Rattle.sweeping.specs.Handed.{hand_none, hand_one, hand_two}
 use Rattle.sweeping.proofs.one_move.hand_over.Goals as goal
-
-pub advance-requires : goal.advance-requires
-advance-requires c = start_sound c.requires.led c.first_cursor.ensures
 
 pub returns-in_default : goal.returns-in_default
 returns-in_default c =
@@ -15,31 +12,11 @@ returns-in_default c =
     c.advance.ensures.0
     (other_step c.advance.result c.in_default.not-Record)
 
-pub advance-requires-2 : goal.advance-requires-2
-advance-requires-2 c =
-    let t = taken c.first_cursor.ensures c.advance.ensures.0 c.advance.ensures.1 c.in-Record.is in
-    t.passes.onward.sound
-
 pub returns-in_default-advance : goal.returns-in_default-advance
 returns-in_default-advance c =
     let t = taken c.first_cursor.ensures c.advance.ensures.0 c.advance.ensures.1 c.in-Record.is in
     hand_one c.requires.led c.args.m t c.advance-2.result c.advance-2.ensures.0
     (other_step c.advance-2.result c.in_default-advance.not-Record)
-
-pub to_clean-a-requires : goal.to_clean-a-requires
-to_clean-a-requires c =
-    let u = taken refl c.advance-2.ensures.0 c.advance-2.ensures.1 c.in-Record-advance.is in
-    record { whole = u.passes.whole; can_count = omega (arith, c.requires.can_count) }
-
-pub close-b-requires : goal.close-b-requires
-close-b-requires c =
-    let t = taken c.first_cursor.ensures c.advance.ensures.0 c.advance.ensures.1 c.in-Record.is in
-    let u = taken refl c.advance-2.ensures.0 c.advance-2.ensures.1 c.in-Record-advance.is in
-    record {
-      whole = (record { fits = omega (arith, t.passes.whole.fits) }, record { fits = omega (arith, u.passes.whole.fits) });
-      in_range = omega (arith, c.requires.led.small);
-      can_count = omega (arith, c.requires.can_count, c.to_clean-a.ensures.count);
-    }
 
 pub returns : goal.returns
 returns c =

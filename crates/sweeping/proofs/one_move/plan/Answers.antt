@@ -1,47 +1,27 @@
 -- By the first record, whether it is live and fits, and whether a second stands behind it.
-use native.Mathlib.Omega.{arith}
-use mathlib.Core.Path.{refl}
+use mathlib.Core.Path.{refl, ap, ◌∙◌}
+use Rattle.std.proofs.Common.{not}
 use Rattle.chain.proofs.Others.{other_step}
-use Rattle.reading.specs.Standing.{taken, start_sound}
+use Rattle.reading.specs.Standing.{taken}
 use Rattle.sweeping.specs.Planned.{plan_none, plan_full, plan_copy, plan_last, plan_leave}
 use Rattle.sweeping.proofs.one_move.plan.Goals as goal
-
-pub advance-requires : goal.advance-requires
-advance-requires c = start_sound c.requires.led c.first_cursor-start.ensures
 
 pub returns-in_default : goal.returns-in_default
 returns-in_default c =
     plan_none c.requires c.advance.result c.first_cursor-start.ensures c.advance.ensures.0
     (other_step c.advance.result c.in_default.not-Record)
 
-pub is_live-requires : goal.is_live-requires
-is_live-requires c =
-    let t = taken c.first_cursor-start.ensures c.advance.ensures.0 c.advance.ensures.1 c.in-Record.is in
-    (start_sound c.requires.led c.first_cursor-start.ensures, t.passes.whole)
-
-pub size-requires : goal.size-requires
-size-requires c =
-    let t = taken c.first_cursor-start.ensures c.advance.ensures.0 c.advance.ensures.1
-    c.in-Record.is in
-    (omega (arith, t.passes.onward.name), t.passes.onward.data_len)
-
-pub returns-in_default-after : goal.returns-in_default-after
-returns-in_default-after c =
+pub returns-then-is_none : goal.returns-then-is_none
+returns-then-is_none c =
     let t = taken c.first_cursor-start.ensures c.advance.ensures.0 c.advance.ensures.1 c.in-Record.is in
     plan_full c.requires t c.first_cursor-start.ensures c.is_live.ensures c.if-is_live.true c.size.ensures
-    c.after.ensures c.in_default-after.is
+    c.after.ensures (c.is_none.ensures ∙ ap not c.if-is_none.true)
 
 pub returns-then-is_live : goal.returns-then-is_live
 returns-then-is_live c =
     let t = taken c.first_cursor-start.ensures c.advance.ensures.0 c.advance.ensures.1 c.in-Record.is in
     plan_copy c.requires t c.first_cursor-start.ensures c.is_live.ensures c.if-is_live.true c.size.ensures
-    c.after.ensures c.in-At.is
-
-pub advance-requires-2 : goal.advance-requires-2
-advance-requires-2 c =
-    let t = taken c.first_cursor-start.ensures c.advance.ensures.0 c.advance.ensures.1
-    c.in-Record.is in
-    t.passes.onward.sound
+    c.after.ensures (c.is_none.ensures ∙ ap not c.if-is_none.false)
 
 pub returns-in_default-advance : goal.returns-in_default-advance
 returns-in_default-advance c =

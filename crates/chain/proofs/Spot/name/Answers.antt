@@ -1,0 +1,6 @@
+-- name: the part that is lent is the record's name.
+use Rattle.chain.specs.FileLaws.{name_part}
+use Rattle.chain.proofs.Spot.name.Goals as goal
+
+pub returns : goal.returns
+returns c = name_part c.args.image.now c.args.self.at c.args.self.n
