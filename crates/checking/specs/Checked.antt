@@ -1,6 +1,6 @@
 -- What the answer of the check says in document 02's words.
-use Rattle.std.specs.Prelude.{ℕ, Err, Ok}
-use Rattle.spec.specs.Refusals.{refusal_numbers}
+use Rattle.std.specs.Prelude.{ℕ, Result, Err, Ok}
+use Rattle.spec.specs.Refusals.{refusal_numbers, numbered}
 use Rattle.spec.specs.declared.Verdict.{Verdict}
 use Rattle.spec.specs.Basics.{Answer, refuse, give}
 use Rattle.spec.specs.Verdict.{verdict, VerdictNumbers}
@@ -10,6 +10,11 @@ use Rattle.checking.specs.declared.Told.{Told}
 abbrev pub checked_as : Checked → Answer Verdict
 checked_as (Ok v) = give v
 checked_as (Err x) = refuse (refusal_numbers x)
+
+-- the same where a refusal is a number, whichever it is
+abbrev pub numbered_as : Result Verdict ℕ → Answer Verdict
+numbered_as (Ok v) = give v
+numbered_as (Err n) = refuse (numbered n)
 
 -- ---- as numbers
 

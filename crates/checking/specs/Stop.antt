@@ -43,6 +43,9 @@ name_inside (suc k) reserved (b ∷ s) h = go (ends_name reserved b) refl (λ l.
 pub lent : (image : Image) (a : ℕ) → take (length image - a) (drop a image) ≡ drop a image
 lent image a = take_all (length image - a) (drop a image) (rw length-drop (omega arith))
 
+pub lent_long : (image : Image) (a k : ℕ) → a + k ≤ length image → k ≤ length (take (length image - a) (drop a image))
+lent_long image a k h = rw (lent image a, length-drop) (omega arith)
+
 pub here_is : (image : Image) (at : ℕ) (reserved : Bool) (r : ℕ)
     → r ≡ name_length 64 reserved (take (length image - (at + 8)) (drop (at + 8) image))
     → (r ≡ name_here reserved (drop at image)) × EndsInside image at r

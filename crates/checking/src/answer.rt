@@ -1,7 +1,7 @@
 // The answer of the check as numbers.
 ghost use Rattle.std.specs.Prelude.{◌≡◌};
 ghost use Rattle.spec.specs.Verdict.{verdict_told, verdict_numbers};
-ghost use Rattle.checking.specs.Checked.{checked_as, numbers, told_as};
+ghost use Rattle.checking.specs.Checked.{checked_as, numbered_as, numbers, told_as};
 
 use crate::Told;
 use crate::check::rule_number;
@@ -28,17 +28,28 @@ fn verdict_told(v: Verdict) -> Told
     }
 }
 
+// A refusal told by its number: any number is taken.
 #[tactic(auto, unfolding(spec::specs::Verdict::verdict_numbers))]
-pub fn checked_told(c: Result<Verdict, Refusal>) -> Told
-    ensures { told_as result ≡ verdict_numbers (checked_as c) }
+pub fn numbered_told(c: Result<Verdict, u32>) -> Told
+    ensures { told_as result ≡ verdict_numbers (numbered_as c) }
 {
     match c {
         Ok(v) => verdict_told(v),
-        Err(x) => Told {
-            answer: x.number(),
+        Err(number) => Told {
+            answer: number,
             verdict: 0,
             number: 0,
             address: 0,
         },
     }
+}
+
+#[tactic(auto, unfolding(spec::specs::Verdict::verdict_numbers))]
+pub fn checked_told(c: Result<Verdict, Refusal>) -> Told
+    ensures { told_as result ≡ verdict_numbers (checked_as c) }
+{
+    numbered_told(match c {
+        Ok(v) => Ok(v),
+        Err(x) => Err(x.number()),
+    })
 }

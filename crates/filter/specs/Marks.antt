@@ -59,25 +59,41 @@ module _ (part : List ℕ) (n : ℕ) (l : n ≤ length part) where
   pub looked_inside : (i : ℕ) (x : Looked) → LookedAt (take n part) i x → i < n → i + 8 ≤ n
   looked_inside i x p m = omega (arith, p.hashed.even, size)
 
-  pub looked_next : ((j : ℕ) → get_or part j 0 < 256) → (i w : ℕ) (x y : Looked) → LookedAt (take n part) i x → i < n
-      → w ≡ number (take 8 (drop i (take n part)))
-      → (y.hash ≡ mixed x.hash w) × (y.hash < 2 ^ 33) × (y.readable ≡ (x.readable && all is_readable (digits 8 w)))
+  pub looked_next : (i : ℕ) (x y : Looked) → LookedAt (take n part) i x → i < n
+      → (y.hash ≡ mixed x.hash (number (take 8 (drop i part)))) × (y.hash < 2 ^ 33)
+      × (y.readable ≡ (x.readable && all is_readable (take 8 (drop i part))))
       → LookedAt (take n part) (i + 8) y
-  looked_next b i w x y p m e h =
-      let inside : i + 8 ≤ n = looked_inside i x p m in
-      let t : take 8 (drop i name) ≡ take 8 (drop i part) = part_first i 8 n part inside in
-      let d : digits 8 w ≡ take 8 (drop i name) = ap (digits 8) (e ∙ ap number t) ∙ digits_at part i b (omega arith) ∙ sym t in
+  looked_next i x y p m h =
+      let t : take 8 (drop i name) ≡ take 8 (drop i part) = part_first i 8 n part (looked_inside i x p m) in
       record {
-        hashed = hashed_next name i x.hash y.hash p.hashed (omega (arith, size)) (h.0 ∙ ap (mixed x.hash) e) h.1;
+        hashed =
+            hashed_next name i x.hash y.hash p.hashed (omega (arith, size))
+            (h.0 ∙ ap (λ (s : List ℕ). mixed x.hash (number s)) (sym t)) h.1;
         readable =
             p.readable
             ∙ ap (λ (s : List ℕ). x.readable && all is_readable s) (sym (take-append-drop 8 (drop i name)))
-            ∙ ap (λ (t : Bool). x.readable && t) (all_append is_readable (take 8 (drop i name)) (drop 8 (drop i name)))
+            ∙ ap (λ (b : Bool). x.readable && b) (all_append is_readable (take 8 (drop i name)) (drop 8 (drop i name)))
             ∙ sym (and_assoc x.readable (all is_readable (take 8 (drop i name))) (all is_readable (drop 8 (drop i name))))
-            ∙ ap (λ (s : List ℕ). (x.readable && all is_readable s) && all is_readable (drop 8 (drop i name))) (sym d)
-            ∙ ap (λ (t : Bool). t && all is_readable (drop 8 (drop i name))) (sym h.2)
+            ∙ ap (λ (s : List ℕ). (x.readable && all is_readable s) && all is_readable (drop 8 (drop i name))) t
+            ∙ ap (λ (b : Bool). b && all is_readable (drop 8 (drop i name))) (sym h.2)
             ∙ ap (λ (s : List ℕ). y.readable && all is_readable s) (drop-drop 8 i name);
       }
+
+  -- the same where the word is known as a number: then its items must be bytes
+  pub looked_word : ((j : ℕ) → get_or part j 0 < 256) → (i w : ℕ) (x y : Looked) → LookedAt (take n part) i x → i < n
+      → w ≡ number (take 8 (drop i (take n part)))
+      → (y.hash ≡ mixed x.hash w) × (y.hash < 2 ^ 33) × (y.readable ≡ (x.readable && all is_readable (digits 8 w)))
+      → LookedAt (take n part) (i + 8) y
+  looked_word b i w x y p m e h =
+      let inside : i + 8 ≤ n = looked_inside i x p m in
+      let t : take 8 (drop i name) ≡ take 8 (drop i part) = part_first i 8 n part inside in
+      let v : w ≡ number (take 8 (drop i part)) = e ∙ ap number t in
+      let d : digits 8 w ≡ take 8 (drop i part) = ap (digits 8) v ∙ digits_at part i b (omega arith) in
+      looked_next i x y p m (
+        h.0 ∙ ap (mixed x.hash) v,
+        h.1,
+        h.2 ∙ ap (λ (s : List ℕ). x.readable && all is_readable s) d,
+      )
 
   pub looked_all : (i : ℕ) (x : Looked) → LookedAt (take n part) i x → n ≤ i → LookedAt (take n part) n x
   looked_all i x p m =

@@ -1,13 +1,9 @@
 -- The run of FF bytes at the front, measured eight words at a time, then word by word, then byte by byte, with the turns of the three
 -- loops.
 use Rattle.std.specs.Prelude.{ℕ, zero, suc, ◌+◌, ◌*◌, ◌/◌, ◌%◌, ◌≤◌, ◌<◌, ◌^◌, ◌≡◌, refl, Bool, true, false, ◌&&◌, List, [], ◌∷◌, length, take, drop, get_or, eqb, leb, ltb}
-use Rattle.std.proofs.Common.{arith, zero-add, not-suc-le-zero, sym, ap, subst, ◌∙◌, length-drop, eq-eqb, ne_eqb, eqb-true}
-use Rattle.std.proofs.Math.Bool.{and-true, and_assoc}
-use Rattle.std.proofs.lemmas.List.{get_or-drop}
+use Rattle.std.proofs.Common.{arith, zero-add, suc-add, not-suc-le-zero, sym, ap, ap₂, ◌∙◌, drop-drop, eq-eqb, ne_eqb, eqb-true}
 use Rattle.std.specs.Int.{from_le_bytes, w64}
 use Rattle.std.specs.Int.Bits.{bit_and, and_self}
-use Rattle.std.specs.List.{fold}
-use Rattle.std.specs.Simd.{first_chunks}
 use Rattle.std.proofs.lemmas.Nat.{and_le_l, and_le_r}
 use Rattle.std.proofs.lemmas.Bool.{eqb-false}
 use Rattle.spec.specs.Basics.{blank, Each}
@@ -156,6 +152,13 @@ module _ (s : List ℕ) (i : ℕ) (l : i + 8 ≤ length s) where
 
 -- ---- words
 
+-- the number w is the greatest exactly if the k bytes from i on are FF
+abbrev pub Tells : List ℕ → ℕ → ℕ → ℕ → Type 0
+Tells s i k w = eqb w 0xFFFF_FFFF_FFFF_FFFF ≡ blank (take k (drop i s))
+
+pub word_tells : (s : List ℕ) (i w : ℕ) → i + 8 ≤ length s → eqb w 0xFFFF_FFFF_FFFF_FFFF ≡ blank (eight_at s i) → Tells s i 8 w
+word_tells s i w l e = e ∙ ap blank (sym (eight_is s i l))
+
 -- two numbers are the greatest exactly if their common bits are
 and_greatest : (a b : ℕ) → a < 2 ^ 64 → b < 2 ^ 64
     → eqb (bit_and a b) 0xFFFF_FFFF_FFFF_FFFF ≡ (eqb a 0xFFFF_FFFF_FFFF_FFFF && eqb b 0xFFFF_FFFF_FFFF_FFFF)
@@ -171,15 +174,23 @@ and_greatest a b l m = go (eqb a M) (eqb b M) refl refl where
   go false y p q = ne_eqb (bit_and a b) M (λ e. eqb-false a M p (omega (arith, and_le_l a b)))
 
 -- FF up to k, and from there on
-blank_parts : (k : ℕ) (s : List ℕ) → blank s ≡ (blank (take k s) && blank (drop k s))
+blank_both : (k j : ℕ) (s : List ℕ) → blank (take (k + j) s) ≡ (blank (take k s) && blank (take j (drop k s)))
 unfolding blank
-blank_parts zero s = refl
-blank_parts (suc k) [] = refl
-blank_parts (suc k) (x ∷ s) = go (eqb x 0xFF) refl (blank_parts k s) where
-  go : (t : Bool) → eqb x 0xFF ≡ t → blank s ≡ (blank (take k s) && blank (drop k s))
-      → blank (x ∷ s) ≡ (blank (x ∷ take k s) && blank (drop k s))
+blank_both zero j s = rw (zero-add j)
+blank_both (suc k) j [] = rw (suc-add k j) (sym (none j)) where
+  none : (n : ℕ) → blank (take n []) ≡ true
+  none zero = refl
+  none (suc n) = refl
+blank_both (suc k) j (x ∷ s) = rw (suc-add k j) (go (eqb x 0xFF) refl (blank_both k j s)) where
+  go : (t : Bool) → eqb x 0xFF ≡ t → blank (take (k + j) s) ≡ (blank (take k s) && blank (take j (drop k s)))
+      → blank (x ∷ take (k + j) s) ≡ (blank (x ∷ take k s) && blank (take j (drop k s)))
   go true e ih = rw (e, blank) ih
   go false e ih = rw (e, blank)
+
+-- two numbers that tell of neighbours, together
+pub tells_both : (s : List ℕ) (i k a b : ℕ) → a < 2 ^ 64 → b < 2 ^ 64 → Tells s i k a → Tells s (i + k) k b → Tells s i (k + k) (bit_and a b)
+tells_both s i k a b l m p q =
+    and_greatest a b l m ∙ ap₂ ◌&&◌ p (q ∙ ap (λ (t : List ℕ). blank (take k t)) (sym (drop-drop k i s))) ∙ sym (blank_both k k (drop i s))
 
 module _ (s : List ℕ) (b : (i : ℕ) → get_or s i 0 < 256) (l : 8 ≤ length s) where
   first_is : from_le_bytes w64 (take 8 s)
@@ -190,35 +201,13 @@ module _ (s : List ℕ) (b : (i : ℕ) → get_or s i 0 < 256) (l : 8 ≤ length
   first_fits = rw first_is (omega (arith, b 0, b 1, b 2, b 3, b 4, b 5, b 6, b 7))
 
   -- the word at the front is the greatest exactly if its bytes are FF
-  first_blank : eqb (from_le_bytes w64 (take 8 s)) 0xFFFF_FFFF_FFFF_FFFF ≡ blank (take 8 s)
+  pub first_blank : eqb (from_le_bytes w64 (take 8 s)) 0xFFFF_FFFF_FFFF_FFFF ≡ blank (take 8 s)
   first_blank =
       let e : take 8 s ≡ eight_at s 0 = eight_is s 0 (omega arith) in
       ap (λ (w : ℕ). eqb w 0xFFFF_FFFF_FFFF_FFFF) first_is
       ∙ word_blank (get_or s 0 0) (get_or s 1 0) (get_or s 2 0) (get_or s 3 0) (get_or s 4 0) (get_or s 5 0) (get_or s 6 0) (get_or s 7 0)
       (b 0) (b 1) (b 2) (b 3) (b 4) (b 5) (b 6) (b 7)
       ∙ ap blank (sym e)
-
--- the bits that are set in m and in each of the n words of s
-abbrev pub common : ℕ → ℕ → List ℕ → ℕ
-common n m s = fold (λ (a : ℕ) (w : List ℕ). bit_and a (from_le_bytes w64 w)) m (first_chunks 8 n s)
-
--- they are all bits exactly if m is the greatest and the bytes are FF
-pub common_blank : (n m : ℕ) (s : List ℕ) → ((i : ℕ) → get_or s i 0 < 256) → length s ≡ n * 8 → m < 2 ^ 64
-    → eqb (common n m s) 0xFFFF_FFFF_FFFF_FFFF ≡ (eqb m 0xFFFF_FFFF_FFFF_FFFF && blank s)
-unfolding blank
-common_blank zero m [] b l h = sym (and-true (eqb m 0xFFFF_FFFF_FFFF_FFFF))
-common_blank zero m (x ∷ s) b l h = absurd (omega arith)
-common_blank (suc n) m s b l h =
-    let M : ℕ = 0xFFFF_FFFF_FFFF_FFFF in
-    let w : ℕ = from_le_bytes w64 (take 8 s) in
-    let k : 8 ≤ length s = omega arith in
-    let rest : List ℕ = drop 8 s in
-    common_blank n (bit_and m w) rest (λ i. subst (λ (x : ℕ). x < 256) (sym (get_or-drop 8 s i 0)) (b (8 + i)))
-    (omega (arith, length-drop 8 s)) (omega (arith, and_le_l m w))
-    ∙ ap (λ (t : Bool). t && blank rest)
-    (and_greatest m w h (first_fits s b k) ∙ ap (λ (t : Bool). eqb m M && t) (first_blank s b k))
-    ∙ and_assoc (eqb m M) (blank (take 8 s)) (blank rest)
-    ∙ ap (λ (t : Bool). eqb m M && t) (sym (blank_parts 8 s))
 
 -- ---- the run behind k bytes
 

@@ -2,13 +2,13 @@
 // program and erase are the only two functions that write an image.
 #![tactic(auto)]
 
-ghost use Rattle.std.specs.Prelude.{◌≡◌, [], ◌∷◌, map, ◌+◌, ◌%◌, ◌<◌, ◌≤◌, length};
+ghost use Rattle.std.specs.Prelude.{◌≡◌, [], ◌∷◌, map, ◌+◌, ◌<◌, ◌≤◌, length};
 ghost use Rattle.spec.specs.Step.{Step, bytes_at};
 ghost use Rattle.spec.specs.Geometry.{sectors};
 ghost use Rattle.spec.specs.Basics.{blank};
 ghost use Rattle.laws.specs.Length.{InRange};
 ghost use Rattle.flash.specs.Did.{Did};
-ghost use Rattle.flash.specs.Words.{ByLines, ByWords, RunOf};
+ghost use Rattle.flash.specs.Words.{ByLines, ByWords, RunOf, Tells};
 ghost use Rattle.flash.specs.Meters.{CanCount, AskedMost};
 
 use spec::SECTOR;
@@ -88,20 +88,39 @@ pub fn erase_sectors(image: &mut [u8], from: usize, to: usize, m: Meter) -> Mete
     q
 }
 
-// Whether every byte of whole words is FF: a bit is left only if it is set in each word, so that one compare tests them all.
-fn words_blank(part: &[u8]) -> bool
-    requires { length part.now % 8 ≡ 0 }
-    ensures { result ≡ blank part.now }
+// The eight bytes from i on, as one number: the compiler makes one load of them.
+fn word_at(part: &[u8], i: usize) -> u64
+    requires { i + 8 ≤ length part.now }
+    ensures { Tells part.now i 8 result }
 {
-    let (words, _) = part.as_chunks::<8>();
-    let common = words
-        .iter()
-        .fold(u64::MAX, |bits, word| bits & u64::from_le_bytes(*word));
-    common == u64::MAX
+    u64::from_le_bytes(part[i..i + 8].try_into().unwrap())
+}
+
+// Two words, four and eight: a bit is set only if it is set in each, so that one compare tests them all. No loop and no fold: each turn
+// would count.
+fn two_words(part: &[u8], i: usize) -> u64
+    requires { i + 16 ≤ length part.now }
+    ensures { Tells part.now i 16 result }
+{
+    word_at(part, i) & word_at(part, i + 8)
+}
+
+fn four_words(part: &[u8], i: usize) -> u64
+    requires { i + 32 ≤ length part.now }
+    ensures { Tells part.now i 32 result }
+{
+    two_words(part, i) & two_words(part, i + 16)
+}
+
+fn eight_words(part: &[u8], i: usize) -> u64
+    requires { i + 64 ≤ length part.now }
+    ensures { Tells part.now i 64 result }
+{
+    four_words(part, i) & four_words(part, i + 32)
 }
 
 // How far a part is FF: the place of its first byte that is not FF, or its length; and the turns of the loops that looked for it.
-// The three loops count their turns by hand, since RunOf says how many they are.
+// The three loops count their turns by hand, since RunOf says how many they are; no other loop takes part.
 #[derive(Clone, Copy)]
 pub struct BlankRun {
     pub place: usize,
@@ -116,7 +135,7 @@ fn blank_lines(part: &[u8]) -> BlankRun
     let mut lines = 0;
     while 64 <= part.len() - at {
         lines += 1;
-        if words_blank(&part[at..at + 64]) {
+        if eight_words(part, at) == u64::MAX {
             at += 64;
         } else {
             return BlankRun {
@@ -140,7 +159,7 @@ fn blank_words(part: &[u8], from: BlankRun) -> BlankRun
     let mut words = from.turns;
     while 8 <= part.len() - at {
         words += 1;
-        if words_blank(&part[at..at + 8]) {
+        if word_at(part, at) == u64::MAX {
             at += 8;
         } else {
             return BlankRun {

@@ -15,6 +15,7 @@ pub mod Spaces
 pub mod Length
 pub mod Next
 pub mod Fits
+pub mod Ways
 pub mod Walk
 pub mod Head
 pub mod Chain

@@ -8,7 +8,7 @@ use Rattle.spec.specs.Move.{mark_steps, clean_steps, vacated_end, vacated, vacat
 use Rattle.spec.specs.Move.{start_steps, forget_steps, vacate_steps, close_steps}
 use Rattle.laws.specs.Sectors.{sectors_none, sectors_more}
 use Rattle.moving.specs.Clean.{cleaning, clean_next, clean_none, mark_as_was, data_from, cleaned_steps}
-use Rattle.window.specs.declared.Window.{Window}
+use Rattle.window.specs.declared.Emitter.{Emitter}
 use Rattle.window.specs.Handed.{Handed, Leads, leads_all, leads_more, leads_end}
 
 -- a record at this address: steps (d) to (f) ask no more of it
@@ -17,18 +17,18 @@ standing a = record { at = a; it = record { low = 0; status = 0; name = []; cont
 
 -- ---- (c), at the i-th of the d bytes from at on
 
-abbrev pub Pairs : Window → Image → ℕ → ℕ → Window → ℕ → Type 0
+abbrev pub Pairs : Emitter → Image → ℕ → ℕ → Emitter → ℕ → Type 0
 Pairs w image at d q i = Leads w (clean_steps d at (data_from at d image)) q (cleaning (at + i) (drop i (data_from at d image)))
 
 module _ (image : Image) (at d : ℕ) (h : at + d ≤ length image) where
   d_bytes : length (data_from at d image) ≡ d
   d_bytes = length-take-le d (drop at image) (rw length-drop (omega arith))
 
-  pub pairs_start : (w : Window) → Pairs w image at d w 0
+  pub pairs_start : (w : Emitter) → Pairs w image at d w 0
   pairs_start w = rw (add-zero, d_bytes) (leads_all w (clean_steps d at (data_from at d image)))
 
-  module _ {w q : Window} (i : ℕ) (l : Pairs w image at d q i) where
-    pub pairs_more : {r : Window} → i + 1 < d → Handed q (mark_steps (at + i) (drop (at + i) image)) r → Pairs w image at d r (i + 8)
+  module _ {w q : Emitter} (i : ℕ) (l : Pairs w image at d q i) where
+    pub pairs_more : {r : Emitter} → i + 1 < d → Handed q (mark_steps (at + i) (drop (at + i) image)) r → Pairs w image at d r (i + 8)
     pairs_more k f =
         let n : 0 < length (drop i (data_from at d image)) = rw (length-drop, d_bytes) (omega arith) in
         leads_more l

@@ -29,13 +29,13 @@ use Rattle.reading.specs.Read.{first_cursor, reading_of, Surveyed}
 use Rattle.reading.specs.Survey.{TornInside}
 use Rattle.reading.specs.Accepted.{Accepted}
 use Rattle.recovery.specs.Drop.{dropped}
-use Rattle.window.specs.declared.Window.{Window}
+use Rattle.window.specs.declared.Emitter.{Emitter}
 use Rattle.window.specs.Handed.{Handed}
 use Rattle.planner.specs.Superseded.{without_first, behind_is}
 
 -- ---- repair 4, with the cursors that the code has
 
-pub drops_handed : {w r : Window} {all es own : List Entry} {b : Bool} → all ≡ own → es ≡ without_first b all
+pub drops_handed : {w r : Emitter} {all es own : List Entry} {b : Bool} → all ≡ own → es ≡ without_first b all
     → b ≡ second_marked own → Handed w (dropped all es) r → Handed w (dropped own (behind own)) r
 drops_handed {w} {r} {own = own} {b = b} e f g h =
     subst (λ (ss : List Step). Handed w ss r) (ap₂ dropped e (f ∙ ap (without_first b) e ∙ behind_is own g)) h

@@ -19,7 +19,7 @@ use Rattle.chain.specs.Rest.{entry_of, rest}
 use Rattle.chain.specs.Fold.{Whole, name_length_is, content_length_is}
 use Rattle.writing.specs.Placing.{placed_inside}
 use Rattle.writing.specs.Put.{Ready}
-use Rattle.window.specs.declared.Window.{Window}
+use Rattle.window.specs.declared.Emitter.{Emitter}
 use Rattle.planner.specs.Answers.{Copied, Moved}
 use Rattle.planner.specs.declared.Walk.{Walk}
 use Rattle.window.specs.Handed.{Handed, handed_both}
@@ -51,7 +51,7 @@ moves_left image k all v = walked k all v.place (rest image v.cursor).entries (c
 
 -- ---- what (b) to (f) leave
 
-pub record OnHanded (image : Image) (x : Spot) (past : Cursor) (p : Place) (c : Copied) (w r : Window) (v : Walk) : Type 0 where
+pub record OnHanded (image : Image) (x : Spot) (past : Cursor) (p : Place) (c : Copied) (w r : Emitter) (v : Walk) : Type 0 where
   pub steps : List Step
   pub handed : Handed w steps r
   pub moves : (k : ℕ) (all : List Entry) (ss : List Step)
@@ -60,14 +60,14 @@ pub record OnHanded (image : Image) (x : Spot) (past : Cursor) (p : Place) (c : 
   pub known : Known image v
   pub few : r.passed ≤ w.passed + (2 * length image + 4)
 
-abbrev pub OverHanded : Image → Spot → Cursor → Place → Copied → Window → Window → Moved → Type 0
+abbrev pub OverHanded : Image → Spot → Cursor → Place → Copied → Emitter → Emitter → Moved → Type 0
 OverHanded image x past p c w r None = (r ≡ w) × ((k : ℕ) (all : List Entry) (ss : List Step)
     → going_on k all (length image) (entry_of image x) (rest image past).entries p (copy_entry c) ss ≡ [])
 OverHanded image x past p c w r (Some v) = OnHanded image x past p c w r v
 
 -- ---- what a move of a live X leaves
 
-pub record LiveWent (image : Image) (x : Spot) (past : Cursor) (p : Place) (c : Copied) (w r : Window) (v : Walk) : Type 0 where
+pub record LiveWent (image : Image) (x : Spot) (past : Cursor) (p : Place) (c : Copied) (w r : Emitter) (v : Walk) : Type 0 where
   pub steps : List Step
   pub handed : Handed w steps r
   pub moves : (k : ℕ) (all : List Entry) → live all (entry_of image x) ≡ true
@@ -75,21 +75,21 @@ pub record LiveWent (image : Image) (x : Spot) (past : Cursor) (p : Place) (c : 
   pub known : Known image v
   pub few : r.passed ≤ w.passed + 2 ^ 27
 
-abbrev pub LiveHanded : Image → Spot → Cursor → Place → Copied → Window → Window → Moved → Type 0
+abbrev pub LiveHanded : Image → Spot → Cursor → Place → Copied → Emitter → Emitter → Moved → Type 0
 LiveHanded image x past p c w r None = (r ≡ w) × ((k : ℕ) (all : List Entry) → live all (entry_of image x) ≡ true
     → walked (suc k) all p (entry_of image x ∷ (rest image past).entries) (copy_entry c) ≡ [])
 LiveHanded image x past p c w r (Some v) = LiveWent image x past p c w r v
 
 -- ---- what a whole move leaves, of the entry chain `all`
 
-pub record Went (image : Image) (all : List Entry) (v : Walk) (w : Window) (u : Walk) (r : Window) : Type 0 where
+pub record Went (image : Image) (all : List Entry) (v : Walk) (w : Emitter) (u : Walk) (r : Emitter) : Type 0 where
   pub steps : List Step
   pub handed : Handed w steps r
   pub moves : (k : ℕ) → moves_left image (suc k) all v ≡ steps ∷ moves_left image k all u
   pub known : Known image u
   pub few : r.passed ≤ w.passed + 2 ^ 27
 
-abbrev pub MoveHanded : Image → List Entry → Walk → Window → Window → Moved → Type 0
+abbrev pub MoveHanded : Image → List Entry → Walk → Emitter → Emitter → Moved → Type 0
 MoveHanded image all v w r None = (r ≡ w) × ((k : ℕ) → moves_left image (suc k) all v ≡ [])
 MoveHanded image all v w r (Some u) = Went image all v w u r
 
@@ -173,7 +173,7 @@ module _ (image : Image) (x : Spot) (past : Cursor) (p : Place) (c : Copied) (wh
   size_is : size (entry_of image x) ≡ size_of x.n x.d
   size_is = ap₂ size_of (name_length_is image x whole) (content_length_is image x whole)
 
-  pub live_full : (w : Window) → fits p (size_of x.n x.d) ≡ false → LiveHanded image x past p c w w None
+  pub live_full : (w : Emitter) → fits p (size_of x.n x.d) ≡ false → LiveHanded image x past p c w w None
   live_full w f = (
     refl,
     λ k all l. walked_full k all p (entry_of image x) (rest image past).entries (copy_entry c) l
@@ -204,7 +204,7 @@ module _ (image : Image) (x : Spot) (past : Cursor) (p : Place) (c : Copied) (wh
         ∙ ap₂ (λ (N : ℕ) (r : Place). going_on k all N v (rest image past).entries r (copy_entry (first_of c a)) ss) good.whole
         (ap (copied_place p) size_is ∙ sym (copied_is p z) ∙ ap come_round after)
 
-    pub live_over : (w b r : Window) (m : Moved)
+    pub live_over : (w b r : Emitter) (m : Moved)
         → Handed w (put_steps p (some (entry_of image x)) (name_of (entry_of image x)) (content_of (entry_of image x))) b
         → b.passed ≤ w.passed + 2 ^ 25
         → OverHanded image x past (come_round q) (first_of c a) b r m
@@ -223,7 +223,7 @@ module _ (image : Image) (x : Spot) (past : Cursor) (p : Place) (c : Copied) (wh
 -- ---- a whole move, by what stands at the cursor
 
 module _ (image : Image) (all : List Entry) (v : Walk) (good : Known image v) where
-  pub move_none : (w : Window) → (rest image v.cursor).entries ≡ [] → MoveHanded image all v w w None
+  pub move_none : (w : Emitter) → (rest image v.cursor).entries ≡ [] → MoveHanded image all v w w None
   move_none w e = (
     refl,
     λ k. ap (λ (xs : List Entry). walked (suc k) all v.place xs (copy_entry v.copy)) e
@@ -235,7 +235,7 @@ module _ (image : Image) (all : List Entry) (v : Walk) (good : Known image v) wh
         ≡ walked (suc k) all v.place (entry_of image x ∷ (rest image past).entries) (copy_entry v.copy)
     here k = ap (λ (xs : List Entry). walked (suc k) all v.place xs (copy_entry v.copy)) e
 
-    pub move_live : (w r : Window) (m : Moved) → live all (entry_of image x) ≡ true
+    pub move_live : (w r : Emitter) (m : Moved) → live all (entry_of image x) ≡ true
         → LiveHanded image x past v.place v.copy w r m → MoveHanded image all v w r m
     move_live w r None l o = (o.0, λ k. here k ∙ o.1 k all l)
     move_live w r (Some u) l o =
@@ -249,7 +249,7 @@ module _ (image : Image) (all : List Entry) (v : Walk) (good : Known image v) wh
         ∙ ap (λ (N : ℕ). going_on k all N (entry_of image x) (rest image past).entries v.place (copy_entry v.copy) [])
         good.place.whole
 
-    pub move_dead : (w r : Window) (m : Moved) → live all (entry_of image x) ≡ false
+    pub move_dead : (w r : Emitter) (m : Moved) → live all (entry_of image x) ≡ false
         → OverHanded image x past v.place v.copy w r m → MoveHanded image all v w r m
     move_dead w r None l o = (o.0, λ k. dead_walked k l ∙ o.1 k all [])
     move_dead w r (Some u) l o =

@@ -1,12 +1,12 @@
 -- The place that is read on, case by case.
 use Rattle.std.specs.Prelude.{ℕ, ◌≤◌, ◌<◌, ◌≡◌, refl, Bool, ◌&&◌, eqb, ltb}
 use Rattle.std.proofs.Math.Path.{ap}
-use Rattle.std.proofs.Common.{eq-eqb, ne_eqb, lt-ltb, le-ltb}
-use Rattle.std.proofs.Math.Bool.{true, false, not}
+use Rattle.std.proofs.Common.{◌∙◌, eq-eqb, ne_eqb, lt-ltb, le-ltb}
+use Rattle.std.proofs.Math.Bool.{true, false, not, and-true, and-false}
 use Rattle.spec.specs.declared.Place.{Place}
 use Rattle.spec.specs.Geometry.{floor}
 use Rattle.spec.specs.Placed.{with_tail}
-use Rattle.planning.specs.Planned.{come_round}
+use Rattle.planning.specs.Planned.{come_round, led_place}
 
 -- p with another head
 abbrev pub with_head : Place → ℕ → Bool → Place
@@ -35,3 +35,15 @@ module _ (p : Place) where
 
     pub round_short : (p.tail ≡ p.length → ⊥) → come_round p ≡ p
     round_short e = round_by false (told (ne_eqb p.tail p.length e) refl)
+
+-- where the head goes on to y, which lies behind a turn only if it is not 0
+module _ (p : Place) (y : ℕ) where
+  pub led_zero : y ≡ 0 → led_place p y ≡ come_round (with_head p y false)
+  unfolding led_place
+  led_zero h = ap (λ (t : Bool). come_round (with_head p y t))
+      (ap (λ (t : Bool). p.turned && not t) (eq-eqb y 0 h) ∙ and-false p.turned)
+
+  pub led_other : (y ≡ 0 → ⊥) → led_place p y ≡ come_round (with_head p y p.turned)
+  unfolding led_place
+  led_other h = ap (λ (t : Bool). come_round (with_head p y t))
+      (ap (λ (t : Bool). p.turned && not t) (ne_eqb y 0 h) ∙ and-true p.turned)

@@ -20,7 +20,7 @@ use Rattle.reading.specs.Read.{first_cursor, reading_of, Surveyed}
 use Rattle.recovery.specs.DirtySectors.{dirty_erased, dirty_more}
 use Rattle.recovery.specs.Free.{keep_both, run_turned, run_both}
 use Rattle.recovery.specs.Pair.{pair_by, few, two}
-use Rattle.window.specs.declared.Window.{Window}
+use Rattle.window.specs.declared.Emitter.{Emitter}
 use Rattle.window.specs.Handed.{Handed, handed_both}
 
 -- ---- 1: the sectors of the free run
@@ -102,7 +102,7 @@ module _ {s : Image} {v : Survey} (w : Surveyed s v) where
 
 -- ---- 3: a status voided, by way of another byte
 
-pub void_handed : {w q r : Window} (a status : ℕ) {first : ℕ} → first ≡ status - 0x80
+pub void_handed : {w q r : Emitter} (a status : ℕ) {first : ℕ} → first ≡ status - 0x80
     → Handed w (program a first ∷ []) q → Handed q (program a 0x00 ∷ []) r → Handed w (status_void_steps a status) r
 void_handed {w} {q} a status e f g = handed_both (subst (λ (b : ℕ). Handed w (program a b ∷ []) q) e f) g
 

@@ -14,10 +14,10 @@ use moving::clean::is_mark;
 use moving::vacated_end;
 use record::up_8;
 use spec::{CLEAN, SECTOR, START, floor};
-use window::Window;
+use window::Emitter;
 
 // The pair at this address, if it could be taken for a head's magic or a record's: its second byte 00.
-fn hand_pair(out: &mut Window<'_>, image: &[u8], at: usize)
+fn hand_pair(out: &mut Emitter<'_>, image: &[u8], at: usize)
     requires at_in_bounds { (at + 1 < length image.now) × (length image.now ≤ 2 ^ 24) }
     requires counts { Counts out.old 1 }
     ensures handed { Handed out.old (mark_steps at (drop at image.now)) out.new }
@@ -29,7 +29,7 @@ fn hand_pair(out: &mut Window<'_>, image: &[u8], at: usize)
 }
 
 // The pairs at the 8-byte boundaries of the d bytes from `at` on.
-fn hand_pairs(out: &mut Window<'_>, image: &[u8], at: usize, d: usize)
+fn hand_pairs(out: &mut Emitter<'_>, image: &[u8], at: usize, d: usize)
     requires d_in_bounds { (at + d ≤ length image.now) × (length image.now ≤ 2 ^ 24) }
     requires counts { Counts out.old d }
     ensures handed { Handed out.old (clean_steps d at (take d (drop at image.now))) out.new }
@@ -41,7 +41,7 @@ fn hand_pairs(out: &mut Window<'_>, image: &[u8], at: usize, d: usize)
 }
 
 // (c) X's data.
-fn hand_cleaned(out: &mut Window<'_>, image: &[u8], x: Spot)
+fn hand_cleaned(out: &mut Emitter<'_>, image: &[u8], x: Spot)
     requires whole { Whole image.now x × (length image.now ≤ 2 ^ 24) }
     requires counts { Counts out.old x.d }
     ensures handed { Handed out.old (cleaned_steps (entry_of image.now x)) out.new }
@@ -51,7 +51,7 @@ fn hand_cleaned(out: &mut Window<'_>, image: &[u8], x: Spot)
 }
 
 // (e) A CLEAN record becomes START, from A0 by way of 80.
-pub fn hand_start(out: &mut Window<'_>, at: usize, low: u8)
+pub fn hand_start(out: &mut Emitter<'_>, at: usize, low: u8)
     requires at_bound { at < 2 ^ 32 }
     requires counts { Counts out.old 2 }
     ensures handed { Handed out.old (start_steps at low) out.new }
@@ -65,7 +65,7 @@ pub fn hand_start(out: &mut Window<'_>, at: usize, low: u8)
 }
 
 // (e) and (f): X's second byte goes, if its sector is not erased, where the erased sectors end at `to` at most.
-fn hand_over(out: &mut Window<'_>, x: usize, to: usize, y: usize, low: u8)
+fn hand_over(out: &mut Emitter<'_>, x: usize, to: usize, y: usize, low: u8)
     requires x_bound { (x ≤ 2 ^ 24) × (y < 2 ^ 32) }
     requires counts { Counts out.old 3 }
     ensures handed { Handed out.old
@@ -80,7 +80,7 @@ fn hand_over(out: &mut Window<'_>, x: usize, to: usize, y: usize, low: u8)
 }
 
 // (d) to (f).
-fn hand_vacated(out: &mut Window<'_>, x: usize, to: usize, y: usize, low: u8)
+fn hand_vacated(out: &mut Emitter<'_>, x: usize, to: usize, y: usize, low: u8)
     requires x_bound { (x ≤ 2 ^ 24) × (to ≤ 2 ^ 24) × (y < 2 ^ 32) }
     requires counts { Counts out.old (to + 3) }
     ensures handed { Handed out.old
@@ -93,7 +93,7 @@ fn hand_vacated(out: &mut Window<'_>, x: usize, to: usize, y: usize, low: u8)
 }
 
 // (c) to (f), of the record X and of a Y at this address with this low byte.
-pub fn hand_close(out: &mut Window<'_>, image: &[u8], x: Spot, y: usize, low: u8)
+pub fn hand_close(out: &mut Emitter<'_>, image: &[u8], x: Spot, y: usize, low: u8)
     requires whole { Whole image.now x × (y < length image.now) × (length image.now ≤ 2 ^ 24) }
     requires counts { Counts out.old (2 * length image.now + 3) }
     ensures handed { Handed out.old

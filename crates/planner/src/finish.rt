@@ -9,10 +9,10 @@ use chain::scan::low_of;
 use reading::Survey;
 use record::bytes::is_clean;
 use spec::START;
-use window::Window;
+use window::Emitter;
 
 // By the second record: CLEAN, START, or neither.
-pub fn hand_finish(out: &mut Window<'_>, image: &[u8], s: Survey)
+pub fn hand_finish(out: &mut Emitter<'_>, image: &[u8], s: Survey)
     requires { Surveyed image.now s × Counts out.old (2 * length image.now + 3) }
     ensures handed { Handed out.old (steps_2 (length image.now) (reading_of image.now s).entries) out.new }
     ensures passed_bound { out.new.passed ≤ out.old.passed + (2 * length image.now + 3) }

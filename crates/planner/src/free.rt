@@ -15,10 +15,10 @@ use reading::Survey;
 use record::bytes::is_clean;
 use recovery::free::ceiling;
 use spec::{Place, SECTOR, floor};
-use window::Window;
+use window::Emitter;
 
 // The sector at this address, unless it is all FF already.
-fn hand_if_dirty(out: &mut Window<'_>, image: &[u8], at: usize)
+fn hand_if_dirty(out: &mut Emitter<'_>, image: &[u8], at: usize)
     requires { (at + 4096 ≤ length image.now) × (at ≤ 2 ^ 24) × Counts out.old 1 }
     ensures handed { Handed out.old (dirty_erased image.now (at ∷ [])) out.new }
     ensures passed_bound { out.new.passed ≤ out.old.passed + 1 }
@@ -29,7 +29,7 @@ fn hand_if_dirty(out: &mut Window<'_>, image: &[u8], at: usize)
 }
 
 // Those of the sectors that are not all FF.
-fn hand_dirty(out: &mut Window<'_>, image: &[u8], from: usize, to: usize)
+fn hand_dirty(out: &mut Emitter<'_>, image: &[u8], from: usize, to: usize)
     requires { (from ≤ 2 ^ 24) × (to ≤ length image.now) × (to ≤ 2 ^ 24) × Counts out.old to }
     ensures handed { Handed out.old (dirty_erased image.now (sectors from to)) out.new }
     ensures passed_bound { out.new.passed ≤ out.old.passed + to }
@@ -40,7 +40,7 @@ fn hand_dirty(out: &mut Window<'_>, image: &[u8], from: usize, to: usize)
 }
 
 // The sectors that lie wholly in the free run and are not all FF.
-fn hand_run(out: &mut Window<'_>, image: &[u8], p: Place)
+fn hand_run(out: &mut Emitter<'_>, image: &[u8], p: Place)
     requires { InImage image.now p × Counts out.old (2 * length image.now) }
     ensures handed { Handed out.old (erase_steps image.now p) out.new }
     ensures passed_bound { out.new.passed ≤ out.old.passed + 2 * length image.now }
@@ -56,7 +56,7 @@ fn hand_run(out: &mut Window<'_>, image: &[u8], p: Place)
 }
 
 // The repair, on what was read.
-pub fn hand_free(out: &mut Window<'_>, image: &[u8], s: Survey)
+pub fn hand_free(out: &mut Emitter<'_>, image: &[u8], s: Survey)
     requires { Surveyed image.now s × Counts out.old (2 * length image.now + 2) }
     ensures handed { Handed out.old (steps_1 image.now (reading_of image.now s)) out.new }
     ensures passed_bound { out.new.passed ≤ out.old.passed + (2 * length image.now + 2) }

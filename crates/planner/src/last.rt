@@ -12,10 +12,10 @@ ghost use Rattle.window.specs.Handed.{Handed, Counts};
 use chain::Spot;
 use reading::Survey;
 use spec::{Ending, HIGH, RECORD, Status};
-use window::Window;
+use window::Emitter;
 
 // The status FF or FE of the record at this address becomes 00, by way of the same byte without its top bit.
-fn hand_void_status(out: &mut Window<'_>, at: usize, status: Status)
+fn hand_void_status(out: &mut Emitter<'_>, at: usize, status: Status)
     requires { (at ≤ 2 ^ 24) × (0x80 ≤ status.byte) × Counts out.old 2 }
     ensures { Handed out.old (status_void_steps (at + 2) status.byte) out.new }
 {
@@ -24,7 +24,7 @@ fn hand_void_status(out: &mut Window<'_>, at: usize, status: Status)
 }
 
 // A torn record becomes a dead one with no name and no data: nine steps, always all.
-fn hand_torn(out: &mut Window<'_>, at: usize)
+fn hand_torn(out: &mut Emitter<'_>, at: usize)
     requires { (at ≤ 2 ^ 24) × Counts out.old 9 }
     ensures { Handed out.old (shifted at torn_steps) out.new }
 {
@@ -34,7 +34,7 @@ fn hand_torn(out: &mut Window<'_>, at: usize)
 }
 
 // The 00 that ends a name, if it is missing.
-fn hand_missing(out: &mut Window<'_>, image: &[u8], at: usize)
+fn hand_missing(out: &mut Emitter<'_>, image: &[u8], at: usize)
     requires { (at < length image.now) × (length image.now ≤ 2 ^ 24) × Counts out.old 2 }
     ensures handed { Handed out.old (missing_steps image.now at) out.new }
     ensures passed_bound { out.new.passed ≤ out.old.passed + 2 }
@@ -45,7 +45,7 @@ fn hand_missing(out: &mut Window<'_>, image: &[u8], at: usize)
 }
 
 // A reserved record's name gets an end, and its status goes.
-fn hand_reserved(out: &mut Window<'_>, image: &[u8], e: Spot)
+fn hand_reserved(out: &mut Emitter<'_>, image: &[u8], e: Spot)
     requires { Whole image.now e × (length image.now ≤ 2 ^ 24) × Counts out.old 4 }
     ensures handed { Handed out.old (reserved_steps image.now (entry_of image.now e)) out.new }
     ensures passed_bound { out.new.passed ≤ out.old.passed + 4 }
@@ -55,7 +55,7 @@ fn hand_reserved(out: &mut Window<'_>, image: &[u8], e: Spot)
 }
 
 // A record that is torn, reserved or finished.
-fn hand_void(out: &mut Window<'_>, image: &[u8], e: Spot)
+fn hand_void(out: &mut Emitter<'_>, image: &[u8], e: Spot)
     requires { Whole image.now e × (length image.now ≤ 2 ^ 24) × Counts out.old 9 }
     ensures handed { Handed out.old (void_steps image.now (entry_of image.now e)) out.new }
     ensures passed_bound { out.new.passed ≤ out.old.passed + 9 }
@@ -69,7 +69,7 @@ fn hand_void(out: &mut Window<'_>, image: &[u8], e: Spot)
 }
 
 // The last of the records that were read.
-fn hand_counted(out: &mut Window<'_>, image: &[u8], s: Survey)
+fn hand_counted(out: &mut Emitter<'_>, image: &[u8], s: Survey)
     requires { Surveyed image.now s × Counts out.old 9 }
     ensures handed { Handed out.old (last_steps image.now (reading_of image.now s).entries) out.new }
     ensures passed_bound { out.new.passed ≤ out.old.passed + 9 }
@@ -80,7 +80,7 @@ fn hand_counted(out: &mut Window<'_>, image: &[u8], s: Survey)
 }
 
 // A torn wrap marker is written over with all its bytes.
-fn hand_wrap(out: &mut Window<'_>, n: usize, ending: Ending)
+fn hand_wrap(out: &mut Emitter<'_>, n: usize, ending: Ending)
     requires { (n ≤ 2 ^ 24) × TornInside n ending × Counts out.old 3 }
     ensures handed { Handed out.old (torn_wrap_steps ending) out.new }
     ensures passed_bound { out.new.passed ≤ out.old.passed + 3 }
@@ -91,7 +91,7 @@ fn hand_wrap(out: &mut Window<'_>, n: usize, ending: Ending)
 }
 
 // The repair, on what was read.
-pub fn hand_last(out: &mut Window<'_>, image: &[u8], s: Survey)
+pub fn hand_last(out: &mut Emitter<'_>, image: &[u8], s: Survey)
     requires { Surveyed image.now s × TornInside (length image.now) s.ending × Counts out.old 12 }
     ensures handed { Handed out.old (steps_3 image.now (reading_of image.now s)) out.new }
     ensures passed_bound { out.new.passed ≤ out.old.passed + 12 }

@@ -19,10 +19,10 @@ use chain::files::count_files;
 use reading::Survey;
 use reading::image::first_cursor;
 use spec::{Place, Report};
-use window::Window;
+use window::Emitter;
 
 // Repairs 1 and 2.
-fn hand_head(out: &mut Window<'_>, image: &[u8], s: Survey)
+fn hand_head(out: &mut Emitter<'_>, image: &[u8], s: Survey)
     requires { Surveyed image.now s × Counts out.old (4 * length image.now + 5) }
     ensures handed { Handed out.old
         (steps_1 image.now (reading_of image.now s)
@@ -35,7 +35,7 @@ fn hand_head(out: &mut Window<'_>, image: &[u8], s: Survey)
 }
 
 // Repairs 3 and 4.
-fn hand_rest(out: &mut Window<'_>, image: &[u8], s: Survey)
+fn hand_rest(out: &mut Emitter<'_>, image: &[u8], s: Survey)
     requires { Surveyed image.now s × TornInside (length image.now) s.ending × Counts out.old (2 * length image.now + 12) }
     ensures { let es = (reading_of image.now s).entries in
         Handed out.old (steps_3 image.now (reading_of image.now s) ++ dropped es (behind es)) out.new }
@@ -45,7 +45,7 @@ fn hand_rest(out: &mut Window<'_>, image: &[u8], s: Survey)
 }
 
 // All four, on an image that mount accepts.
-pub fn hand_mend(out: &mut Window<'_>, image: &[u8], s: Survey)
+pub fn hand_mend(out: &mut Emitter<'_>, image: &[u8], s: Survey)
     requires surveyed { Surveyed image.now s × TornInside (length image.now) s.ending
         × Counts out.old (6 * length image.now + 17) }
     requires s_value { marks_ok (reading_of image.now s).entries ≡ true }

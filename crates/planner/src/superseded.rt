@@ -17,10 +17,10 @@ use chain::{Cursor, Item, Spot};
 use reading::Survey;
 use reading::image::first_cursor;
 use spec::Status;
-use window::Window;
+use window::Emitter;
 
 // The record at e, if it is such a one of the chain from start on.
-fn hand_drop(out: &mut Window<'_>, image: &[u8], start: Cursor, e: Spot)
+fn hand_drop(out: &mut Emitter<'_>, image: &[u8], start: Cursor, e: Spot)
     requires { CursorSound image.now start × Whole image.now e × Counts out.old 1 }
     ensures handed { Handed out.old
         (dropped (rest image.now start).entries (entry_of image.now e ∷ []))
@@ -33,7 +33,7 @@ fn hand_drop(out: &mut Window<'_>, image: &[u8], start: Cursor, e: Spot)
 }
 
 // The records from the cursor `from` on, as far as they are such ones.
-fn hand_drops(out: &mut Window<'_>, image: &[u8], start: Cursor, from: Cursor)
+fn hand_drops(out: &mut Emitter<'_>, image: &[u8], start: Cursor, from: Cursor)
     requires { CursorSound image.now start × CursorSound image.now from × Counts out.old (2 * length image.now) }
     ensures { Handed out.old
         (dropped (rest image.now start).entries (rest image.now from).entries)
@@ -70,7 +70,7 @@ fn behind_first(image: &[u8], start: Cursor, gone: bool) -> Cursor
 }
 
 // The repair, on what was read.
-pub fn hand_superseded(out: &mut Window<'_>, image: &[u8], s: Survey)
+pub fn hand_superseded(out: &mut Emitter<'_>, image: &[u8], s: Survey)
     requires { Surveyed image.now s × Counts out.old (2 * length image.now) }
     ensures { let es = (reading_of image.now s).entries in
         Handed out.old (dropped es (behind es)) out.new }

@@ -22,7 +22,7 @@ use chain::walk::advance;
 use chain::{Cursor, Item, Spot};
 use record::{size, up_8};
 use spec::{CLEAN, Place, Placement, Status};
-use window::Window;
+use window::Emitter;
 use writing::OldFile;
 
 // The first copy that is made, with one at this address.
@@ -45,7 +45,7 @@ pub fn find_next(image: &[u8], past: Cursor, copy: Option<usize>) -> Option<usiz
 }
 
 // (b) to (f), with Y at this address.
-fn hand_next(out: &mut Window<'_>, image: &[u8], x: Spot, y: usize)
+fn hand_next(out: &mut Emitter<'_>, image: &[u8], x: Spot, y: usize)
     requires whole { Whole image.now x × (y < length image.now) × (length image.now ≤ 2 ^ 24) }
     requires counts { Counts out.old (2 * length image.now + 4) }
     ensures handed { Handed out.old (over_steps (length image.now) (entry_of image.now x) y) out.new }
@@ -57,7 +57,7 @@ fn hand_next(out: &mut Window<'_>, image: &[u8], x: Spot, y: usize)
 
 // (b) to (f) of X, with the place and the first copy that (a) left: there is no Y, or the place at Y.
 fn hand_over(
-    out: &mut Window<'_>,
+    out: &mut Emitter<'_>,
     image: &[u8],
     x: Spot,
     past: Cursor,
@@ -79,7 +79,7 @@ fn hand_over(
 }
 
 // (a) X copied to its place.
-fn hand_copy(out: &mut Window<'_>, image: &[u8], x: Spot, place: Place)
+fn hand_copy(out: &mut Emitter<'_>, image: &[u8], x: Spot, place: Place)
     requires whole { Whole image.now x × NameLength x.n × Walkable (length image.now) place
         × (fits place (size_of x.n x.d) ≡ true) }
     requires passed_bound { out.old.passed ≤ 2 ^ 31 }
@@ -104,7 +104,7 @@ fn hand_copy(out: &mut Window<'_>, image: &[u8], x: Spot, place: Place)
 
 // A live X: its copy, then (b) to (f); without room for it there is no move.
 fn hand_live(
-    out: &mut Window<'_>,
+    out: &mut Emitter<'_>,
     image: &[u8],
     x: Spot,
     past: Cursor,
@@ -129,7 +129,7 @@ fn hand_live(
 }
 
 // The next move of a sweep, where the entry chain begins at `start`.
-fn hand_move(out: &mut Window<'_>, image: &[u8], start: Cursor, v: Walk) -> Option<Walk>
+fn hand_move(out: &mut Emitter<'_>, image: &[u8], start: Cursor, v: Walk) -> Option<Walk>
     requires cursor_sound { CursorSound image.now start × Known image.now v }
     requires passed_bound { out.old.passed ≤ 2 ^ 30 }
     ensures { MoveHanded image.now (rest image.now start).entries v out.old out.new result }
@@ -149,7 +149,7 @@ fn hand_move(out: &mut Window<'_>, image: &[u8], start: Cursor, v: Walk) -> Opti
 
 // The sweep of the entry chain that begins at `start`, with its place: at most so many moves. It answers how many they were.
 pub fn hand_sweep(
-    out: &mut Window<'_>,
+    out: &mut Emitter<'_>,
     image: &[u8],
     start: Cursor,
     place: Place,

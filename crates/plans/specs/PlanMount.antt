@@ -17,7 +17,7 @@ use Rattle.planning.specs.Known.{accepted_known}
 use Rattle.planning.specs.Spaces.{space_read, mount_leaves, mount_as_planned}
 use Rattle.reading.specs.declared.Survey.{Survey}
 use Rattle.reading.specs.Read.{reading_of}
-use Rattle.window.specs.declared.Window.{Window}
+use Rattle.window.specs.declared.Emitter.{Emitter}
 use Rattle.window.specs.Handed.{held, Handed}
 use Rattle.calls.specs.Space.{Legal}
 use Rattle.plans.specs.Planned.{handing, count_in, planned_out}
@@ -29,7 +29,7 @@ module _ {image : Image} {v : Survey} (l : Legal image v) where
   pub marks_are : marks_ok r.entries ≡ true
   marks_are = (accepted_known image r l.read).marks
 
-  pub mount_out : {w q : Window} {report : Report} {x : Space} → report ≡ report_of (mended_reading r) → x ≡ space_left (mended image r)
+  pub mount_out : {w q : Emitter} {report : Report} {x : Space} → report ≡ report_of (mended_reading r) → x ≡ space_left (mended image r)
       → w.passed ≡ 0 → Handed w (planned_mend image r) q
       → handing (of_mount 0 report x q.passed) (count_in q) (held q) ≡ hand_out (mount_of image r) w.first (held w)
   mount_out {w} {q} e o z h =

@@ -23,14 +23,14 @@ use Rattle.chain.specs.Rest.{rest}
 use Rattle.reading.specs.Read.{first_cursor, reading_of}
 use Rattle.reading.specs.RuleLaws.{count_is}
 use Rattle.reading.specs.Accepted.{Accepted}
-use Rattle.window.specs.declared.Window.{Window}
+use Rattle.window.specs.declared.Emitter.{Emitter}
 use Rattle.window.specs.Handed.{held}
 use Rattle.planner.specs.Sweep.{MovesHanded}
 use Rattle.calls.specs.Sweep.{moving}
 use Rattle.plans.specs.Planned.{handing, count_in, planned_out}
 
 -- the moves of a sweep, all of them
-swept_out : {w r : Window} {n : ℕ} {x : Space} (ms : List (List Step)) → w.passed ≡ 0 → MovesHanded w ms n r
+swept_out : {w r : Emitter} {n : ℕ} {x : Space} (ms : List (List Step)) → w.passed ≡ 0 → MovesHanded w ms n r
     → handing (of_sweep 0 n x r.passed) (count_in r) (held r) ≡ hand_out (give (moving ms x)) w.first (held w)
 swept_out {w} {r} {n} {x} ms z h =
     let steps : r.passed ≡ length (concat ms) = omega (arith, h.handed.count) in
@@ -57,7 +57,7 @@ module _ (image : Image) (s : Survey) (w : Accepted image s) where
       (e ∙ ap (λ (x : Reading). no_room x x.entries) (sym w.same))
 
   -- the moves that were handed out, as the definition hands them out
-  pub moves_out : {v r : Window} {n k : ℕ} {c : Cursor} {x : Space} → give (reading_of image s) ≡ admitted image
+  pub moves_out : {v r : Emitter} {n k : ℕ} {c : Cursor} {x : Space} → give (reading_of image s) ≡ admitted image
       → x ≡ space_left (sweep_work image (reading_of image s))
       → false ≡ no_room (reading_from image s.place.head) (reading_from image s.place.head).entries
       → k ≡ min 5 s.tally.records → c ≡ first_cursor image s.place.head → v.passed ≡ 0

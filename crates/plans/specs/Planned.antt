@@ -14,7 +14,7 @@ use Rattle.spec.specs.Door.{accepted, admitted, admitted_named}
 use Rattle.spec.specs.Answers.{Plan, doing, put_into, put_plan, file_of, file_plan, removing, remove_plan, sweep_of, sweep_plan, mount_of}
 use Rattle.spec.specs.Answers.{mount_plan}
 use Rattle.spec.specs.Planner.{Slices, shortest, window, filled_with, Handing, hand_out, Writing, planned}
-use Rattle.window.specs.declared.Window.{Window}
+use Rattle.window.specs.declared.Emitter.{Emitter}
 use Rattle.window.specs.Handed.{slices, hand_all, held, Lent, Handed}
 use Rattle.window.specs.Windows.{window_handed, window_length, handed_slots}
 use Rattle.calls.specs.declared.numbers.Numbers.{Numbers as Given}
@@ -44,10 +44,10 @@ converts_answer f (Err x) n e = e
 -- ---- a plan's steps, handed out from the window's first on
 
 -- how many they are
-abbrev pub count_in : Window → ℕ
+abbrev pub count_in : Emitter → ℕ
 count_in r = min (shortest (held r)) (r.passed - r.first)
 
-pub planned_out : {w r : Window} (p : Plan) → w.passed ≡ 0 → Handed w p.steps r
+pub planned_out : {w r : Emitter} (p : Plan) → w.passed ≡ 0 → Handed w p.steps r
     → handing p.done (count_in r) (held r) ≡ hand_out (give p) w.first (held w)
 unfolding hand_out
 planned_out {w} {r} p z h =
@@ -57,21 +57,21 @@ planned_out {w} {r} p z h =
     ap₂ (handing p.done) (ap₂ min (handed_slots h) n ∙ sym (window_length w.first (shortest (held w)) p.steps)) slots
 
 -- of a remove: the steps are all that it gives back
-pub written_out : {w r : Window} (ss : List Step) → w.passed ≡ 0 → Handed w ss r
+pub written_out : {w r : Emitter} (ss : List Step) → w.passed ≡ 0 → Handed w ss r
     → handing (of_write 0 r.passed) (count_in r) (held r) ≡ hand_out (give (doing ss)) w.first (held w)
 written_out {w} {r} ss z h =
     let n : r.passed ≡ length ss = omega (arith, h.count) in
     ap (λ (k : ℕ). handing (of_write 0 k) (count_in r) (held r)) n ∙ planned_out (doing ss) z h
 
 -- of a put: its record too
-pub stored_out : {w r : Window} {x : Space} (ss : List Step) → w.passed ≡ 0 → Handed w ss r
+pub stored_out : {w r : Emitter} {x : Space} (ss : List Step) → w.passed ≡ 0 → Handed w ss r
     → handing (of_put 0 x r.passed) (count_in r) (held r) ≡ hand_out (give (writing x ss)) w.first (held w)
 stored_out {w} {r} {x} ss z h =
     let n : r.passed ≡ length ss = omega (arith, h.count) in
     ap (λ (k : ℕ). handing (of_put 0 x k) (count_in r) (held r)) n ∙ planned_out (writing x ss) z h
 
 -- the owner of the lent slices sees what the window holds in the end
-pub lent_out : {w r : Window} {n : Numbers} {k : ℕ} {ks xs bs : List ℕ} {o : Handing} → Lent w r → handing n k (held r) ≡ o
+pub lent_out : {w r : Emitter} {n : Numbers} {k : ℕ} {ks xs bs : List ℕ} {o : Handing} → Lent w r → handing n k (held r) ≡ o
     → (w.kinds.ghost_name ≡ r.kinds.ghost_name → ks ≡ r.kinds.now)
     → (w.addresses.ghost_name ≡ r.addresses.ghost_name → xs ≡ r.addresses.now)
     → (w.bytes.ghost_name ≡ r.bytes.ghost_name → bs ≡ r.bytes.now)

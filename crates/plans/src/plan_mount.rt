@@ -17,10 +17,10 @@ use planner::mount::{hand_mend, planned_report};
 use reading::Judged;
 use space::counting::mount_space;
 use spec::Refusal;
-use window::Window;
+use window::Emitter;
 
 // The plan on an image that was read.
-fn plan_mount_from(out: &mut Window<'_>, image: &[u8], j: Judged) -> Planned<Mounted>
+fn plan_mount_from(out: &mut Emitter<'_>, image: &[u8], j: Judged) -> Planned<Mounted>
     requires { Accepted image.now j.survey × Legal image.now j.survey
         × (j.settled ≡ settled image.now (reading_of image.now j.survey)) × (out.old.passed ≡ 0) }
     ensures told { handing (mounted (Ok result.answer)) result.handed (held out.new)
@@ -55,7 +55,7 @@ pub fn plan_mount(
         × MountedTold (answer_of result) × (image.exit.now ≡ image.entry.now) }
 {
     let j = accepted(image)?;
-    let mut out = Window {
+    let mut out = Emitter {
         kinds,
         addresses,
         bytes,

@@ -24,11 +24,11 @@ use reading::Survey;
 use room::has_room;
 use space::counting::put_space;
 use spec::Refusal;
-use window::Window;
+use window::Emitter;
 
 // Put's steps, where there is room.
 fn plan_replace(
-    out: &mut Window<'_>,
+    out: &mut Emitter<'_>,
     image: &[u8],
     s: Survey,
     f: Option<Spot>,
@@ -49,7 +49,7 @@ fn plan_replace(
 
 // The plan on an image that was read: no room, or the steps.
 fn plan_put_from(
-    out: &mut Window<'_>,
+    out: &mut Emitter<'_>,
     image: &[u8],
     s: Survey,
     f: Option<Spot>,
@@ -94,7 +94,7 @@ pub fn plan_put(
         × StoredTold (answer_of result) × (image.exit.now ≡ image.entry.now) }
 {
     let x = admitted_named(image, name)?;
-    let mut out = Window {
+    let mut out = Emitter {
         kinds,
         addresses,
         bytes,

@@ -13,11 +13,11 @@ use calls::Written;
 use chain::Spot;
 use door::admitted_named;
 use spec::{Refusal, Status};
-use window::Window;
+use window::Emitter;
 
 // The plan for the file that was found: no such file, or the one step.
 fn plan_remove_from(
-    out: &mut Window<'_>,
+    out: &mut Emitter<'_>,
     image: &[u8],
     f: Option<Spot>,
 ) -> Result<Planned<Written>, Refusal>
@@ -51,7 +51,7 @@ pub fn plan_remove(
         × WrittenTold (answer_of result) × (image.exit.now ≡ image.entry.now) }
 {
     let x = admitted_named(image, name)?;
-    let mut out = Window {
+    let mut out = Emitter {
         kinds,
         addresses,
         bytes,

@@ -20,10 +20,14 @@ use space::stride::sweep_space;
 use spec::Refusal;
 use sweeping::one_move::no_room;
 use sweeping::sweep::at_most;
-use window::Window;
+use window::Emitter;
 
 // The plan on an image that was read: no room for the first move, or the moves.
-fn plan_sweep_from(out: &mut Window<'_>, image: &[u8], s: Survey) -> Result<Planned<Swept>, Refusal>
+fn plan_sweep_from(
+    out: &mut Emitter<'_>,
+    image: &[u8],
+    s: Survey,
+) -> Result<Planned<Swept>, Refusal>
     requires { Settled image.now s × (give (reading_of image.now s) ≡ admitted image.now) × (out.old.passed ≡ 0) }
     ensures told { handing (swept (answer_of result)) (handed_of result) (held out.new)
         ≡ hand_out (sweep_of image.now (reading_of image.now s)) out.old.first (held out.old) }
@@ -61,7 +65,7 @@ pub fn plan_sweep(
         × SweptTold (answer_of result) × (image.exit.now ≡ image.entry.now) }
 {
     let s = admitted(image)?;
-    let mut out = Window {
+    let mut out = Emitter {
         kinds,
         addresses,
         bytes,

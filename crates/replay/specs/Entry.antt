@@ -1,11 +1,12 @@
 -- One entry of a trace: each way out of the tests, and what an entry leaves.
-use Rattle.std.specs.Prelude.{ℕ, ◌+◌, ◌%◌, ◌≤◌, ◌<◌, ◌≡◌, refl, Bool, List, length, get_or, ltb, eqb}
+use Rattle.std.specs.Prelude.{ℕ, ◌+◌, ◌%◌, ◌≤◌, ◌<◌, ◌≡◌, refl, Bool, List, length, get_or, set, ltb, eqb}
 use Rattle.std.proofs.Common.{arith, sym, ◌∙◌}
 use Rattle.std.proofs.Math.Path.{ap}
 use Rattle.std.proofs.Math.Bool.{true, false, not}
 use Rattle.std.proofs.lemmas.Bool.{false≢true}
+use Rattle.std.proofs.lemmas.List.{set-get_or}
 use borrow.Author.Tests.{eq-eqb, ne_eqb, eqb-true, eqb-false, lt-ltb, le-ltb, ltb-true, ltb-false}
-use Rattle.spec.specs.Step.{Image, apply}
+use Rattle.spec.specs.Step.{Image, program, apply}
 use Rattle.spec.specs.Geometry.{good_length}
 use Rattle.spec.specs.Bytes.{clears}
 use Rattle.spec.specs.Planner.{step_of}
@@ -37,6 +38,10 @@ module _ (N kind a b : ℕ) where
   pub range_program : a < N → kind ≡ 1 → out_of_range N kind a b ≡ ltb 255 b
   unfolding out_of_range
   range_program h e = rw (out_of_range, lt-ltb a N h, e)
+
+  pub range_other : a < N → (kind ≡ 2 → ⊥) → (kind ≡ 1 → ⊥) → out_of_range N kind a b ≡ false
+  unfolding out_of_range
+  range_other h p q = rw (out_of_range, lt-ltb a N h, ne_eqb kind 2 p, ne_eqb kind 1 q)
 
   -- what is not out of range lies in the image
   pub range_in : out_of_range N kind a b ≡ false → a < N
@@ -127,3 +132,22 @@ module _ (image : Image) (kind a b : ℕ) (g : good_length (length image) ≡ tr
   pub program_byte : (kind ≡ 2 → ⊥) → b < 256
   program_byte p =
       range_byte (length image) kind a b (no_fault_kind image kind a b e p) (no_fault_range image kind a b e)
+
+-- ---- an entry that programs what stands there already changes nothing
+
+step_program : (kind a b : ℕ) → (kind ≡ 2 → ⊥) → step_of kind a b ≡ program a b
+step_program kind a b p = rw (step_of, ne_eqb kind 2 p)
+
+carried_same : (image : Image) (kind a b : ℕ) → kind ≡ 1 → get_or image a 0 ≡ b → carried image kind a b ≡ image
+carried_same image kind a b k e = go (is_sound image kind a b) refl where
+  same : apply image (step_of kind a b) ≡ image
+  same =
+      ap (apply image) (step_program kind a b (λ q. omega (arith, k)))
+      ∙ ap (λ (n : ℕ). set image a n) (sym e) ∙ set-get_or image a 0
+
+  go : (t : Bool) → is_sound image kind a b ≡ t → carried image kind a b ≡ image
+  go true q = rw (carried, q) same
+  go false q = rw (carried, q)
+
+pub unchanged : (image : Image) (kind a b x : ℕ) → kind ≡ 1 → x ≡ get_or image a 0 → not (eqb x b) ≡ false → carried image kind a b ≡ image
+unchanged image kind a b x k e h = carried_same image kind a b k (sym e ∙ eqb-true x b (not_false (eqb x b) h))

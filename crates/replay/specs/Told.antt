@@ -99,3 +99,13 @@ module _ (image : Image) (ks xs bs : List ℕ) where
       → replay_trace image (slices ks xs bs) ≡ replay_on 0 image ks xs bs
   unfolding replay_trace replayable equal_lengths
   trace_on g e = let can : replayable image (slices ks xs bs) ≡ true = ap₂ ◌&&◌ g e in rw (replay_trace, can)
+
+  -- a bad length; slices that are not of one length
+  pub trace_short : good_length (length image) ≡ false → replay_trace image (slices ks xs bs) ≡ replayed 22 0 0 image
+  unfolding replay_trace replayable
+  trace_short g = rw (replay_trace, replayable, g)
+
+  pub trace_unequal : good_length (length image) ≡ true → (eqb (length ks) (length xs) && eqb (length xs) (length bs)) ≡ false
+      → replay_trace image (slices ks xs bs) ≡ replayed 22 0 0 image
+  unfolding replay_trace replayable equal_lengths
+  trace_unequal g e = let can : replayable image (slices ks xs bs) ≡ false = ap₂ ◌&&◌ g e in rw (replay_trace, can)

@@ -1,22 +1,25 @@
 -- The search for the first image that mount would refuse, turn by turn.
-use Rattle.std.specs.Prelude.{Result, ⊤, is_err, ℕ, suc, ◌+◌, ◌≤◌, ◌<◌, ◌≡◌, refl, List, length, drop, get_or, Err, Ok}
+use Rattle.std.specs.Prelude.{Result, ⊤, is_err, ℕ, suc, ◌+◌, ◌≤◌, ◌<◌, ◌≡◌, refl, List, length, drop, get_or, eqb, Err, Ok}
 use Rattle.std.proofs.Math.Numerals.{add-one}
 use Rattle.std.proofs.Common.{sym, ap, ◌∙◌, drop_of_length-le}
-use Rattle.std.proofs.Math.Bool.{true, false}
+use Rattle.std.proofs.Math.Path.{ap₂}
+use Rattle.std.proofs.Math.Bool.{true, false, ◌&&◌}
 use borrow.Author.Tests.{eq-eqb, ne_eqb}
 use Rattle.spec.specs.Refusals.{refusal_numbers}
 use Rattle.spec.specs.declared.Refusal.{Refusal}
 use Rattle.spec.specs.Step.{Image}
 use Rattle.spec.specs.Basics.{Answer}
+use Rattle.spec.specs.Geometry.{good_length}
 use Rattle.spec.specs.Chain.{Reading}
 use Rattle.spec.specs.Door.{accepted}
 use Rattle.spec.specs.Answers.{mount_of, mount_plan}
 use Rattle.spec.specs.Basics.{onward}
-use Rattle.spec.specs.Trace.{fault, is_refused, mount_refuses, Refusing, refusing, watch_on}
+use Rattle.spec.specs.Trace.{fault, is_refused, mount_refuses, Refusing, refusing, equal_lengths, replayable, watch_on, watch_trace}
 use Rattle.laws.specs.Tests.{wrong}
 use Rattle.laws.specs.Parts.{drop_next}
 use Rattle.reading.specs.Answers.{Judgement}
 use Rattle.reading.specs.Read.{judged_as}
+use Rattle.window.specs.Handed.{slices}
 use Rattle.replay.specs.Entry.{carried, carried_on, carried_not}
 use Rattle.replay.specs.Told.{checked_told, stopped}
 use Rattle.replay.specs.declared.Stop.{Stop}
@@ -75,3 +78,20 @@ module _ (i : ℕ) (image : Image) (ks xs bs : List ℕ) where
   pub watch_end : length ks ≤ i → watch_from i image ks xs bs ≡ refusing 0 (mount_refuses image) i image
   unfolding watch_on
   watch_end e = rw (drop_of_length-le ks e)
+
+-- ---- whether it is refused
+
+module _ (image : Image) (ks xs bs : List ℕ) where
+  pub watch_begun : good_length (length image) ≡ true → (eqb (length ks) (length xs) && eqb (length xs) (length bs)) ≡ true
+      → watch_trace image (slices ks xs bs) ≡ watch_on 0 image ks xs bs
+  unfolding watch_trace replayable equal_lengths
+  watch_begun g e = let can : replayable image (slices ks xs bs) ≡ true = ap₂ ◌&&◌ g e in rw (watch_trace, can)
+
+  pub watch_short : good_length (length image) ≡ false → watch_trace image (slices ks xs bs) ≡ refusing 22 false 0 image
+  unfolding watch_trace replayable
+  watch_short g = rw (watch_trace, replayable, g)
+
+  pub watch_unequal : good_length (length image) ≡ true → (eqb (length ks) (length xs) && eqb (length xs) (length bs)) ≡ false
+      → watch_trace image (slices ks xs bs) ≡ refusing 22 false 0 image
+  unfolding watch_trace replayable equal_lengths
+  watch_unequal g e = let can : replayable image (slices ks xs bs) ≡ false = ap₂ ◌&&◌ g e in rw (watch_trace, can)

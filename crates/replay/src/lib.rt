@@ -5,7 +5,7 @@
 mod entry;
 pub mod watch;
 
-ghost use Rattle.std.specs.Prelude.{◌≡◌, true};
+ghost use Rattle.std.specs.Prelude.{◌≡◌, true, IfErr};
 ghost use Rattle.spec.specs.Trace.{replay_on, replayable, replay_trace, replayed};
 ghost use Rattle.window.specs.Handed.{slices};
 ghost use Rattle.replay.specs.Told.{stop_number, stop_told, told};
@@ -95,8 +95,9 @@ pub fn replay_trace(
     addresses: &[u32],
     bytes: &[u32],
 ) -> Result<Replayed, Refusal>
-    ensures { told result image.new
+    ensures told { told result image.new
         ≡ replay_trace image.old (slices kinds.now addresses.now bytes.now) }
+    ensures refused { IfErr result (λ x. x ≡ Refusal.BadLength) }
 {
     if replayable(image, kinds, addresses, bytes) {
         return Ok(replay_entries(image, kinds, addresses, bytes));

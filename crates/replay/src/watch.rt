@@ -1,5 +1,5 @@
 // The first image of a replay that mount would refuse. It is read before the first entry, and behind each that may have changed it.
-ghost use Rattle.std.specs.Prelude.{◌≡◌, true, false};
+ghost use Rattle.std.specs.Prelude.{◌≡◌, true, false, IfErr};
 ghost use Rattle.spec.specs.Trace.{mount_refuses, replayable, watch_on, watch_trace, refusing};
 ghost use Rattle.window.specs.Handed.{slices};
 ghost use Rattle.replay.specs.Watching.{found};
@@ -61,8 +61,9 @@ pub fn first_refused(
     addresses: &[u32],
     bytes: &[u32],
 ) -> Result<Refusing, Refusal>
-    ensures { found result image.new
+    ensures found { found result image.new
         ≡ watch_trace image.old (slices kinds.now addresses.now bytes.now) }
+    ensures refused { IfErr result (λ x. x ≡ Refusal.BadLength) }
 {
     if replayable(image, kinds, addresses, bytes) {
         return Ok(watch_entries(image, kinds, addresses, bytes));

@@ -3,7 +3,7 @@ use Rattle.std.specs.Prelude.{ℕ, zero, suc, ◌+◌, ◌≤◌, ◌<◌, ◌�
 use Rattle.std.proofs.Common.{arith, ap, ◌∙◌, drop_of_length-le, length-drop, drop-cons}
 use Rattle.spec.specs.Step.{Step, program, bytes_at}
 use Rattle.laws.specs.Steps.{length_bytes, length_first}
-use Rattle.window.specs.declared.Window.{Window}
+use Rattle.window.specs.declared.Emitter.{Emitter}
 use Rattle.window.specs.Handed.{Leads, past, handed_before, leads_all, leads_more}
 
 -- the bytes from the one with the number i on
@@ -29,7 +29,7 @@ pub left_none : (a : ℕ) (w : List ℕ) (i : ℕ) → length w ≤ i → left a
 left_none a w i h = ap (bytes_at (a + i)) (drop_of_length-le w {i = i} h)
 
 -- the first i lie before the window
-pub leads_skip : (w : Window) (a : ℕ) (b : List ℕ) (i : ℕ) → i ≤ length b → (0 < i → w.passed + i ≤ w.first)
+pub leads_skip : (w : Emitter) (a : ℕ) (b : List ℕ) (i : ℕ) → i ≤ length b → (0 < i → w.passed + i ≤ w.first)
     → Leads w (bytes_at a b) (past w i) (left a b i)
 leads_skip w a b i h k =
     leads_more (leads_all w (bytes_at a b)) (split a b i) (handed_before w (bytes_at a (take i b)) i (length_first a i b h) k)

@@ -6,12 +6,12 @@ ghost use Rattle.spec.specs.Write.{marker_steps, header_steps, name_end_steps, n
 ghost use Rattle.record.specs.Within.{NameLength};
 ghost use Rattle.window.specs.Handed.{Handed, Counts};
 
-use crate::Window;
+use crate::Emitter;
 use record::up_8;
 use spec::{HIGH, RECORD, Status, WRAP};
 use writing::build::four_of;
 
-impl Window<'_> {
+impl Emitter<'_> {
     // The status byte of the record at this address.
     pub fn status(&mut self, at: usize, status: Status)
         requires at_bound { at ≤ 2 ^ 24 }

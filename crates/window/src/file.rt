@@ -7,12 +7,12 @@ ghost use Rattle.writing.specs.Put.{marks, Ready};
 ghost use Rattle.record.specs.Within.{NameLength};
 ghost use Rattle.window.specs.Handed.{Handed, Counts};
 
-use crate::Window;
+use crate::Emitter;
 use record::size;
 use spec::{Place, Placement, Status};
 use writing::OldFile;
 
-impl Window<'_> {
+impl Emitter<'_> {
     // The old file's status FC to F8, if it is FC.
     fn migrate(&mut self, old: Option<OldFile>)
         requires lies { Lies old (2 ^ 24) }

@@ -1,5 +1,5 @@
-//! What a reviewer reads in the Rattle sources, held by a test: no public call of lilota asks anything of its caller, and
-//! only two functions store into an image.
+//! What a reviewer reads in the Rattle sources, held by a test: no public call of lilota asks anything of its caller, only two
+//! functions store into an image, and the blank check counts every turn.
 use std::fs;
 use std::path::{Path, PathBuf};
 
@@ -87,6 +87,36 @@ fn two_functions_store_into_an_image() {
         }
     }
     assert_eq!(storing, ["flash::program", "flash::erase"]);
+}
+
+/// What a line of code calls, and the loops that it begins.
+fn calls(line: &str) -> Vec<&str> {
+    let code = line.split("//").next().unwrap_or("");
+    let word = |i: usize| code[..i].rsplit(|c: char| !c.is_alphanumeric() && c != '_').next().unwrap_or("");
+    let called = code.match_indices('(').map(|(i, _)| word(i)).filter(|w| !w.is_empty());
+    called.chain(["while ", "loop ", "for "].into_iter().filter(|l| code.contains(l))).collect()
+}
+
+/// Document 02, K2: "its loops' turns, counted in the loops". The functions of the blank check call each other, and of the library what has
+/// no loop; three of them have a loop each, and these count their turns. No two parts are compared, which the library does by a loop.
+#[test]
+fn the_blank_check_has_three_loops() {
+    let text = fs::read_to_string(crates().join("flash/src/lib.rt")).unwrap();
+    let counting = ["blank_lines", "blank_words", "blank_bytes"];
+    let others = ["word_at", "two_words", "four_words", "eight_words", "first_written", "is_blank"];
+    let library = ["from_le_bytes", "try_into", "unwrap", "len", "derive"];
+    let check: Vec<_> = functions(&text).into_iter().filter(|f| counting.iter().chain(&others).any(|name| f.name == *name)).collect();
+    assert_eq!(check.len(), 9, "the blank check has other functions");
+    for f in &check {
+        let called: Vec<_> = f.body.lines().flat_map(calls).collect();
+        let is_loop = |c: &&str| ["while ", "loop ", "for "].contains(c);
+        assert_eq!(called.iter().filter(|c| is_loop(c)).count(), usize::from(counting.contains(&f.name.as_str())), "{}", f.name);
+        for c in called.iter().filter(|c| !is_loop(c)) {
+            assert!(counting.contains(c) || others.contains(c) || library.contains(c), "{} calls {c}", f.name);
+        }
+        assert_eq!(f.body.matches("..").count(), usize::from(f.name == "word_at"), "{} takes a part", f.name);
+    }
+    assert_eq!(calls("    for w in words.iter().fold(u64::MAX, f) { // x(y)"), ["iter", "fold", "for "]);
 }
 
 #[test]

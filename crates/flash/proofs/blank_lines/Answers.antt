@@ -1,10 +1,9 @@
 use Prim.Native.Nat.{◌+◌}
-use native.Mathlib.Nat.{add-sub_cancel_left}
 use native.Mathlib.Omega.{arith}
 use mathlib.Core.Path.{sym, ap, ◌∙◌}
 use lib.ListN.{length, drop, length-drop}
 use lib.Seq.{drop-drop}
-use borrow.Author.Tests.{le-leb, lt-leb}
+use borrow.Author.Tests.{le-leb, lt-leb, eq-eqb, ne_eqb}
 use Rattle.flash.specs.Blank.{blank_run}
 use Rattle.flash.specs.Words.{run_past, run_short, run_inside}
 use Rattle.flash.proofs.blank_lines.Goals as goal
@@ -13,18 +12,16 @@ pub loop-at-preserved : goal.loop-at-preserved
 loop-at-preserved c =
     let s = c.args.part.now in
     let at = c.loop-at.at in
-    let told = rw (add-sub_cancel_left at 64) at c.words_blank.ensures in
-    let test = sym told ∙ c.if-words_blank.true in
+    let test = sym c.eight_words.ensures ∙ eq-eqb _ 0xFFFF_FFFF_FFFF_FFFF c.if-eight_words.true in
     let past = run_past 64 (drop at s) (rw length-drop (omega arith)) test in
     (omega arith, omega (arith, ap blank_run (drop-drop 64 at s)), omega arith)
 
-pub returns-else-words_blank : goal.returns-else-words_blank
-returns-else-words_blank c =
+pub returns-else-eight_words : goal.returns-else-eight_words
+returns-else-eight_words c =
     let s = c.args.part.now in
     let at = c.loop-at.at in
     let inv = c.loop-at.invariant in
-    let told = rw (add-sub_cancel_left at 64) at c.words_blank.ensures in
-    let test = sym told ∙ c.if-words_blank.false in
+    let test = sym c.eight_words.ensures ∙ ne_eqb _ 0xFFFF_FFFF_FFFF_FFFF c.if-eight_words.false in
     record {
       inside = inv.0;
       even = omega arith;

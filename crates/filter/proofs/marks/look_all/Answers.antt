@@ -5,7 +5,7 @@ use lib.ListN.{length, take, get_or}
 use native.Mathlib.Omega.{arith}
 use Rattle.std.specs.Int.{from_le_bytes, w64}
 use Rattle.filter.specs.Hash.{chunk_number}
-use Rattle.filter.specs.Marks.{LookedAt, size, looked_first, looked_next}
+use Rattle.filter.specs.Marks.{LookedAt, size, looked_first, looked_word}
 use Rattle.filter.proofs.marks.look_all.Goals as goal
 
 pub loop-word-init : goal.loop-word-init
@@ -28,5 +28,5 @@ loop-word-preserved c =
     ∙ chunk_number s k (length s / 8) j (omega (arith, words.back_len)) (omega arith) in
     let e : k + j * 8 + 8 ≡ k + (j + 1) * 8 = omega arith in
     subst (λ (i : ℕ). LookedAt s i c.with-x.result) e
-    (looked_next a.part.now a.n (omega arith) (λ i. omega (arith, c.type_inv.part i)) (k + j * 8) c.from_le_bytes.result l.x c.with-x.result
+    (looked_word a.part.now a.n (omega arith) (λ i. omega (arith, c.type_inv.part i)) (k + j * 8) c.from_le_bytes.result l.x c.with-x.result
     l.invariant (omega (arith, words.back_len, long)) (c.from_le_bytes.ensures ∙ word) c.with-x.ensures)

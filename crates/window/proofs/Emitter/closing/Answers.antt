@@ -3,7 +3,7 @@ use Rattle.std.proofs.Common.{arith, ◌+◌}
 use Rattle.laws.specs.Steps.{length_bytes}
 use Rattle.window.specs.Handed.{handed_both}
 use Rattle.window.specs.Build.{closing_at}
-use Rattle.window.proofs.Window.closing.Goals as goal
+use Rattle.window.proofs.Emitter.closing.Goals as goal
 
 pub status-requires-clause-counts : goal.status-requires-clause-counts
 status-requires-clause-counts c =

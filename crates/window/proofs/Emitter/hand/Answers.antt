@@ -1,8 +1,8 @@
 -- A step in the window, or before it or behind it.
 use Rattle.std.proofs.Common.{arith, refl, sym, rules}
 use Rattle.window.specs.Handed.{held, shown, one_before, one_inside, one_behind, lent_past}
-use Rattle.window.proofs.Window.hand.Goals.{in_default-via-in-None-1, in_default-via-in-Some+else-i-slots}
-use Rattle.window.proofs.Window.hand.Goals as goal
+use Rattle.window.proofs.Emitter.hand.Goals.{in_default-via-in-None-1, in_default-via-in-Some+else-i-slots}
+use Rattle.window.proofs.Emitter.hand.Goals as goal
 
 pub returns-then-i-slots : goal.returns-then-i-slots
 returns-then-i-slots c =

@@ -7,7 +7,7 @@ use Rattle.writing.specs.Put.{spot, marker_spot, put_split}
 use Rattle.writing.specs.Old.{old_entry}
 use Rattle.window.specs.Handed.{handed_both}
 use Rattle.window.specs.File.{lies_below}
-use Rattle.window.proofs.Window.file.Goals as goal
+use Rattle.window.proofs.Emitter.file.Goals as goal
 
 pub unwrap-at-requires : goal.unwrap-at-requires
 unwrap-at-requires c =

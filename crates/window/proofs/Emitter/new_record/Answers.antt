@@ -2,7 +2,7 @@
 use Rattle.std.proofs.Common.{arith}
 use Rattle.writing.specs.WriteSteps.{record_count}
 use Rattle.window.specs.Handed.{handed_both}
-use Rattle.window.proofs.Window.new_record.Goals as goal
+use Rattle.window.proofs.Emitter.new_record.Goals as goal
 
 pub delete-requires-clause-counts : goal.delete-requires-clause-counts
 delete-requires-clause-counts c =

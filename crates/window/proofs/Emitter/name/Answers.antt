@@ -3,7 +3,7 @@ use Rattle.std.proofs.Common.{arith, ◌+◌}
 use Rattle.laws.specs.Steps.{length_bytes}
 use Rattle.window.specs.Handed.{handed_both}
 use Rattle.window.specs.Build.{name_at}
-use Rattle.window.proofs.Window.name.Goals as goal
+use Rattle.window.proofs.Emitter.name.Goals as goal
 
 pub name_end-requires-clause-counts : goal.name_end-requires-clause-counts
 name_end-requires-clause-counts c =

@@ -3,8 +3,8 @@ use Rattle.std.proofs.Common.{rules}
 use Rattle.spec.specs.Bytes.{is_committed}
 use Rattle.spec.specs.Write.{migrate_steps}
 use Rattle.window.specs.Handed.{handed_none}
-use Rattle.window.proofs.Window.migrate.Goals.{in_default-via-in-None-1, in_default-via-in-Some+else-eq}
-use Rattle.window.proofs.Window.migrate.Goals as goal
+use Rattle.window.proofs.Emitter.migrate.Goals.{in_default-via-in-None-1, in_default-via-in-Some+else-eq}
+use Rattle.window.proofs.Emitter.migrate.Goals as goal
 
 pub returns-then-eq : goal.returns-then-eq
 unfolding is_committed

@@ -2,7 +2,7 @@ use Rattle.std.proofs.Common.{arith, ap, map, ◌+◌}
 use Rattle.spec.specs.Step.{erase}
 use Rattle.laws.specs.Sectors.{sectors_none, sectors_more}
 use Rattle.window.specs.Handed.{leads_more, leads_end}
-use Rattle.window.proofs.Window.erase_sectors.Goals as goal
+use Rattle.window.proofs.Emitter.erase_sectors.Goals as goal
 
 pub loop-a-preserved : goal.loop-a-preserved
 loop-a-preserved c = (

@@ -2,7 +2,7 @@
 use Rattle.std.proofs.Common.{arith, length}
 use Rattle.window.specs.Handed.{handed_both}
 use Rattle.window.specs.Build.{record_at, opening_count}
-use Rattle.window.proofs.Window.record.Goals as goal
+use Rattle.window.proofs.Emitter.record.Goals as goal
 
 pub closing-requires-clause-counts : goal.closing-requires-clause-counts
 closing-requires-clause-counts c =

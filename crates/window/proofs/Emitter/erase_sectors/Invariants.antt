@@ -3,7 +3,7 @@ use Rattle.std.proofs.Common.{◌+◌, ◌-◌, ◌≤◌, ◌^◌, map}
 use Rattle.spec.specs.Step.{erase}
 use Rattle.spec.specs.Geometry.{sectors}
 use Rattle.window.specs.Handed.{Leads}
-use Rattle.window.proofs.Window.erase_sectors.Given as goal
+use Rattle.window.proofs.Emitter.erase_sectors.Given as goal
 
 abbrev pub invariant-loop-a : goal.invariant-loop-a
 invariant-loop-a l =
